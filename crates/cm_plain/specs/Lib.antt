@@ -1,0 +1,3 @@
+pub mod Datum
+pub mod Plain
+pub mod PlainFalls

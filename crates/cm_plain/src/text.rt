@@ -1,0 +1,93 @@
+ghost use Rattle.std.specs.Prelude.{◌≡◌, ◌^◌, ◌<◌, ◌↔◌, [], length, IfOk, IsTrue, string_bytes, encode_utf8_all};
+ghost use Rattle.std.specs.Str.{chars};
+
+use std::alloc::{AllocError, Global};
+use std::marker::Model;
+
+/// A text as its list of characters (Unicode scalar values).
+#[derive(Debug, Drop)]
+pub struct Str {
+    characters: Vec<char>,
+}
+
+impl Model for Str {
+    ghost use Rattle.std.specs.Prelude.{ℕ, List};
+
+    ghost Value = { List ℕ };
+
+    ghost view = { λ s. s.characters.items };
+}
+
+impl Str {
+    /// The text of these characters. `Err`: memory was wanting.
+    pub fn of(alloc: Global, characters: &[char]) -> Result<Str, AllocError>
+        ensures { IfOk result (λ s. s ≡ characters.now) }
+    {
+        let characters = Vec::from_slice(alloc, characters)?;
+        Ok(Str { characters })
+    }
+
+    /// The text without characters.
+    pub fn empty(alloc: Global) -> Str
+        ensures { result ≡ [] }
+    {
+        Str {
+            characters: Vec::new(alloc),
+        }
+    }
+
+    /// The text of a string, character by character. `Err`: memory was wanting.
+    pub fn of_text(alloc: Global, text: &str) -> Result<Str, AllocError>
+        ensures { IfOk result (λ s. s ≡ chars text.now) }
+    {
+        let characters = text.chars().collect(alloc)?;
+        Ok(Str { characters })
+    }
+
+    /// The characters.
+    pub fn chars(&self) -> &[char]
+        ensures value { result.now ≡ self.now }
+        ensures small { length self.now < 2 ^ 63 }
+    {
+        self.characters.as_slice()
+    }
+
+    /// How many characters there are.
+    pub fn len(&self) -> usize
+        ensures { result ≡ length self.now }
+    {
+        self.characters.len()
+    }
+
+    /// Whether there are none.
+    pub fn is_empty(&self) -> bool
+        ensures { IsTrue result ↔ (self.now ≡ []) }
+    {
+        self.characters.is_empty()
+    }
+
+    /// Whether both have the same characters.
+    pub fn same(&self, other: &Str) -> bool
+        ensures { IsTrue result ↔ (self.now ≡ other.now) }
+    {
+        self.characters.as_slice() == other.characters.as_slice()
+    }
+
+    /// The same text once more. `Err`: memory was wanting.
+    pub fn try_copy(&self) -> Result<Str, AllocError>
+        ensures { IfOk result (λ s. s ≡ self.now) }
+    {
+        Str::of(*self.characters.allocator(), self.characters.as_slice())
+    }
+
+    /// The text in UTF-8. `Err`: memory was wanting.
+    pub fn text(&self) -> Result<String, AllocError>
+        ensures { IfOk result (λ s. string_bytes s ≡ encode_utf8_all self.now) }
+    {
+        let mut text = String::new(*self.characters.allocator());
+        for c in self.characters.iter() {
+            text.push(*c)?;
+        }
+        Ok(text)
+    }
+}

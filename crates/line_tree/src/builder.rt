@@ -1,0 +1,147 @@
+ghost use Rattle.std.specs.Prelude.{◌≡◌, ◌≢◌, ◌++◌, ◌+◌, ◌^◌, ◌<◌, ◌≤◌, [], ◌∷◌, length, OnOk, IfOk, IsTrue, ◌↔◌};
+ghost use Rattle.line_tree.specs.Text.{line_feed};
+ghost use Rattle.line_tree.specs.Joined.{joined, AreLines, HasNoBreak};
+
+use std::alloc::{AllocError, Global};
+use std::marker::Model;
+
+/// The characters of a line, without its break.
+#[derive(Debug, Drop)]
+pub(crate) struct LineText {
+    pub(crate) chars: Vec<char>,
+}
+
+impl Model for LineText {
+    ghost use Rattle.std.specs.Prelude.{List, ℕ};
+
+    ghost Value = { List ℕ };
+
+    ghost view = { λ l. l.chars.items };
+}
+
+impl LineText {
+    /// The same line once more.
+    pub(crate) fn try_copy(&self) -> Result<LineText, AllocError>
+        ensures { IfOk result (λ l. l ≡ self.now) }
+    {
+        let chars = Vec::from_slice(*self.chars.allocator(), self.chars.as_slice())?;
+        Ok(LineText { chars })
+    }
+
+    /// Whether both have the same characters.
+    pub(crate) fn same(&self, other: &LineText) -> bool
+        ensures { IsTrue result ↔ (self.now ≡ other.now) }
+    {
+        self.chars.as_slice() == other.chars.as_slice()
+    }
+
+    /// How many characters it has, where a text can hold them.
+    pub(crate) fn len(&self) -> u32
+        requires { length self.now < 2 ^ 32 }
+        ensures { result ≡ length self.now }
+    {
+        self.chars.len() as u32
+    }
+}
+
+/// A text that grows at its end.
+#[derive(Drop)]
+pub(crate) struct Builder {
+    done: Vec<LineText>,
+    last: Vec<char>,
+    len: u32,
+}
+
+impl Model for Builder {
+    ghost use Rattle.std.specs.Prelude.{◌≡◌, List, ℕ, ◌++◌, ◌∷◌, [], length};
+    ghost use Rattle.line_tree.specs.Joined.{joined, AreLines, HasNoBreak};
+
+    ghost Value = { List ℕ };
+
+    ghost view = { λ b. joined (b.done.items ++ b.last.items ∷ []) };
+
+    ghost invariant = { λ b. AreLines b.done.items × HasNoBreak b.last.items
+        × (b.len ≡ length (joined (b.done.items ++ b.last.items ∷ []))) };
+}
+
+impl Builder {
+    pub(crate) fn new(alloc: Global) -> Builder
+        ensures { result ≡ [] }
+    {
+        Builder {
+            done: Vec::new(alloc),
+            last: Vec::new(alloc),
+            len: 0,
+        }
+    }
+
+    /// Ends the line.
+    fn push_break(&mut self) -> Result<(), AllocError>
+        requires { length self.old + 1 < 2 ^ 32 }
+        ensures { OnOk result (self.new ≡ self.old ++ line_feed ∷ []) }
+    {
+        let line = std::mem::replace(&mut self.last, Vec::new(*self.done.allocator()));
+        match self.done.push(LineText { chars: line }) {
+            Ok(()) => {
+                self.len += 1;
+                Ok(())
+            }
+            Err(refused) => {
+                self.last = refused.value.chars;
+                Err(AllocError)
+            }
+        }
+    }
+
+    /// Adds a character of the line.
+    fn push_char(&mut self, c: char) -> Result<(), AllocError>
+        requires in_line { c ≢ line_feed }
+        requires fits { length self.old + 1 < 2 ^ 32 }
+        ensures { OnOk result (self.new ≡ self.old ++ c ∷ []) }
+    {
+        self.last.push(c)?;
+        self.len += 1;
+        Ok(())
+    }
+
+    /// Adds a character, which ends the line if it is LF.
+    pub(crate) fn push(&mut self, c: char) -> Result<(), AllocError>
+        requires { length self.old + 1 < 2 ^ 32 }
+        ensures { OnOk result (self.new ≡ self.old ++ c ∷ []) }
+    {
+        if c == '\n' {
+            self.push_break()
+        } else {
+            self.push_char(c)
+        }
+    }
+
+    pub(crate) fn len(&self) -> u32
+        ensures { result ≡ length self.now }
+    {
+        self.len
+    }
+
+    /// Adds characters, with LF where a line ends.
+    pub(crate) fn push_all(&mut self, chars: &[char]) -> Result<(), AllocError>
+        requires { length self.old + length chars.now < 2 ^ 32 }
+        ensures { OnOk result (self.new ≡ self.old ++ chars.now) }
+    {
+        for c in chars {
+            self.push(*c)?;
+        }
+        Ok(())
+    }
+
+    pub(crate) fn finish(self) -> Result<(Vec<LineText>, u32), AllocError>
+        ensures { IfOk result (λ r. (0 < length r.0.items) × (joined r.0.items ≡ self) × AreLines r.0.items × (r.1 ≡ length self)) }
+    {
+        let Builder {
+            mut done,
+            last,
+            len,
+        } = self;
+        done.push(LineText { chars: last })?;
+        Ok((done, len))
+    }
+}
