@@ -1,7 +1,6 @@
-use Rattle.std.proofs.Common.{◌≡◌, ap, sym, ◌∙◌, arith, rules, length}
+use Rattle.std.proofs.Common.{ap, arith, length}
 use Rattle.line_tree.specs.Text.{TextView}
-use Rattle.line_tree.specs.Joined.{joined}
-use Rattle.line_tree.proofs.Numbers.{IsLineAt, here, count}
+use Rattle.line_tree.proofs.Numbers.{here, count}
 use Rattle.line_tree.proofs.text.Text.line.Goals as goal
 
 pub len-requires : goal.len-requires

@@ -1,4 +1,4 @@
-use Rattle.std.proofs.Common.{◌≡◌, ap, sym, ◌∙◌, arith, rules, length}
+use Rattle.std.proofs.Common.{ap, arith, length}
 use Rattle.line_tree.specs.Text.{TextView}
 use Rattle.line_tree.proofs.Numbers.{here, goes_on}
 use Rattle.line_tree.proofs.text.Text.line_at.Goals as goal

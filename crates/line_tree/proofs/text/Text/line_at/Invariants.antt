@@ -1,4 +1,4 @@
-use Rattle.std.proofs.Common.{◌≡◌, ◌+◌, ◌≤◌, ◌<◌, take, length}
+use Rattle.std.proofs.Common.{◌≡◌, ◌≤◌, ◌<◌, take, length}
 use Rattle.line_tree.proofs.Numbers.{start_behind}
 use Rattle.line_tree.proofs.text.Text.line_at.Given as goal
 

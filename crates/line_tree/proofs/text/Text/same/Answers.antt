@@ -1,4 +1,4 @@
-use Rattle.std.proofs.Common.{◌≡◌, ap, sym, ◌∙◌}
+use Rattle.std.proofs.Common.{ap, sym, ◌∙◌}
 use Rattle.line_tree.specs.Text.{TextView}
 use Rattle.line_tree.specs.Joined.{joined}
 use Rattle.line_tree.proofs.Numbers.{joined-inj}
