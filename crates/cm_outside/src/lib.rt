@@ -1,0 +1,28 @@
+//! The outside of the editor core: traits for where bytes come from and go to, each with a count of faults that
+//! never falls, forms of them in memory, and a reader that cuts the bytes of a source into lines.
+//!
+//! The layer above may rely on this: a line reader answers the lines of exactly the bytes that the source gave, takes
+//! no byte past its limit but one, and answers a failure only where the source's count of faults rose; a whole
+//! piece was written, or a front of it where the sink's count of faults rose.
+#![tactic(auto)]
+
+mod failed;
+mod line_reader;
+mod mem_sink;
+mod mem_source;
+mod reading;
+mod sink;
+mod source;
+mod status;
+
+pub use failed::Failed;
+pub use line_reader::LineReader;
+pub use mem_sink::MemSink;
+pub use mem_source::MemSource;
+pub use reading::{MAX_LINE, Reading};
+pub use sink::{Sink, write_whole};
+pub use source::Source;
+pub use status::Status;
+
+#[cfg(test)]
+mod tests;
