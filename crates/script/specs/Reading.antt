@@ -1,0 +1,83 @@
+-- Reading the members of a JSON value: the answer, or the refusal that names the member nearest to the fault. Fields are
+-- read in the table's order, the inner ones of a field before the next outer one, and behind them come the members that
+-- the table doesn't have.
+use Rattle.std.specs.Prelude.{◌≡◌, ℕ, ◌^◌, List, [], ◌∷◌, Bool, false, ◌||◌, nat_lt, Option, Some, None, Result, Ok, Err, if◌then◌else◌, option_map, option_and_then, ⊤}
+use Rattle.std.specs.Str.{chars, bytes_eq}
+use Rattle.serde_json.specs.Data.{Data, Items, no_items, item, Members, no_members, member}
+use Rattle.serde_json.specs.Find.{get, as_str, as_number, as_u64, as_array, as_object}
+use Rattle.script.specs.declared.refusal.Refusal.{Refusal}
+use Rattle.script.specs.declared.refusal.Refusal.TheVariants.{BadValue}
+use Rattle.script.specs.declared.refusal.ReadError.{ReadError}
+use Rattle.script.specs.declared.refusal.ReadError.TheVariants as errors
+
+-- read on with what was read, or hand the refusal on
+infixl 10 ◌>>=◌
+abbrev pub ◌>>=◌ : {A B : Type 0} → Result A Refusal → (A → Result B Refusal) → Result B Refusal
+(Ok x) >>= f = f x
+(Err e) >>= f = Err e
+
+-- the error is the refusal that reading gives, or want of memory
+abbrev pub Fails : {Y : Type 0} → ReadError → Result Y Refusal → Type 0
+Fails errors.NoMemory read = Unit {0}
+Fails (errors.Refused r) read = read ≡ Err r
+
+-- what a function returned, seen by `see`, is what reading gives, unless memory was wanting
+abbrev pub Gives : {X Y : Type 0} → (X → Y) → Result X ReadError → Result Y Refusal → Type 0
+Gives see (Ok x) read = read ≡ Ok (see x)
+Gives see (Err e) read = Fails e read
+
+-- the member of this name is missing, of a wrong kind, out of its range, or in no table
+abbrev pub bad : {A : Type 0} → List ℕ → Result A Refusal
+bad name = Err (BadValue (chars name))
+
+-- the value, or the refusal of the member
+abbrev pub or_bad : {A : Type 0} → List ℕ → Option A → Result A Refusal
+or_bad name None = bad name
+or_bad name (Some x) = Ok x
+
+-- a member that has to be there
+unfoldable pub required : List ℕ → Data → Result Data Refusal
+required name d = or_bad name (get name d)
+
+-- what is there, as `read` reads it, or the default
+abbrev pub read_or : {A : Type 0} → (Data → Result A Refusal) → A → Option Data → Result A Refusal
+read_or read otherwise None = Ok otherwise
+read_or read otherwise (Some d) = read d
+
+-- a member as `read` reads it, or the default where it is absent
+abbrev pub defaulted : {A : Type 0} → List ℕ → (List ℕ → Data → Result A Refusal) → A → Data → Result A Refusal
+defaulted name read otherwise d = read_or (read name) otherwise (get name d)
+
+-- a text, as its characters
+unfoldable pub text_at : List ℕ → Data → Result (List ℕ) Refusal
+text_at name d = or_bad name (option_map chars (as_str d))
+
+abbrev pub fits_u32 : ℕ → Option ℕ
+fits_u32 n = if nat_lt n (2 ^ 32) then Some n else None
+
+-- a whole number from 0 that fits 32 bits
+unfoldable pub number_at : List ℕ → Data → Result ℕ Refusal
+number_at name d = or_bad name (option_and_then fits_u32 (option_and_then as_u64 (as_number d)))
+
+-- a list
+unfoldable pub items_at : List ℕ → Data → Result Items Refusal
+items_at name d = or_bad name (as_array d)
+
+-- an object
+unfoldable pub members_at : List ℕ → Data → Result Members Refusal
+members_at name d = or_bad name (as_object d)
+
+abbrev pub is_among : List ℕ → List (List ℕ) → Bool
+is_among name [] = false
+is_among name (known ∷ others) = bytes_eq name known || is_among name others
+
+-- each member has one of these names; else the first one that has not, in byte order, is refused
+unfoldable pub only : List (List ℕ) → Members → Result ⊤ Refusal
+only names no_members = Ok tt
+only names (member k d ms) = if is_among k names then only names ms else bad k
+
+-- the item of a list of at most one; a longer list is refused
+abbrev pub at_most_item : List ℕ → Items → Result (Option Data) Refusal
+at_most_item name no_items = Ok None
+at_most_item name (item d no_items) = Ok (Some d)
+at_most_item name (item d (item e ds)) = bad name

@@ -1,0 +1,158 @@
+ghost use Rattle.std.specs.Prelude.{◌≡◌, [], map, option_map};
+ghost use Rattle.serde_json.specs.Data.{no_items};
+ghost use Rattle.serde_json.specs.View.{view, items_view, members_view};
+ghost use Rattle.script.specs.Reading.{Gives, bad, required, text_at, number_at, items_at, members_at, only, is_among, defaulted, at_most_item};
+
+use crate::refusal::{ReadError, Refusal};
+use cm_plain::Str;
+use serde_json::{Map, Value};
+use std::alloc::Global;
+
+/// The refusal of a member.
+pub(crate) fn refused<T>(alloc: Global, name: &str) -> Result<T, ReadError>
+    ensures { Gives (λ x. x) result (bad name.now) }
+{
+    Err(ReadError::Refused(Refusal::BadValue {
+        field: Str::of_text(alloc, name)?,
+    }))
+}
+
+#[tactic(auto, unfolding(crate::specs::Reading::required))]
+pub(crate) fn required_member<'v>(
+    alloc: Global,
+    name: &str,
+    value: &'v Value,
+) -> Result<&'v Value, ReadError>
+    ensures { Gives (λ v. view v.now) result (required name.now (view value.now)) }
+{
+    match value.get(name) {
+        Some(member) => Ok(member),
+        None => refused(alloc, name),
+    }
+}
+
+#[tactic(auto, unfolding(crate::specs::Reading::text_at))]
+pub(crate) fn text(alloc: Global, name: &str, value: &Value) -> Result<Str, ReadError>
+    ensures { Gives (λ x. x) result (text_at name.now (view value.now)) }
+{
+    match value.as_str() {
+        Some(text) => Ok(Str::of_text(alloc, text)?),
+        None => refused(alloc, name),
+    }
+}
+
+#[tactic(auto, unfolding(crate::specs::Reading::number_at))]
+pub(crate) fn position(alloc: Global, name: &str, value: &Value) -> Result<u32, ReadError>
+    ensures { Gives (λ x. x) result (number_at name.now (view value.now)) }
+{
+    match value.as_u64() {
+        Some(n) if n < 1 << 32 => Ok(n as u32),
+        _ => refused(alloc, name),
+    }
+}
+
+#[tactic(auto, unfolding(crate::specs::Reading::items_at))]
+pub(crate) fn items<'v>(
+    alloc: Global,
+    name: &str,
+    value: &'v Value,
+) -> Result<&'v Vec<Value>, ReadError>
+    ensures { Gives (λ v. items_view v.now.items) result (items_at name.now (view value.now)) }
+{
+    match value.as_array() {
+        Some(items) => Ok(items),
+        None => refused(alloc, name),
+    }
+}
+
+#[tactic(auto, unfolding(crate::specs::Reading::members_at))]
+pub(crate) fn members<'v>(
+    alloc: Global,
+    name: &str,
+    value: &'v Value,
+) -> Result<&'v Map<String, Value>, ReadError>
+    ensures { Gives (λ m. members_view m.now.entries) result (members_at name.now (view value.now)) }
+{
+    match value.as_object() {
+        Some(members) => Ok(members),
+        None => refused(alloc, name),
+    }
+}
+
+/// Each member's name is among these.
+#[tactic(auto, unfolding(crate::specs::Reading::only))]
+pub(crate) fn only_fields(
+    alloc: Global,
+    names: &[&str],
+    members: &Map<String, Value>,
+) -> Result<(), ReadError>
+    ensures { Gives (λ x. x) result (only (map (λ n. n.now) names.now) (members_view members.now.entries)) }
+{
+    for (name, _) in members {
+        if !is_among(name.as_str(), names) {
+            return refused(alloc, name.as_str());
+        }
+    }
+    Ok(())
+}
+
+pub(crate) fn is_among(name: &str, names: &[&str]) -> bool
+    ensures { result ≡ is_among name.now (map (λ n. n.now) names.now) }
+{
+    for known in names {
+        if name == *known {
+            return true;
+        }
+    }
+    false
+}
+
+pub(crate) fn position_or(
+    alloc: Global,
+    name: &str,
+    value: &Value,
+    otherwise: u32,
+) -> Result<u32, ReadError>
+    ensures { Gives (λ x. x) result (defaulted name.now number_at otherwise (view value.now)) }
+{
+    match value.get(name) {
+        Some(member) => position(alloc, name, member),
+        None => Ok(otherwise),
+    }
+}
+
+pub(crate) fn text_or_empty(alloc: Global, name: &str, value: &Value) -> Result<Str, ReadError>
+    ensures { Gives (λ x. x) result (defaulted name.now text_at [] (view value.now)) }
+{
+    match value.get(name) {
+        Some(member) => text(alloc, name, member),
+        None => Ok(Str::empty(alloc)),
+    }
+}
+
+pub(crate) fn items_or_none<'v>(
+    alloc: Global,
+    name: &str,
+    value: &'v Value,
+) -> Result<&'v [Value], ReadError>
+    ensures { Gives (λ v. items_view v.now) result (defaulted name.now items_at no_items (view value.now)) }
+{
+    match value.get(name) {
+        Some(member) => Ok(items(alloc, name, member)?.as_slice()),
+        None => Ok(&[]),
+    }
+}
+
+#[tactic(auto, using(crate::proofs::One::too_many))]
+pub(crate) fn at_most_item<'v>(
+    alloc: Global,
+    name: &str,
+    items: &'v [Value],
+) -> Result<Option<&'v Value>, ReadError>
+    ensures { Gives (option_map (λ v. view v.now)) result (at_most_item name.now (items_view items.now)) }
+{
+    if items.len() > 1 {
+        return refused(alloc, name);
+    }
+    Ok(items.first())
+}
