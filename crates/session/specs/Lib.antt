@@ -1,0 +1,5 @@
+pub mod State
+pub mod Session
+pub mod Transcript
+pub mod Run
+pub mod Responding

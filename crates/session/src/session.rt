@@ -1,0 +1,65 @@
+ghost use Rattle.std.specs.Prelude.{◌≡◌, ◌<◌, List, ℕ, length, IfOk, OnOk, OnErr, string_bytes};
+ghost use Rattle.cm_outside.specs.Lines.{max_line};
+ghost use Rattle.session.specs.State.{fresh};
+ghost use Rattle.session.specs.Session.{IsRefused};
+ghost use Rattle.session.specs.Transcript.{outcome, after, reply};
+
+use crate::lines::outcome_of;
+use crate::outcome::Outcome;
+use crate::started::Started;
+use script::{Refusal, Reply, reply_text};
+use std::alloc::{AllocError, Global};
+use std::marker::Model;
+
+/// A session: lines start a document, change it and ask for it.
+#[derive(Drop)]
+pub struct Session {
+    alloc: Global,
+    state: Option<Started>,
+}
+
+impl Model for Session {
+    ghost use Rattle.session.specs.State.{PlainSession};
+
+    ghost Value = { PlainSession };
+
+    ghost view = { λ s. record { state = s.state } };
+}
+
+impl Session {
+    /// A session in which no document was started.
+    pub fn new(alloc: Global) -> Session
+        ensures { result ≡ fresh }
+    {
+        Session { alloc, state: None }
+    }
+
+    /// Does what a line, without its LF, asks for, and gives the reply with its LF. The only error is want of memory.
+    /// A refused line changes nothing, and neither does want of memory.
+    #[tactic(auto, unfolding(crate::specs::Transcript::after, crate::specs::Transcript::reply))]
+    pub fn line(&mut self, line: &[u8]) -> Result<String, AllocError>
+        ensures reply { IfOk result (λ r. string_bytes r ≡ reply line.now self.old) }
+        ensures after { OnOk result (self.new ≡ after line.now self.old) }
+        ensures refused { IsRefused (outcome line.now self.old.state) → self.new ≡ self.old }
+        ensures err { OnErr result (self.new ≡ self.old) }
+    {
+        match outcome_of(self.alloc, line, &self.state)? {
+            Outcome::Refused(refusal) => reply_text(self.alloc, &Reply::No(refusal)),
+            Outcome::Answered(answer) => reply_text(self.alloc, &Reply::Ok(answer)),
+            Outcome::Changed(answer, state) => {
+                let reply = reply_text(self.alloc, &Reply::Ok(answer))?;
+                self.state = Some(state);
+                Ok(reply)
+            }
+        }
+    }
+
+    /// The reply to a line of more bytes than a line may have, which changes nothing.
+    #[tactic(auto, unfolding(crate::specs::Transcript::after, crate::specs::Transcript::reply, crate::specs::Transcript::outcome))]
+    pub(crate) fn long_line(&self) -> Result<String, AllocError>
+        ensures reply { IfOk result (λ r. (line : List ℕ) → max_line < length line → string_bytes r ≡ reply line self.now) }
+        ensures after { (line : List ℕ) → max_line < length line → self.now ≡ after line self.now }
+    {
+        reply_text(self.alloc, &Reply::No(Refusal::LineTooLong))
+    }
+}
