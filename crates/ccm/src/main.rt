@@ -1,0 +1,53 @@
+//! The program `ccm`: it replays script lines from standard input to standard output.
+//!
+//! `main` makes the two devices, whose reads and writes count their faults, hands the words of the command line to
+//! `session::run`, and ends with the status of the run; a status other than 0 gives one line to standard error.
+#![tactic(auto)]
+
+mod standard_input;
+mod standard_output;
+
+use cm_outside::Status;
+use cm_plain::Str;
+use session::run;
+use standard_input::StandardInput;
+use standard_output::StandardOutput;
+use std::process::ExitCode;
+use std::rt::Env;
+use std::{env, io};
+
+/// The words of the command line, without the program's name.
+fn words(rt: &(impl Env + AllocGlobal)) -> io::Result<Vec<Str>> {
+    let mut words = Vec::new(rt.alloc());
+    for word in env::args(rt)?.skip(1) {
+        words.push(Str::of_text(rt.alloc(), word.as_str())?)?;
+    }
+    Ok(words)
+}
+
+/// What standard error gets under a status other than `Ok`.
+fn message_of(status: Status) -> &'static str {
+    match status {
+        Status::Ok => "",
+        Status::Usage => "usage: ccm replay",
+        Status::ReadFault => "read fault",
+        Status::WriteFault => "write fault",
+        Status::StoreFault => "store fault",
+        Status::NoMemory => "out of memory",
+        Status::TooMuch => "input too long",
+        Status::BadFile => "file is not text",
+    }
+}
+
+fn main(rt: HostRuntime) -> ExitCode {
+    let mut source = StandardInput::new(rt.reader());
+    let mut sink = StandardOutput::new(io::writer(&rt));
+    let status = match words(&rt) {
+        Ok(words) => run(rt.alloc(), words.as_slice(), &mut source, &mut sink),
+        Err(_) => Status::Usage,
+    };
+    if status != Status::Ok {
+        let _ = eprintln!(rt; "ccm: {}", message_of(status));
+    }
+    ExitCode::from(status.code())
+}
