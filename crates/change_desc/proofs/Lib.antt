@@ -1,0 +1,17 @@
+pub mod Applies
+pub mod Merges
+pub mod Moves
+pub mod Normal
+pub mod Pushes
+pub mod PushedSets
+pub mod Turns
+pub mod Weaves
+pub mod Compositions
+pub mod Arms
+pub mod Loads
+pub mod Lengths
+pub mod Mappings
+pub mod MapArms
+pub mod MapLengths
+pub mod Measures
+pub mod Bounds

@@ -1,0 +1,12 @@
+use Rattle.std.proofs.Common.{◌≡◌, ◌+◌, ◌<◌, ◌^◌, drop}
+use Rattle.change_desc.specs.Sections.{counted, old_size, new_size}
+use Rattle.change_desc.specs.Ranges.{replaced_from, replaced, touches}
+use Rattle.change_desc.proofs.ranges.touches.Given as goal
+
+abbrev pub invariant-loop-section : goal.invariant-loop-section
+invariant-loop-section l =
+    record {
+      goes : touches l.from l.to (replaced_from l.a l.b (drop l.section-index l.sections)) ≡ touches l.from l.to (replaced l.sections);
+      old : l.a + old_size (drop l.section-index l.sections) < 2 ^ 32;
+      new : l.b + new_size counted (drop l.section-index l.sections) < 2 ^ 32;
+    }

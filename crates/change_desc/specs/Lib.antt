@@ -1,0 +1,9 @@
+pub mod Sections
+pub mod Positions
+pub mod Ranges
+pub mod Columns
+pub mod Algebra
+pub mod Examples
+pub mod Steps
+pub mod Weaving
+pub mod Laws

@@ -1,0 +1,28 @@
+//! Descriptions of changes: how much of a text is kept and how much is replaced by how much, with each new text known by
+//! its length alone. A description maps positions, is put behind another, is moved over another, and is turned round.
+//! A layer above may rely on each description being in normal form, with both lengths below 2 ^ 32, and on each call
+//! giving exactly what the definitions of sections, cuts, compose, merge and map say. The definitions stand here once,
+//! also for change sets with whole texts.
+#![tactic(auto)]
+
+mod changed_range;
+mod compose;
+mod desc;
+mod kind;
+mod map;
+mod map_mode;
+mod part;
+mod positions;
+mod ranges;
+mod section;
+mod sections;
+#[cfg(test)]
+mod tests;
+mod touch;
+mod weave;
+
+pub use crate::changed_range::ChangedRange;
+pub use crate::desc::Desc;
+pub use crate::map_mode::MapMode;
+pub use crate::section::Section;
+pub use crate::touch::Touch;
