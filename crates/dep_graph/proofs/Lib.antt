@@ -1,0 +1,10 @@
+pub mod Least
+pub mod Listing
+pub mod Members
+pub mod Next
+pub mod Nexts
+pub mod Rings
+pub mod Start
+pub mod Stuck
+pub mod Told
+pub mod Visits

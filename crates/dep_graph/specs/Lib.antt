@@ -1,0 +1,5 @@
+pub mod Counting
+pub mod Laws
+pub mod Members
+pub mod Order
+pub mod Visiting
