@@ -1,0 +1,7 @@
+pub mod Choosing
+pub mod Done
+pub mod Enough
+pub mod Known
+pub mod Marking
+pub mod Skip
+pub mod UnderWay

@@ -1,0 +1,11 @@
+pub mod Chosen
+pub mod Flat
+pub mod Laws
+pub mod Links
+pub mod Marks
+pub mod Memo
+pub mod Refusal
+pub mod Tree
+pub mod Unfolding
+pub mod Walking
+pub mod Walks

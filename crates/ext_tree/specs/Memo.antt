@@ -1,0 +1,11 @@
+use Rattle.std.specs.Prelude.{ℕ, ◌+◌, ◌*◌, List, Bool, false, slice_get}
+use Rattle.std.specs.Option.{unwrap_or}
+use Rattle.ext_tree.specs.declared.visit.Visit.{Visit}
+use Rattle.ext_tree.specs.Flat.{level}
+
+-- the place of a node's mark
+abbrev pub place_of : Visit → ℕ
+place_of v = v.node * 5 + level v.precedence
+
+abbrev pub is_walked : List Bool → Visit → Bool
+is_walked marks v = unwrap_or (slice_get marks (place_of v)) false

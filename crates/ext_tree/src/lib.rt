@@ -1,0 +1,36 @@
+//! The extension tree: an arena of nodes, and the flat order of the leaves that some roots lead to.
+//!
+//! A layer above may rely on this: an arena only grows, a node keeps its id and names older nodes alone. `flatten`
+//! answers the flat order of the plain unfolding, and the first slot node of each compartment that was met; or it is
+//! refused with the first of the causes that the definition names. It walks a node at most once for each precedence,
+//! which is not proved.
+#![tactic(auto)]
+
+mod arena;
+mod ext_error;
+mod ext_ids;
+mod flat;
+mod laws;
+mod links;
+mod memo;
+mod met_slots;
+mod node;
+mod open_slots;
+mod precedence;
+mod task;
+mod tree;
+mod unknown;
+mod visit;
+mod walk;
+
+pub use arena::Arena;
+pub use ext_error::ExtError;
+pub use ext_ids::ExtIds;
+pub use flat::{Flat, flatten};
+pub use laws::tree_laws;
+pub use links::Links;
+pub use node::{ExtId, Node};
+pub use precedence::Precedence;
+
+#[cfg(test)]
+mod tests;

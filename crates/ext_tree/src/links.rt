@@ -1,0 +1,83 @@
+// What leaves are followed by.
+ghost use Rattle.std.specs.Prelude.{◌≡◌, ◌<◌, ◌++◌, ◌∷◌, [], length, set, OnOk, OnErr};
+ghost use Rattle.ext_tree.specs.Tree.{listed};
+ghost use Rattle.ext_tree.specs.Links.{LinkLists};
+
+use crate::ext_ids::ExtIds;
+use crate::node::ExtId;
+use std::alloc::{AllocError, Global};
+use std::marker::Model;
+
+/// What leaves are followed by: an input of a facet by the nodes that the facet enables, each node of a field by the
+/// nodes that the field provides. (Reference Manual, Facet.define, enables; StateField.define, provide.)
+#[derive(Drop)]
+pub struct Links {
+    enabled: Vec<ExtIds>,
+    provided: Vec<ExtIds>,
+}
+
+impl Model for Links {
+    ghost use Rattle.ext_tree.specs.Links.{LinkLists};
+
+    ghost Value = { LinkLists };
+
+    ghost view = { λ l. record { enabled = l.enabled.items; provided = l.provided.items } };
+}
+
+impl Links {
+    /// Links of no facet and no field.
+    pub fn empty(alloc: Global) -> Self
+        ensures { result ≡ record { enabled = []; provided = [] } }
+    {
+        Links {
+            enabled: Vec::new(alloc),
+            provided: Vec::new(alloc),
+        }
+    }
+
+    /// Adds the next facet, which enables these nodes. After want of memory the links are as before.
+    pub fn add_facet(&mut self, nodes: ExtIds) -> Result<(), AllocError>
+        ensures added { OnOk result (self.new ≡ record { enabled = self.old.enabled ++ nodes ∷ []; provided = self.old.provided }) }
+        ensures same { OnErr result (self.new ≡ self.old) }
+    {
+        self.enabled.push(nodes)?;
+        Ok(())
+    }
+
+    /// Adds the next field, which provides these nodes. After want of memory the links are as before.
+    pub fn add_field(&mut self, nodes: ExtIds) -> Result<(), AllocError>
+        ensures added { OnOk result (self.new ≡ record { enabled = self.old.enabled; provided = self.old.provided ++ nodes ∷ [] }) }
+        ensures same { OnErr result (self.new ≡ self.old) }
+    {
+        self.provided.push(nodes)?;
+        Ok(())
+    }
+
+    /// Makes a field that was added provide these nodes, in place of those before. Takes no memory.
+    pub fn provide(&mut self, field: u32, nodes: ExtIds)
+        requires { field < length self.old.provided }
+        ensures { self.new ≡ record { enabled = self.old.enabled; provided = set self.old.provided field nodes } }
+    {
+        self.provided[field as usize] = nodes;
+    }
+
+    /// The nodes that a facet enables, none where it wasn't added. Takes no memory.
+    pub fn enabled(&self, facet: u32) -> &[ExtId]
+        ensures { result.now ≡ listed self.now.enabled facet }
+    {
+        match self.enabled.get(facet as usize) {
+            Some(nodes) => nodes.ids(),
+            None => &[],
+        }
+    }
+
+    /// The nodes that a field provides, none where it wasn't added. Takes no memory.
+    pub fn provided(&self, field: u32) -> &[ExtId]
+        ensures { result.now ≡ listed self.now.provided field }
+    {
+        match self.provided.get(field as usize) {
+            Some(nodes) => nodes.ids(),
+            None => &[],
+        }
+    }
+}

@@ -1,0 +1,52 @@
+// Which nodes were walked to their end, at which precedence.
+ghost use Rattle.std.specs.Prelude.{◌≡◌, ◌⊎◌, IfOk, true, false};
+ghost use Rattle.ext_tree.specs.declared.visit.Visit.{Visit};
+ghost use Rattle.ext_tree.specs.Memo.{place_of, is_walked};
+
+use crate::visit::Visit;
+use std::alloc::{AllocError, Global};
+
+/// A mark for each node at each precedence.
+#[derive(Drop)]
+pub struct Memo {
+    walked: Vec<bool>,
+}
+
+fn place_of(visit: Visit) -> usize
+    ensures { result ≡ place_of visit }
+{
+    visit.node as usize * 5 + visit.precedence.level()
+}
+
+impl Memo {
+    /// No marks, for this many nodes.
+    pub fn new(alloc: Global, nodes: usize) -> Result<Self, AllocError>
+        ensures { IfOk result (λ memo. (v : Visit) → is_walked memo.walked.items v ≡ false) }
+    {
+        let mut walked = Vec::new(alloc);
+        for _node in 0..nodes {
+            walked.extend_from_slice(&[false; 5])?;
+        }
+        Ok(Memo { walked })
+    }
+
+    /// Whether a node is marked at this precedence.
+    pub fn is_walked(&self, visit: Visit) -> bool
+        ensures { result ≡ is_walked self.now.walked.items visit }
+    {
+        match self.walked.get(place_of(visit)) {
+            Some(walked) => *walked,
+            None => false,
+        }
+    }
+
+    /// Marks a node at this precedence.
+    pub fn mark(&mut self, visit: Visit)
+        ensures { (w : Visit) → is_walked self.new.walked.items w ≡ true → (w ≡ visit) ⊎ (is_walked self.old.walked.items w ≡ true) }
+    {
+        let place = place_of(visit);
+        if place < self.walked.len() {
+            self.walked[place] = true;
+        }
+    }
+}
