@@ -1,0 +1,15 @@
+pub mod Pushing
+pub mod Walks
+pub mod Written
+pub mod Places
+pub mod Between
+pub mod Composed
+pub mod Sizes
+pub mod RunningTotals
+pub mod Refused
+pub mod Filtering
+pub mod Edges
+pub mod FilterWalk
+pub mod FilterSizes
+pub mod FilterBounds
+pub mod Sameness

@@ -1,0 +1,40 @@
+use Rattle.std.proofs.Common.{◌≡◌, ◌<◌, ◌^◌, ℕ, List, length, refl, ap, sym, subst, ◌∙◌, arith}
+use Rattle.change_desc.specs.declared.section.Section.{Section}
+use Rattle.change_desc.specs.Sections.{spelled, counted, lengths, old_size, new_size, IsSet}
+use Rattle.change_desc.specs.Algebra.{compose, map_over}
+use Rattle.change_desc.proofs.Merges.{old_size-map_over}
+use Rattle.change_set.specs.Texts.{written, text_total}
+use Rattle.change_set.proofs.Written.{written-map_over}
+use Rattle.change_set.proofs.Composed.{filled-is, filled-total, filled-is_set, total-fits}
+use Rattle.change_set.proofs.change_set.ChangeSet.map.Goals as goal
+
+pub mapped_lengths-requires : goal.mapped_lengths-requires
+mapped_lengths-requires c = record { meet = c.requires.meet; fits = c.requires.fits }
+
+pub filled-requires : goal.filled-requires
+filled-requires c =
+    let s : List (Section (List ℕ)) = map_over spelled c.args.self.now c.args.over.now c.args.before in
+    let e : c.sections.result.now ≡ lengths spelled s = c.sections.ensures ∙ c.in_ok-lengths.ensures in
+    let f : c.in_ok-text.text.characters ≡ written s = c.in_ok-text.ensures ∙ sym (written-map_over c.args.self.now c.args.over.now c.args.before c.requires.meet) in
+    let i : IsSet counted (lengths spelled s) = subst (IsSet counted) (c.lengths.view_is ∙ c.in_ok-lengths.ensures) c.lengths.invariant in
+    let t : text_total c.sections.result.now ≡ length c.in_ok-text.text.characters = filled-total s c.sections.result.now c.in_ok-text.text.characters e f in
+    record { total = t; fits = subst (λ (n : ℕ). n < 2 ^ 32) (sym (t ∙ ap length f)) (total-fits s i) }
+
+pub invariant_of-result : goal.invariant_of-result
+invariant_of-result c =
+    let s : List (Section (List ℕ)) = map_over spelled c.args.self.now c.args.over.now c.args.before in
+    let e : c.sections.result.now ≡ lengths spelled s = c.sections.ensures ∙ c.in_ok-lengths.ensures in
+    let f : c.in_ok-text.text.characters ≡ written s = c.in_ok-text.ensures ∙ sym (written-map_over c.args.self.now c.args.over.now c.args.before c.requires.meet) in
+    subst (IsSet spelled) (sym (c.in_ok-sections.ensures ∙ filled-is s c.sections.result.now c.in_ok-text.text.characters e f))
+    (filled-is_set s (lengths spelled s) refl (subst (IsSet counted) (c.lengths.view_is ∙ c.in_ok-lengths.ensures) c.lengths.invariant))
+
+pub returns : goal.returns
+returns c =
+    let s : List (Section (List ℕ)) = map_over spelled c.args.self.now c.args.over.now c.args.before in
+    let e : c.sections.result.now ≡ lengths spelled s = c.sections.ensures ∙ c.in_ok-lengths.ensures in
+    let f : c.in_ok-text.text.characters ≡ written s = c.in_ok-text.ensures ∙ sym (written-map_over c.args.self.now c.args.over.now c.args.before c.requires.meet) in
+    let w = c.in_ok-sections.ensures ∙ filled-is s c.sections.result.now c.in_ok-text.text.characters e f in
+    record {
+      mapped = w;
+      starts = ap old_size w ∙ old_size-map_over spelled c.args.self.now c.args.over.now c.args.before c.requires.meet;
+    }

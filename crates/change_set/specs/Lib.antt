@@ -1,0 +1,16 @@
+pub use Rattle.line_tree.specs.Text
+pub use Rattle.change_desc.specs.Sections
+pub use Rattle.change_desc.specs.Positions
+pub use Rattle.change_desc.specs.Columns
+pub use Rattle.change_desc.specs.Algebra
+pub use Rattle.change_desc.specs.Laws
+pub use Rattle.change_desc.specs.Ranges
+pub mod Changes
+pub mod Refusals
+pub mod Descriptions
+pub mod Same
+pub mod Walks
+pub mod Texts
+pub mod Places
+pub mod Totals
+pub mod Protection

@@ -1,0 +1,329 @@
+ghost use Rattle.std.specs.Prelude.{◌≡◌, ◌≢◌, ◌≤◌, ◌<◌, ◌+◌, ◌-◌, ◌^◌, ◌∷◌, [], length, IfOk, IfErr, Some, None, ◌↔◌, IsTrue};
+ghost use Rattle.change_desc.specs.declared.section.Section.TheVariants.{Keep};
+ghost use Rattle.change_desc.specs.Sections.{spelled, counted, old_size, new_size, normal, lengths, apply, invert, inverted};
+ghost use Rattle.change_desc.specs.Algebra.{compose, map_over, filter_kept, filter_dropped, of, span};
+ghost use Rattle.change_set.specs.Changes.{as_sets};
+ghost use Rattle.change_desc.specs.Ranges.{changes_nothing};
+ghost use Rattle.change_set.specs.Refusals.{refusal};
+ghost use Rattle.change_set.specs.Texts.{written};
+ghost use Rattle.change_set.specs.Protection.{whole_part};
+ghost use Rattle.change_set.specs.Same.{same_sections};
+
+use crate::change::{Change, first_fault};
+use crate::error::ChangesError;
+use crate::filter::filtered;
+use crate::filtered::Filtered;
+use crate::inserted_text::InsertedText;
+use crate::sections::{copied, measured, new_len, push_section, same_sections, turned};
+use crate::side::Side;
+use crate::texts::{filled, texts_between, written};
+use change_desc::{Desc, Section};
+use line_tree::Text;
+use smallvec::SmallVec;
+use std::alloc::{AllocError, Global};
+use std::marker::Model;
+
+/// A set of changes over a document (Reference Manual: ChangeSet). Its sections cover the whole old document: so many
+/// characters kept, or so many replaced by a text. Lengths are in characters.
+#[derive(Drop)]
+pub struct ChangeSet {
+    sections: SmallVec<Section<InsertedText>, 8>,
+}
+
+impl Model for ChangeSet {
+    ghost use Rattle.std.specs.Prelude.{List, ℕ};
+    ghost use Rattle.change_desc.specs.declared.section.Section.{Section};
+    ghost use Rattle.change_desc.specs.Sections.{spelled, IsSet};
+
+    ghost Value = { List (Section (List ℕ)) };
+
+    ghost view = { λ s. s.sections.items };
+
+    ghost invariant = { λ s. IsSet spelled s.sections.items };
+}
+
+impl ChangeSet {
+    /// The set that several changes of one document make, in any order and also where they overlap: each change moves
+    /// over those before it and is put behind them (ChangeSet.of). `len` is the document's length, and no running total
+    /// may lead to a text longer than `max`, the set that keeps all being the first of them. `Err`: the first change
+    /// whose range is reversed or ends past the document, or whose set is over another length; else the first running
+    /// total that is too long; or memory was wanting.
+    pub fn of(
+        alloc: Global,
+        changes: &[Change],
+        len: u32,
+        max: u32,
+    ) -> Result<ChangeSet, ChangesError>
+        ensures set { IfOk result (λ set. set ≡ of spelled len (as_sets len changes.now)) }
+        ensures starts { IfOk result (λ set. old_size set ≡ len) }
+        ensures short { IfOk result (λ set. new_size spelled set ≤ max) }
+        ensures accepted { IfOk result (λ _. refusal len max changes.now ≡ None) }
+        ensures refused { IfErr result (λ error. error ≢ ChangesError.NoMemory → refusal len max changes.now ≡ Some error) }
+    {
+        if let Some(error) = first_fault(changes, len) {
+            return Err(error);
+        }
+        if len > max {
+            return Err(ChangesError::TooLong {
+                len: u64::from(len),
+                max,
+            });
+        }
+        let mut total = ChangeSet::empty(alloc, len)?;
+        for change in changes {
+            total = total.with_change(change, max)?;
+        }
+        Ok(total)
+    }
+
+    /// The set that keeps a whole document of `len` characters (ChangeSet.empty). `Err`: memory was wanting.
+    pub fn empty(alloc: Global, len: u32) -> Result<ChangeSet, AllocError>
+        ensures { IfOk result (λ set. set ≡ normal spelled (Keep len ∷ [])) }
+    {
+        let mut sections = SmallVec::new(alloc);
+        push_section(&mut sections, Section::Keep(len))?;
+        Ok(ChangeSet { sections })
+    }
+
+    /// The old document's length in characters (ChangeSet.length).
+    pub fn len(&self) -> u32
+        ensures { result ≡ old_size self.now }
+    {
+        let mut len = 0;
+        for section in self.sections.as_slice() {
+            len += section.old_len();
+        }
+        len
+    }
+
+    /// The new document's length in characters (ChangeSet.newLength).
+    pub fn new_len(&self) -> u32
+        ensures { result ≡ new_size spelled self.now }
+    {
+        let mut len = 0;
+        for section in self.sections.as_slice() {
+            len += new_len(section);
+        }
+        len
+    }
+
+    /// Whether it keeps the whole document (ChangeSet.empty).
+    pub fn is_empty(&self) -> bool
+        ensures { result ≡ changes_nothing self.now }
+    {
+        for section in self.sections.as_slice() {
+            if let Section::Replace(_, _) = section {
+                return false;
+            }
+        }
+        true
+    }
+
+    /// The sections from left to right (ChangeSet.sections).
+    pub fn sections(&self) -> &[Section<InsertedText>]
+        ensures { result.now ≡ self.now }
+    {
+        self.sections.as_slice()
+    }
+
+    /// The new document over an old one (ChangeSet.apply). `Err`: memory was wanting.
+    pub fn apply(&self, document: &Text) -> Result<Text, AllocError>
+        requires { old_size self.now ≡ length document.now.characters }
+        ensures { IfOk result (λ text. text.characters ≡ apply self.now document.now.characters) }
+    {
+        let mut text = Text::empty(*self.sections.allocator())?;
+        let mut at = 0;
+        for section in self.sections.as_slice() {
+            match section {
+                Section::Keep(count) => {
+                    let kept = document.slice(at, at + *count)?;
+                    text = text.append(&kept)?;
+                    at += *count;
+                }
+                Section::Replace(count, inserted) => {
+                    text = text.append(inserted.text())?;
+                    at += *count;
+                }
+            }
+        }
+        Ok(text)
+    }
+
+    /// This set and then the next, as one set (ChangeSet.compose). `Err`: memory was wanting.
+    pub fn compose(&self, next: &ChangeSet) -> Result<ChangeSet, AllocError>
+        requires { new_size spelled self.now ≡ old_size next.now }
+        ensures both { IfOk result (λ both. both ≡ compose spelled self.now next.now) }
+        ensures starts { IfOk result (λ both. old_size both ≡ old_size self.now) }
+        ensures ends { IfOk result (λ both. new_size spelled both ≡ new_size spelled next.now) }
+    {
+        let lengths = self.composed_lengths(next)?;
+        let text = self.composed_text(next)?;
+        let sections = filled(*self.sections.allocator(), lengths.sections(), &text)?;
+        Ok(ChangeSet { sections })
+    }
+
+    /// This set over the new document of other changes of the same document (ChangeSet.map). Where texts meet, those of
+    /// the other changes stand first, unless `before` holds. `Err`: memory was wanting.
+    pub fn map(&self, over: &Desc, before: bool) -> Result<ChangeSet, AllocError>
+        requires meet { old_size over.now ≡ old_size self.now }
+        requires fits { new_size spelled (map_over spelled self.now over.now before) < 2 ^ 32 }
+        ensures mapped { IfOk result (λ mapped. mapped ≡ map_over spelled self.now over.now before) }
+        ensures starts { IfOk result (λ mapped. old_size mapped ≡ new_size counted over.now) }
+    {
+        let lengths = self.mapped_lengths(over, before)?;
+        let text = self.own_text()?;
+        let sections = filled(*self.sections.allocator(), lengths.sections(), &text)?;
+        Ok(ChangeSet { sections })
+    }
+
+    /// The set that leads from the new document back to the old one, which is given (ChangeSet.invert). `Err`: memory
+    /// was wanting.
+    pub fn invert(&self, document: &Text) -> Result<ChangeSet, AllocError>
+        requires { old_size self.now ≡ length document.now.characters }
+        ensures { IfOk result (λ back. back ≡ invert self.now document.now.characters) }
+    {
+        let mut sections = SmallVec::new(*self.sections.allocator());
+        let mut at = 0;
+        for section in self.sections.as_slice() {
+            let back = turned(section, document, at)?;
+            sections.push(back)?;
+            at += section.old_len();
+        }
+        Ok(ChangeSet { sections })
+    }
+
+    /// The same changes with each text known by its length alone (ChangeSet.desc). `Err`: memory was wanting.
+    pub fn desc(&self) -> Result<Desc, AllocError>
+        ensures { IfOk result (λ desc. desc ≡ lengths spelled self.now) }
+    {
+        let mut desc = Desc::new(*self.sections.allocator());
+        for section in self.sections.as_slice() {
+            desc.push(measured(section))?;
+        }
+        Ok(desc)
+    }
+
+    /// What stays of the changes where some ranges of the old document are protected, and what is dropped
+    /// (EditorState.changeFilter). A deleted character inside a range stays in the document; a pure insertion strictly
+    /// inside one is dropped; a replacement's text shares the fate of its first deleted character. Ranges are cut to
+    /// the document, empty or reversed ones are passed over, and those that overlap or touch count as one. `Err`:
+    /// memory was wanting.
+    pub fn filter(&self, protected: &[(u32, u32)]) -> Result<Filtered, AllocError>
+        requires kept_fits { new_size spelled (filter_kept spelled protected.now self.now) < 2 ^ 32 }
+        requires dropped_fits { new_size spelled (filter_dropped spelled protected.now self.now) < 2 ^ 32 }
+        ensures kept { IfOk result (λ parts. parts.kept ≡ filter_kept spelled protected.now self.now) }
+        ensures dropped { IfOk result (λ parts. parts.dropped ≡ filter_dropped spelled protected.now self.now) }
+    {
+        let kept = self.part(Side::Kept, protected)?;
+        let dropped = self.part(Side::Dropped, protected)?;
+        Ok(Filtered { kept, dropped })
+    }
+
+    /// Whether both have the same sections, with the same texts (ChangeSet.eq).
+    pub fn same(&self, other: &ChangeSet) -> bool
+        ensures value { result ≡ same_sections self.now other.now }
+        ensures equal { IsTrue result ↔ (self.now ≡ other.now) }
+    {
+        same_sections(self.sections.as_slice(), other.sections.as_slice())
+    }
+
+    /// The same set once more. `Err`: memory was wanting.
+    pub fn try_copy(&self) -> Result<ChangeSet, AllocError>
+        ensures { IfOk result (λ copy. copy ≡ self.now) }
+    {
+        let mut sections = SmallVec::new(*self.sections.allocator());
+        for section in self.sections.as_slice() {
+            let copy = copied(section)?;
+            sections.push(copy)?;
+        }
+        Ok(ChangeSet { sections })
+    }
+}
+
+impl ChangeSet {
+    /// Where its memory comes from.
+    pub(crate) fn allocator(&self) -> Global {
+        *self.sections.allocator()
+    }
+
+    /// The set that replaces a range of a document of `len` characters.
+    pub(crate) fn span(
+        alloc: Global,
+        len: u32,
+        from: u32,
+        to: u32,
+        insert: &Text,
+    ) -> Result<ChangeSet, AllocError>
+        requires order { from ≤ to }
+        requires within { to ≤ len }
+        requires fits { len - (to - from) + length insert.now.characters < 2 ^ 32 }
+        ensures { IfOk result (λ set. set ≡ span spelled len from to insert.now.characters) }
+    {
+        let mut sections = SmallVec::new(alloc);
+        push_section(&mut sections, Section::Keep(from))?;
+        let text = InsertedText::of(insert.try_copy()?);
+        push_section(&mut sections, Section::Replace(to - from, text))?;
+        push_section(&mut sections, Section::Keep(len - to))?;
+        Ok(ChangeSet { sections })
+    }
+
+    /// One of the two parts that a filter gives.
+    fn part(&self, side: Side, protected: &[(u32, u32)]) -> Result<ChangeSet, AllocError>
+        requires { new_size spelled (whole_part side protected.now (old_size self.now) [] 0 self.now) < 2 ^ 32 }
+        ensures { IfOk result (λ part. part ≡ whole_part side protected.now (old_size self.now) [] 0 self.now) }
+    {
+        let alloc = *self.sections.allocator();
+        let sections = filtered(alloc, side, protected, self.len(), self.sections.as_slice())?;
+        Ok(ChangeSet { sections })
+    }
+
+    /// The texts that it puts in, one behind the other.
+    fn own_text(&self) -> Result<Text, AllocError>
+        ensures { IfOk result (λ text. text.characters ≡ written self.now) }
+    {
+        written(*self.sections.allocator(), self.sections.as_slice())
+    }
+
+    /// The lengths of this set and then the next.
+    fn composed_lengths(&self, next: &ChangeSet) -> Result<Desc, AllocError>
+        requires { new_size spelled self.now ≡ old_size next.now }
+        ensures { IfOk result (λ both. both ≡ lengths spelled (compose spelled self.now next.now)) }
+    {
+        let first = self.desc()?;
+        let second = next.desc()?;
+        first.compose(&second)
+    }
+
+    /// The lengths of the way back.
+    fn back_lengths(&self) -> Result<Desc, AllocError>
+        ensures { IfOk result (λ back. back ≡ inverted (lengths spelled self.now)) }
+    {
+        let lengths = self.desc()?;
+        lengths.inverted()
+    }
+
+    /// The texts of this set and then the next, one behind the other.
+    fn composed_text(&self, next: &ChangeSet) -> Result<Text, AllocError>
+        requires { new_size spelled self.now ≡ old_size next.now }
+        ensures { IfOk result (λ text. text.characters ≡ written (compose spelled self.now next.now)) }
+    {
+        let back = self.back_lengths()?;
+        let own = self.own_text()?;
+        texts_between(
+            *self.sections.allocator(),
+            back.sections(),
+            &own,
+            next.sections.as_slice(),
+        )
+    }
+
+    /// The lengths of this set over the new document of other changes.
+    fn mapped_lengths(&self, over: &Desc, before: bool) -> Result<Desc, AllocError>
+        requires meet { old_size over.now ≡ old_size self.now }
+        requires fits { new_size spelled (map_over spelled self.now over.now before) < 2 ^ 32 }
+        ensures { IfOk result (λ mapped. mapped ≡ lengths spelled (map_over spelled self.now over.now before)) }
+    {
+        let own = self.desc()?;
+        own.map(over, before)
+    }
+}

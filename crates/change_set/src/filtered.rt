@@ -1,0 +1,10 @@
+use crate::change_set::ChangeSet;
+
+/// The two parts of a change set that a filter gives, both over the old document.
+#[derive(Drop)]
+pub struct Filtered {
+    /// What stays.
+    pub kept: ChangeSet,
+    /// What was dropped.
+    pub dropped: ChangeSet,
+}

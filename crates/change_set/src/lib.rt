@@ -1,0 +1,30 @@
+//! Change sets: what is kept of a document and what is replaced, with the texts that are put in.
+//! A set is applied, put behind another, moved over a description, turned round and filtered; a list of changes of one
+//! document is made into one set. A layer above may rely on each set being in normal form, with both lengths below
+//! 2 ^ 32, on each answer being exactly what the definitions of sections, compose, merge, map and filter say, and on the
+//! laws of changes. A set keeps its allocator, so its methods take none.
+#![tactic(auto)]
+
+mod change;
+mod change_set;
+mod error;
+mod filter;
+mod filtered;
+mod inserted_text;
+mod laws;
+mod place;
+mod protection;
+mod sections;
+mod side;
+mod texts;
+mod totals;
+
+pub use crate::change::Change;
+pub use crate::change_set::ChangeSet;
+pub use crate::error::ChangesError;
+pub use crate::filtered::Filtered;
+pub use crate::inserted_text::InsertedText;
+pub use crate::laws::change_laws;
+
+#[cfg(test)]
+mod tests;

@@ -1,0 +1,21 @@
+ghost use Rattle.std.specs.Prelude.{◌≡◌};
+ghost use Rattle.change_set.specs.Protection.{takes};
+
+/// One of the two parts that a filter gives: what stays, or what is dropped.
+#[derive(Clone, Copy, Drop)]
+pub(crate) enum Side {
+    Kept,
+    Dropped,
+}
+
+impl Side {
+    /// Whether it has a change of text that is protected or not.
+    pub(crate) fn takes(self, is_protected: bool) -> bool
+        ensures { result ≡ takes self is_protected }
+    {
+        match self {
+            Side::Kept => !is_protected,
+            Side::Dropped => is_protected,
+        }
+    }
+}
