@@ -9,10 +9,11 @@ use Rattle.dep_graph.specs.declared.dependents.Dependents.{Dependents}
 abbrev pub has : List ℕ → ℕ → Bool
 has ns n = list_any (eqb n) ns
 
--- left: how many dependencies of a vertex are not done
+-- is left: whether an edge is one of a vertex to what is not done
 abbrev pub is_left : List ℕ → ℕ → Edge → Bool
 is_left done v e = eqb e.vertex v && not (has done e.dependency)
 
+-- left: how many dependencies of a vertex are not done
 abbrev pub left : List ℕ → ℕ → List Edge → ℕ
 left done v [] = 0
 left done v (e ∷ es) = cond (is_left done v e) 1 0 + left done v es

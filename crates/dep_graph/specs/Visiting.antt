@@ -8,10 +8,11 @@ abbrev pub lesser : Option ℕ → ℕ → Option ℕ
 lesser None d = Some d
 lesser (Some m) d = Some (min m d)
 
--- least waiting: the least of the dependencies of a vertex that wait, with one found before
+-- better: the lesser, where an edge leads from a vertex to one that waits
 abbrev pub better : List ℕ → ℕ → Option ℕ → Edge → Option ℕ
 better counts v least e = cond (eqb e.vertex v && not (eqb (get_or counts e.dependency 0) 0)) (lesser least e.dependency) least
 
+-- least waiting: the least of the dependencies of a vertex that wait, with one found before
 abbrev pub least_waiting : List ℕ → ℕ → Option ℕ → List Edge → Option ℕ
 least_waiting counts v least es = fold (better counts v) least es
 

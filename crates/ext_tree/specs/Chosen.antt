@@ -20,6 +20,7 @@ abbrev pub chosen_from : List Visit → List Visit → List Visit → List Visit
 chosen_from all before [] = []
 chosen_from all before (v ∷ vs) = cond (is_passed_over all before v) (chosen_from all (before ++ v ∷ []) vs) (v ∷ chosen_from all (before ++ v ∷ []) vs)
 
+-- chosen of all leaves of a walk
 abbrev pub chosen : List Visit → List Visit
 chosen vs = chosen_from vs [] vs
 

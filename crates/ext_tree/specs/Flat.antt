@@ -26,6 +26,7 @@ is_leaf_in (Some (Input facet)) = true
 is_leaf_in (Some (Field field)) = true
 is_leaf_in (Some (Init field)) = true
 
+-- leaf: whether a node of a tree is one
 abbrev pub is_leaf : Tree → ℕ → Bool
 is_leaf t n = is_leaf_in (slice_get t.nodes n)
 
@@ -33,9 +34,11 @@ is_leaf t n = is_leaf_in (slice_get t.nodes n)
 abbrev pub leaf : Tree → Visit → List Visit
 leaf t v = cond (is_leaf t v.node) (v ∷ []) []
 
+-- visit: an occurrence without its path
 abbrev pub visit_of : Occurrence → Visit
 visit_of o = record { node = o.node; precedence = o.precedence }
 
+-- leaves of a list of occurrences, in order
 abbrev pub leaves : Tree → List Occurrence → List Visit
 leaves t os = flat_map (λ (o : Occurrence). leaf t (visit_of o)) os
 
@@ -43,9 +46,11 @@ leaves t os = flat_map (λ (o : Occurrence). leaf t (visit_of o)) os
 abbrev pub has_level : ℕ → Visit → Bool
 has_level i v = eqb (level v.precedence) i
 
+-- node of a visit
 abbrev pub node_of : Visit → ℕ
 node_of v = v.node
 
+-- at a level: the nodes of its visits
 abbrev pub at_level : ℕ → List Visit → List ℕ
 at_level i vs = map node_of (filter (has_level i) vs)
 
@@ -53,6 +58,7 @@ at_level i vs = map node_of (filter (has_level i) vs)
 abbrev pub take_in : List ℕ → ℕ → List ℕ
 take_in taken n = cond (list_any (eqb n) taken) taken (taken ++ n ∷ [])
 
+-- taken at a level: the nodes of one precedence are taken in, in order
 abbrev pub take_level : List Visit → List ℕ → ℕ → List ℕ
 take_level vs taken i = fold take_in taken (at_level i vs)
 

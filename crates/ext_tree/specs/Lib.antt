@@ -9,3 +9,5 @@ pub mod Tree
 pub mod Unfolding
 pub mod Walking
 pub mod Walks
+pub use Rattle.compartments.specs.Contents
+pub use Rattle.compartments.specs.Least

@@ -19,11 +19,12 @@ pub record AreOpen (t : Tree) (path counts : List ℕ) : Type 0 where
   pub room : HasRoom t (length counts)
   pub counted : (c : ℕ) → c < length counts → get_or counts c 0 ≡ slots_on t c path
 
--- raised, lowered: one slot more, or less, of a compartment, if there is one
+-- raised: one slot more of a compartment, if there is one
 abbrev pub raised : List ℕ → Option ℕ → List ℕ
 raised counts None = counts
 raised counts (Some c) = set counts c (get_or counts c 0 + 1)
 
+-- lowered: one slot less of a compartment, if there is one
 abbrev pub lowered : List ℕ → Option ℕ → List ℕ
 lowered counts None = counts
 lowered counts (Some c) = set counts c (get_or counts c 0 - 1)

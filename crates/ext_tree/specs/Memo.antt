@@ -7,5 +7,6 @@ use Rattle.ext_tree.specs.Flat.{level}
 abbrev pub place_of : Visit → ℕ
 place_of v = v.node * 5 + level v.precedence
 
+-- walked: whether a node is marked at a precedence
 abbrev pub is_walked : List Bool → Visit → Bool
 is_walked marks v = unwrap_or (slice_get marks (place_of v)) false

@@ -40,6 +40,7 @@ abbrev pub refused_as : Tree → List ℕ → ℕ → List ℕ → Option ℕ �
 refused_as t met n path None = None
 refused_as t met n path (Some c) = cond (stands_on t path (Some c)) (Some (Loop (from_slot t c path ++ n ∷ []))) (duplicate c n (first_met t c met))
 
+-- refused: why the walk ends at an occurrence
 abbrev pub refused : Tree → List ℕ → Occurrence → Option Refusal
 refused t met o = refused_as t met o.node o.path (compartment_of t o.node)
 
@@ -48,6 +49,7 @@ abbrev pub meet_as : Tree → List ℕ → ℕ → Option ℕ → List ℕ
 meet_as t met n None = met
 meet_as t met n (Some c) = cond (is_some (first_met t c met)) met (met ++ n ∷ [])
 
+-- meet: a node of a tree is met
 abbrev pub meet : Tree → List ℕ → ℕ → List ℕ
 meet t met n = meet_as t met n (compartment_of t n)
 
@@ -56,6 +58,7 @@ abbrev pub refusal_after : Tree → List ℕ → List Occurrence → Option Refu
 refusal_after t met [] = None
 refusal_after t met (o ∷ os) = option_or (refused t met o) (refusal_after t (meet t met o.node) os)
 
+-- refusal of a whole walk
 abbrev pub refusal : Tree → List Occurrence → Option Refusal
 refusal t os = refusal_after t [] os
 
@@ -64,6 +67,7 @@ abbrev pub met_after : Tree → List ℕ → List Occurrence → List ℕ
 met_after t met [] = met
 met_after t met (o ∷ os) = met_after t (meet t met o.node) os
 
+-- slots met by a whole walk
 abbrev pub slots_met : Tree → List Occurrence → List ℕ
 slots_met t os = met_after t [] os
 

@@ -11,6 +11,7 @@ pub record Tree : Type 0 where
   pub contents : List (ℕ × ℕ)
   pub links : LinkLists
 
+-- tree of an arena, set contents and links
 abbrev pub tree_of : List Node → List (ℕ × ℕ) → LinkLists → Tree
 tree_of nodes contents links = record { nodes = nodes; contents = contents; links = links }
 

@@ -24,6 +24,7 @@ compartment_in (Some (Input facet)) = None
 compartment_in (Some (Field field)) = None
 compartment_in (Some (Init field)) = None
 
+-- compartment of a node of a tree, none where it is no slot
 abbrev pub compartment_of : Tree → ℕ → Option ℕ
 compartment_of t n = compartment_in (slice_get t.nodes n)
 
@@ -36,6 +37,7 @@ abbrev pub stands_on : Tree → List ℕ → Option ℕ → Bool
 stands_on t path None = false
 stands_on t path (Some c) = list_any (is_slot_of t c) path
 
+-- blocked: whether a node is a slot whose compartment stands on its path
 abbrev pub is_blocked : Tree → ℕ → List ℕ → Bool
 is_blocked t n path = stands_on t path (compartment_of t n)
 
@@ -50,6 +52,7 @@ following_in t (Some (Input facet)) = listed t.links.enabled facet
 following_in t (Some (Field field)) = listed t.links.provided field
 following_in t (Some (Init field)) = listed t.links.provided field
 
+-- following: the nodes that a node of a tree is followed by
 abbrev pub following : Tree → ℕ → List ℕ
 following t n = following_in t (slice_get t.nodes n)
 
@@ -64,6 +67,7 @@ precedence_in p (Some (Input facet)) = precedence.Default
 precedence_in p (Some (Field field)) = p
 precedence_in p (Some (Init field)) = p
 
+-- precedence below a node of a tree
 abbrev pub precedence_below : Tree → ℕ → Precedence → Precedence
 precedence_below t n p = precedence_in p (slice_get t.nodes n)
 
@@ -71,10 +75,11 @@ precedence_below t n p = precedence_in p (slice_get t.nodes n)
 abbrev pub path_below : Tree → ℕ → List ℕ → List ℕ
 path_below t n path = cond (is_some (compartment_of t n)) (path ++ n ∷ []) path
 
--- followed by: the occurrences that an occurrence is followed by, none at a slot whose compartment stands on its path
+-- below: a node that an occurrence is followed by, with its path and precedence
 abbrev pub below : Tree → Occurrence → ℕ → Occurrence
 below t o n = record { node = n; path = path_below t o.node o.path; precedence = precedence_below t o.node o.precedence }
 
+-- followed by: the occurrences that an occurrence is followed by, none at a slot whose compartment stands on its path
 abbrev pub followed_by : Tree → Occurrence → List Occurrence
 followed_by t o = cond (is_blocked t o.node o.path) [] (map (below t o) (following t o.node))
 

@@ -14,9 +14,11 @@ abbrev pub In : {X : Type 0} → X → List X → Type 0
 In x [] = ⊥
 In x (y ∷ ys) = (x ≡ y) ⊎ In x ys
 
+-- visit of a node at a precedence
 abbrev pub visit : ℕ → Precedence → Visit
 visit n p = record { node = n; precedence = p }
 
+-- visit below: a node that another is followed by, at its precedence
 abbrev pub visit_below : Tree → Visit → ℕ → Visit
 visit_below t v m = visit m (precedence_below t v.node v.precedence)
 
@@ -25,6 +27,7 @@ abbrev pub ReachesIn : Tree → ℕ → ℕ → ℕ → Type 0
 ReachesIn t zero m n = m ≡ n
 ReachesIn t (suc k) m n = (j : ℕ) × In j (following t m) × ReachesIn t k j n
 
+-- reaches: in one step or more
 abbrev pub Reaches : Tree → ℕ → ℕ → Type 0
 Reaches t m n = (k : ℕ) × ReachesIn t (suc k) m n
 
@@ -36,6 +39,7 @@ IsFirst t met s = (c : ℕ) → compartment_of t s ≡ Some c → first_met t c 
 abbrev pub LeadsTo : Tree → List ℕ → ℕ → ℕ → Type 0
 LeadsTo t met n s = IsFirst t met s × Reaches t s n
 
+-- path: all its slots were met, and lead to a node
 abbrev pub IsPath : Tree → List ℕ → List ℕ → ℕ → Type 0
 IsPath t met path n = AllByRecursion (LeadsTo t met n) path
 
@@ -67,6 +71,7 @@ CanGoOn t met vs done path (Leave v ∷ ts) = IsCounted t met vs v × AreBelowDo
 abbrev pub occurrence : Visit → List ℕ → Occurrence
 occurrence v path = record { node = v.node; path = path; precedence = v.precedence }
 
+-- ahead: what these tasks have still to meet
 abbrev pub ahead : Tree → List ℕ → List Task → List Occurrence
 ahead t path [] = []
 ahead t path (Enter v ∷ ts) = unfold_at t (occurrence v path) ++ ahead t path ts
@@ -89,6 +94,7 @@ to_leave [] = 0
 to_leave (Enter v ∷ ts) = to_leave ts
 to_leave (Leave v ∷ ts) = to_leave ts + 1
 
+-- to do: a measure that falls with each task
 abbrev pub to_do : Tree → List ℕ → List Task → ℕ
 to_do t path ts = 2 * length (ahead t path ts) + to_leave ts
 
@@ -96,5 +102,6 @@ to_do t path ts = 2 * length (ahead t path ts) + to_leave ts
 abbrev pub enter_below : Tree → Visit → ℕ → Task
 enter_below t v m = Enter (visit_below t v m)
 
+-- entered: the tasks after a node was entered
 abbrev pub entered : Tree → Visit → List Task → List Task
 entered t v ts = map (enter_below t v) (following t v.node) ++ Leave v ∷ ts

@@ -10,6 +10,7 @@ use Rattle.ext_tree.specs.Memo.{is_walked}
 use Rattle.ext_tree.specs.Marks.{AreOpen, AreFirsts}
 use Rattle.ext_tree.specs.Walking.{visit, IsUnderWay, to_do}
 
+-- enter at: a node is to be entered at a precedence
 abbrev pub enter_at : Precedence → ℕ → Task
 enter_at p n = Enter (visit n p)
 
@@ -17,6 +18,7 @@ enter_at p n = Enter (visit n p)
 abbrev pub IsWalk : Tree → List Occurrence → List Task → Walk → Type 0
 IsWalk t os tasks w = IsUnderWay t os tasks w.slots.path.items w.met.nodes.items w.leaves.items (is_walked w.memo.walked.items)
 
+-- to do: the measure of a walk
 abbrev pub walk_to_do : Tree → List Task → Walk → ℕ
 walk_to_do t tasks w = to_do t w.slots.path.items tasks
 
@@ -25,6 +27,7 @@ pub record GoesOn (t : Tree) (os : List Occurrence) (tasks : List Task) (old new
   pub is_walk : IsWalk t os (reverse new.tasks.items) new
   pub less : walk_to_do t (reverse new.tasks.items) new < walk_to_do t tasks old
 
+-- continues: so it is for every walk that is under way
 abbrev pub Continues : Tree → List Task → Walk → Walk → Type 0
 Continues t tasks old new = (os : List Occurrence) → IsWalk t os tasks old → GoesOn t os tasks old new
 

@@ -12,6 +12,7 @@ ghost use Rattle.ext_tree.specs.declared.task.Task.TheVariants.{Enter, Leave};
 
 use crate::ext_error::ExtError;
 use crate::ext_ids::ExtIds;
+use crate::found::Found;
 use crate::memo::Memo;
 use crate::met_slots::MetSlots;
 use crate::node::{ExtId, Node};
@@ -213,13 +214,6 @@ impl Walk {
             }
         }
     }
-}
-
-/// What a whole walk has met.
-#[derive(Drop)]
-pub struct Found {
-    pub leaves: Vec<Visit>,
-    pub slots: Vec<ExtId>,
 }
 
 /// The leaves in the order of the walk, and the first slot node of each compartment.
