@@ -1,0 +1,13 @@
+pub mod Causes
+pub mod Config
+pub mod Pairs
+pub mod Present
+pub mod Resolved
+pub mod Vertices
+pub use Rattle.compartments.specs.Contents
+pub use Rattle.dep_graph.specs.Order
+pub use Rattle.ext_tree.specs.Flat
+pub use Rattle.ext_tree.specs.Links
+pub use Rattle.ext_tree.specs.Refusal
+pub use Rattle.ext_tree.specs.Tree
+pub use Rattle.ext_tree.specs.Unfolding

@@ -1,0 +1,69 @@
+use Rattle.std.specs.Prelude.{ℕ, zero, suc, ◌+◌, List, [], ◌∷◌, ◌++◌, Bool, false, cond, eqb, filter, find, map, flat_map, Option, Some, None, slice_get, get_or, set, length, nat_lt}
+use Rattle.std.specs.Option.{option_map, unwrap_or}
+use Rattle.ext_tree.specs.declared.node.Node.{Node}
+use Rattle.ext_tree.specs.declared.node.Node.TheVariants.{Group, Prec, Slot, Input, Field, Init}
+use Rattle.ext_tree.specs.Unfolding.{compartment_in}
+
+-- facet of an input
+abbrev pub facet_in : Option Node → Option ℕ
+facet_in None = None
+facet_in (Some (Group nodes)) = None
+facet_in (Some (Prec p node)) = None
+facet_in (Some (Slot compartment content)) = None
+facet_in (Some (Input facet)) = Some facet
+facet_in (Some (Field field)) = None
+facet_in (Some (Init field)) = None
+
+-- field of a field's node, its init included
+abbrev pub field_in : Option Node → Option ℕ
+field_in None = None
+field_in (Some (Group nodes)) = None
+field_in (Some (Prec p node)) = None
+field_in (Some (Slot compartment content)) = None
+field_in (Some (Input facet)) = None
+field_in (Some (Field field)) = Some field
+field_in (Some (Init field)) = Some field
+
+-- is: whether there is an id, and it is this one
+abbrev pub is_id : ℕ → Option ℕ → Bool
+is_id i found = unwrap_or (option_map (eqb i) found) false
+
+-- inputs of a facet: its input nodes in the order of some nodes
+abbrev pub inputs_of : List Node → ℕ → List ℕ → List ℕ
+inputs_of nodes facet ns = filter (λ (n : ℕ). is_id facet (facet_in (slice_get nodes n))) ns
+
+-- node of a field: the first of its nodes in the order of some nodes, none where the field is absent
+abbrev pub node_of_field : List Node → ℕ → List ℕ → Option ℕ
+node_of_field nodes field ns = find (λ (n : ℕ). is_id field (field_in (slice_get nodes n))) ns
+
+-- numbers from: as many numbers in turn
+abbrev pub numbers_from : ℕ → ℕ → List ℕ
+numbers_from i zero = []
+numbers_from i (suc count) = i ∷ numbers_from (i + 1) count
+
+-- input lists: the inputs of each facet below a count
+abbrev pub input_lists : List Node → ℕ → List ℕ → List (List ℕ)
+input_lists nodes facets ns = map (λ (facet : ℕ). inputs_of nodes facet ns) (numbers_from 0 facets)
+
+-- field nodes: the node of each field below a count
+abbrev pub field_nodes : List Node → ℕ → List ℕ → List (Option ℕ)
+field_nodes nodes fields ns = map (λ (field : ℕ). node_of_field nodes field ns) (numbers_from 0 fields)
+
+-- to a list: an element or none
+abbrev pub to_list : Option ℕ → List ℕ
+to_list None = []
+to_list (Some n) = n ∷ []
+
+-- compartments of some slots
+abbrev pub compartments_of : List Node → List ℕ → List ℕ
+compartments_of nodes slots = flat_map (λ (n : ℕ). to_list (compartment_in (slice_get nodes n))) slots
+
+-- placed: an input stands at the end of its facet's list, where there is one
+abbrev pub placed : List (List ℕ) → Option ℕ → ℕ → List (List ℕ)
+placed lists None n = lists
+placed lists (Some facet) n = cond (nat_lt facet (length lists)) (set lists facet (get_or lists facet [] ++ n ∷ [])) lists
+
+-- noted: a node is noted for its field, where the field has a place and no node yet
+abbrev pub noted : List (Option ℕ) → Option ℕ → ℕ → List (Option ℕ)
+noted found None n = found
+noted found (Some field) n = cond (nat_lt field (length found)) (set found field (Some (unwrap_or (get_or found field None) n))) found
