@@ -1,0 +1,4 @@
+pub mod Colors
+pub mod Widgets
+pub mod Sides
+pub mod Places

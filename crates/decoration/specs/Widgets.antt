@@ -1,0 +1,12 @@
+-- A widget as plain data (Reference Manual: Decoration.widget).
+use Rattle.std.specs.Prelude.{ℕ, List, ℤ, pos, negsuc, ◌≤ℤ◌}
+use Rattle.decoration.specs.declared.style.Style.{Style}
+
+pub record WidgetView : Type 0 where
+  pub text : List ℕ
+  pub style : Style
+  pub side : ℤ
+
+-- a side that a widget may have: from -10000 to 10000
+abbrev pub IsSide : ℤ → Type 0
+IsSide side = (negsuc 9999 ≤ℤ side) × (side ≤ℤ pos 10000)

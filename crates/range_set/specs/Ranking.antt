@@ -1,0 +1,23 @@
+-- The order of ranges is a strict weak order, as a stable sort asks.
+use Rattle.std.proofs.Common.{◌≡◌, ℕ, Bool, true, false, ◌&&◌, ◌||◌, ℤ, arith}
+use Rattle.std.specs.Prelude.{nat_lt, ◌==◌, int_lt}
+use Rattle.std.proofs.lemmas.Bool.Decides.{nat_tests}
+use Rattle.std.proofs.lemmas.Int.{ints}
+use Rattle.std.specs.Cmp.{IsStrictWeakOrder}
+use Rattle.range_set.specs.Rules.{RangeRules}
+use Rattle.range_set.specs.Order.{before}
+
+abbrev ahead : ℕ → ℤ → ℕ → ℤ → Bool
+ahead a s b t = nat_lt a b || (a == b && int_lt s t)
+
+ahead-one_way : (a b : ℕ) (s t : ℤ) → ahead a s b t ≡ true → ahead b t a s ≡ false
+ahead-one_way a b s t h = grind (arith, ints, nat_tests)
+
+ahead-chain : (a b c : ℕ) (s t u : ℤ) → ahead a s b t ≡ false → ahead b t c u ≡ false → ahead a s c u ≡ false
+ahead-chain a b c s t u h k = grind (arith, ints, nat_tests)
+
+pub before-order : {T : Type 0} (rules : RangeRules T) → IsStrictWeakOrder (before rules)
+before-order rules = record {
+  one_way = λ x y e. ahead-one_way x.from y.from (rules.start_side x.value) (rules.start_side y.value) e;
+  chain = λ x y z e h. ahead-chain x.from y.from z.from (rules.start_side x.value) (rules.start_side y.value) (rules.start_side z.value) e h;
+}
