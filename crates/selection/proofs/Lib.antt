@@ -1,0 +1,4 @@
+pub mod SelectionOrder
+pub mod Normals
+pub mod Moves
+pub mod CreatedAgain

@@ -1,0 +1,12 @@
+use Rattle.std.proofs.Common.{◌≡◌, map, take, drop}
+use Rattle.change_desc.specs.Sections.{old_size}
+use Rattle.selection.specs.Ranges.{moved_range}
+use Rattle.selection.specs.Selections.{LieIn}
+use Rattle.selection.proofs.selection.moved_ranges.Given as goal
+
+abbrev pub invariant-loop-range : goal.invariant-loop-range
+invariant-loop-range l =
+    record {
+      moved : l.moved.items ≡ map (moved_range l.changes) (take l.range-index l.ranges);
+      inside : LieIn (old_size l.changes) (drop l.range-index l.ranges);
+    }

@@ -1,0 +1,161 @@
+ghost use Rattle.std.specs.Prelude.{IfErr, IfOk, MatchOption, [], length, map, ℕ, ◌<◌, ◌≡◌, ◌≢◌, ◌∷◌};
+ghost use Rattle.change_desc.specs.Sections.{counted, new_size, old_size};
+ghost use Rattle.selection.specs.Ranges.{moved_range};
+ghost use Rattle.selection.specs.Selections.{IsSelection, LieIn, SelectionView, first_outside, moved_selection, normal_form, range_at, selection_refusal, single_of};
+
+use crate::error::SelectionError;
+use crate::marked::{join_all, main_of, ranges_of, with_main};
+use crate::range::Range;
+use change_desc::Desc;
+use stable_order::sort_stably;
+use std::alloc::{AllocError, Global};
+use std::marker::Model;
+
+/// A selection of a document: at least one range, in normal form, of which one is the main one (Reference Manual,
+/// EditorSelection). Its ranges stand in order, and no two overlap, or touch where one is empty.
+#[derive(Drop)]
+pub struct Selection {
+    ranges: Vec<Range>,
+    main: usize,
+}
+
+impl Model for Selection {
+    ghost use Rattle.selection.specs.Selections.{IsSelection, SelectionView};
+
+    ghost Value = { SelectionView };
+
+    ghost view = { λ s. record { ranges = s.ranges.items; main = s.main } };
+
+    ghost invariant = { λ s. IsSelection (record { ranges = s.ranges.items; main = s.main }) };
+}
+
+impl Selection {
+    /// The normal form of these ranges, where the one with index `main`, counted from 0, is the main one. It is refused where
+    /// there is no range, or where `main` is none of them.
+    pub fn create(alloc: Global, ranges: &[Range], main: usize) -> Result<Selection, SelectionError>
+        ensures selection { IfOk result (λ selection. selection ≡ normal_form ranges.now main) }
+        ensures inside { IfOk result (λ selection. (len : ℕ) → LieIn len ranges.now → LieIn len selection.ranges) }
+        ensures accepted { IfOk result (λ _. selection_refusal ranges.now main ≡ None) }
+        ensures refused { IfErr result (λ error. error ≢ SelectionError.NoMemory → selection_refusal ranges.now main ≡ Some error) }
+    {
+        if ranges.is_empty() {
+            return Err(SelectionError::NoRanges);
+        }
+        if main >= ranges.len() {
+            return Err(SelectionError::BadMain {
+                main,
+                count: ranges.len(),
+            });
+        }
+        Ok(Selection::normal(alloc, ranges, main)?)
+    }
+
+    /// The normal form of ranges one of which is the main one.
+    fn normal(alloc: Global, ranges: &[Range], main: usize) -> Result<Selection, AllocError>
+        requires { main < length ranges.now }
+        ensures selection { IfOk result (λ selection. selection ≡ normal_form ranges.now main) }
+        ensures inside { IfOk result (λ selection. (len : ℕ) → LieIn len ranges.now → LieIn len selection.ranges) }
+    {
+        let mut marks = with_main(alloc, ranges, main)?;
+        sort_stably(&mut marks)?;
+        let joined = join_all(alloc, &marks)?;
+        Ok(Selection {
+            ranges: ranges_of(alloc, &joined)?,
+            main: main_of(&joined),
+        })
+    }
+
+    /// The selection of one range.
+    pub fn single(alloc: Global, anchor: u32, head: u32) -> Result<Selection, AllocError>
+        ensures { IfOk result (λ selection. selection ≡ record { ranges = record { anchor = anchor; head = head } ∷ []; main = 0 }) }
+    {
+        let mut ranges = Vec::new(alloc);
+        ranges.push(Range { anchor, head })?;
+        Ok(Selection { ranges, main: 0 })
+    }
+
+    /// The ranges, in order.
+    pub fn ranges(&self) -> &[Range]
+        ensures { result.now ≡ self.now.ranges }
+    {
+        &self.ranges
+    }
+
+    /// The index of the main range, counted from 0.
+    pub fn main_index(&self) -> usize
+        ensures value { result ≡ self.now.main }
+        ensures within { result < length self.now.ranges }
+    {
+        self.main
+    }
+
+    /// The main range.
+    pub fn main(&self) -> Range
+        ensures { result ∷ [] ≡ range_at self.now.main self.now.ranges }
+    {
+        self.ranges[self.main]
+    }
+
+    /// The main range alone (Reference Manual, EditorSelection.asSingle).
+    pub fn as_single(&self) -> Result<Selection, AllocError>
+        ensures selection { IfOk result (λ selection. selection ≡ single_of self.now) }
+        ensures inside { IfOk result (λ selection. (len : ℕ) → LieIn len self.now.ranges → LieIn len selection.ranges) }
+    {
+        let mut ranges = Vec::new(*self.ranges.allocator());
+        ranges.push(self.main())?;
+        Ok(Selection { ranges, main: 0 })
+    }
+
+    /// The selection after changes to its document, in normal form (Reference Manual, EditorSelection.map).
+    pub fn map(&self, changes: &Desc) -> Result<Selection, AllocError>
+        requires { LieIn (old_size changes.now) self.now.ranges }
+        ensures selection { IfOk result (λ selection. selection ≡ moved_selection changes.now self.now) }
+        ensures inside { IfOk result (λ selection. LieIn (new_size counted changes.now) selection.ranges) }
+    {
+        let alloc = *self.ranges.allocator();
+        let moved = moved_ranges(alloc, &self.ranges, changes)?;
+        Selection::normal(alloc, &moved, self.main)
+    }
+
+    /// A copy.
+    pub fn try_copy(&self) -> Result<Selection, AllocError>
+        ensures { IfOk result (λ copy. copy ≡ self.now) }
+    {
+        let mut ranges = Vec::new(*self.ranges.allocator());
+        ranges.extend_from_slice(&self.ranges)?;
+        Ok(Selection {
+            ranges,
+            main: self.main,
+        })
+    }
+}
+
+/// The ranges after changes to their document.
+fn moved_ranges(alloc: Global, ranges: &[Range], changes: &Desc) -> Result<Vec<Range>, AllocError>
+    requires { LieIn (old_size changes.now) ranges.now }
+    ensures { IfOk result (λ moved. moved.items ≡ map (moved_range changes.now) ranges.now) }
+{
+    let mut moved = Vec::new(alloc);
+    for range in ranges {
+        moved.push(range.map(changes))?;
+    }
+    Ok(moved)
+}
+
+/// The greater end of the first range that ends past a document of `len` characters.
+pub fn first_outside(ranges: &[Range], len: u32) -> Option<u32>
+    ensures outside { result ≡ first_outside len ranges.now }
+    ensures inside { MatchOption result (LieIn len ranges.now) (λ _. Unit {0}) }
+{
+    for range in ranges {
+        if range.to() > len {
+            return Some(range.to());
+        }
+    }
+    None
+}
+
+/// A selection made again of its ranges and its main index is the same, since it is in normal form.
+pub fn created_again()
+    ensures { (s : SelectionView) → IsSelection s → normal_form s.ranges s.main ≡ s }
+{}
