@@ -1,1 +1,4 @@
 pub mod One
+pub mod Each
+pub mod Bind
+pub mod NoFloats

@@ -1,11 +1,17 @@
 -- What is written in reply to a line: {"ok": the answer} or {"no": the refusal}, as compact JSON and a line feed.
-use Rattle.std.specs.Prelude.{ℕ, List, [], ◌∷◌, ◌++◌, codes, encode_utf8_all}
-use Rattle.serde_json.specs.Data.{Data, number, unsigned, string, object, Members, no_members, member}
+use Rattle.std.specs.Prelude.{ℕ, List, [], ◌∷◌, ◌++◌, map, codes, encode_utf8_all}
+use Rattle.serde_json.specs.Data.{Data, null, number, unsigned, string, array, object, Items, no_items, item, Members, no_members, member}
+use Rattle.serde_json.specs.View.{items_of}
 use Rattle.serde_json.specs.Written.{compact_text}
+use Rattle.change_desc.specs.declared.section.Section.{Section}
+use Rattle.change_desc.specs.declared.section.Section.TheVariants.{Keep, Replace}
+use Rattle.script.specs.declared.mapped.MappedPlace.{MappedPlace}
+use Rattle.script.specs.declared.mapped.MappedPlace.TheVariants.{NotAsked, Deleted, At}
+use Rattle.script.specs.declared.mapped.Mapped.{Mapped as MappedSet}
 use Rattle.script.specs.declared.refusal.Refusal.{Refusal}
-use Rattle.script.specs.declared.refusal.Refusal.TheVariants.{LineTooLong, NotUtf8, NotJson, NotCommand, BadValue, NoSession, BadRange, TooLong}
+use Rattle.script.specs.declared.refusal.Refusal.TheVariants.{LineTooLong, NotUtf8, NotJson, NotCommand, BadValue, NoSession, BadRange, LengthMismatch, TooLong}
 use Rattle.script.specs.declared.reply.Answer.{Answer}
-use Rattle.script.specs.declared.reply.Answer.TheVariants.{Length, Text}
+use Rattle.script.specs.declared.reply.Answer.TheVariants.{Length, Text, Mapped}
 use Rattle.script.specs.declared.reply.Reply.{Reply}
 use Rattle.script.specs.declared.reply.Reply.TheVariants.{Ok, No}
 
@@ -31,12 +37,32 @@ refusal_data (BadValue field) = coded (codes "BadValue") (member (codes "field")
 refusal_data NoSession = coded (codes "NoSession") no_members
 refusal_data (BadRange index from to len) = coded (codes "BadRange")
     (member (codes "from") (whole from) (member (codes "index") (whole index) (member (codes "len") (whole len) (member (codes "to") (whole to) no_members))))
+refusal_data (LengthMismatch want have) = coded (codes "LengthMismatch") (member (codes "have") (whole have) (member (codes "want") (whole want) no_members))
 refusal_data (TooLong len most) = coded (codes "TooLong") (member (codes "len") (whole len) (member (codes "max") (whole most) no_members))
+
+-- a section of a set of changes: n where n characters are kept, [n, text] where n characters give way to a text
+abbrev pub section_data : Section (List ℕ) → Data
+section_data (Keep n) = whole n
+section_data (Replace n text) = array (item (whole n) (item (string (encode_utf8_all text)) no_items))
+
+abbrev pub sections_data : List (Section (List ℕ)) → Items
+sections_data sections = items_of (map section_data sections)
+
+-- where a position went, if one was asked for
+abbrev pub with_place : MappedPlace → Members → Members
+with_place NotAsked ms = ms
+with_place Deleted ms = member (codes "pos") null ms
+with_place (At n) ms = member (codes "pos") (whole n) ms
+
+-- what `map` made
+abbrev pub mapped_data : MappedSet → Data
+mapped_data m = object (with_place m.place (member (codes "sections") (array (sections_data m.set)) (member (codes "text") (string (encode_utf8_all m.text)) no_members)))
 
 -- an answer
 abbrev pub answer_data : Answer → Data
 answer_data (Length len) = single (codes "length") (whole len)
 answer_data (Text text) = string (encode_utf8_all text)
+answer_data (Mapped mapped) = mapped_data mapped
 
 abbrev pub reply_data : Reply → Data
 reply_data (Ok answer) = single (codes "ok") (answer_data answer)

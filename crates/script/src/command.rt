@@ -1,23 +1,16 @@
+use crate::map_request::MapRequest;
+use crate::spec::Spec;
 use cm_plain::Str;
 
-/// A change of the document: the characters from `from` to `to` give way to the text `insert`.
-#[derive(Debug, Drop)]
-pub struct Change {
-    /// Where the replaced characters begin, counted in characters from 0.
-    pub from: u32,
-    /// Where they end. It is read as it stands and may lie before `from` or past the document.
-    pub to: u32,
-    /// The text, not yet cut at its line breaks.
-    pub insert: Str,
-}
-
 /// What a line asks for.
-#[derive(Debug, Drop)]
+#[derive(Drop)]
 pub enum Command {
     /// A new document with this text, not yet cut at its line breaks.
     Start(Str),
-    /// A change of the document, or none.
-    Update(Option<Change>),
+    /// A transaction of this spec, or of none.
+    Update(Option<Spec>),
     /// The document's text.
     Text,
+    /// A set of changes made from two lists of changes. It needs no document and changes none.
+    Map(MapRequest),
 }

@@ -1,18 +1,17 @@
 ghost use Rattle.std.specs.Prelude.{◌≡◌, [], map, option_map};
-ghost use Rattle.serde_json.specs.Data.{no_items};
 ghost use Rattle.serde_json.specs.View.{view, items_view, members_view};
-ghost use Rattle.script.specs.Reading.{Gives, bad, required, text_at, number_at, items_at, members_at, only, is_among, defaulted, at_most_item};
+ghost use Rattle.script.specs.Reading.{Gives, bad, required, optional, text_at, number_at, side_at, items_at, item_at, no_item_at, members_at, only, is_among, defaulted, at_most_item};
 
-use crate::refusal::{ReadError, Refusal};
+use crate::refusal::{LineError, Refusal};
 use cm_plain::Str;
 use serde_json::{Map, Value};
 use std::alloc::Global;
 
 /// The refusal of a member.
-pub(crate) fn refused<T>(alloc: Global, name: &str) -> Result<T, ReadError>
+pub(crate) fn refused<T>(alloc: Global, name: &str) -> Result<T, LineError>
     ensures { Gives (λ x. x) result (bad name.now) }
 {
-    Err(ReadError::Refused(Refusal::BadValue {
+    Err(LineError::Refused(Refusal::BadValue {
         field: Str::of_text(alloc, name)?,
     }))
 }
@@ -22,7 +21,7 @@ pub(crate) fn required_member<'v>(
     alloc: Global,
     name: &str,
     value: &'v Value,
-) -> Result<&'v Value, ReadError>
+) -> Result<&'v Value, LineError>
     ensures { Gives (λ v. view v.now) result (required name.now (view value.now)) }
 {
     match value.get(name) {
@@ -32,7 +31,7 @@ pub(crate) fn required_member<'v>(
 }
 
 #[tactic(auto, unfolding(crate::specs::Reading::text_at))]
-pub(crate) fn text(alloc: Global, name: &str, value: &Value) -> Result<Str, ReadError>
+pub(crate) fn text(alloc: Global, name: &str, value: &Value) -> Result<Str, LineError>
     ensures { Gives (λ x. x) result (text_at name.now (view value.now)) }
 {
     match value.as_str() {
@@ -42,7 +41,7 @@ pub(crate) fn text(alloc: Global, name: &str, value: &Value) -> Result<Str, Read
 }
 
 #[tactic(auto, unfolding(crate::specs::Reading::number_at))]
-pub(crate) fn position(alloc: Global, name: &str, value: &Value) -> Result<u32, ReadError>
+pub(crate) fn position(alloc: Global, name: &str, value: &Value) -> Result<u32, LineError>
     ensures { Gives (λ x. x) result (number_at name.now (view value.now)) }
 {
     match value.as_u64() {
@@ -56,7 +55,7 @@ pub(crate) fn items<'v>(
     alloc: Global,
     name: &str,
     value: &'v Value,
-) -> Result<&'v Vec<Value>, ReadError>
+) -> Result<&'v Vec<Value>, LineError>
     ensures { Gives (λ v. items_view v.now.items) result (items_at name.now (view value.now)) }
 {
     match value.as_array() {
@@ -70,7 +69,7 @@ pub(crate) fn members<'v>(
     alloc: Global,
     name: &str,
     value: &'v Value,
-) -> Result<&'v Map<String, Value>, ReadError>
+) -> Result<&'v Map<String, Value>, LineError>
     ensures { Gives (λ m. members_view m.now.entries) result (members_at name.now (view value.now)) }
 {
     match value.as_object() {
@@ -85,7 +84,7 @@ pub(crate) fn only_fields(
     alloc: Global,
     names: &[&str],
     members: &Map<String, Value>,
-) -> Result<(), ReadError>
+) -> Result<(), LineError>
     ensures { Gives (λ x. x) result (only (map (λ n. n.now) names.now) (members_view members.now.entries)) }
 {
     for (name, _) in members {
@@ -112,7 +111,7 @@ pub(crate) fn position_or(
     name: &str,
     value: &Value,
     otherwise: u32,
-) -> Result<u32, ReadError>
+) -> Result<u32, LineError>
     ensures { Gives (λ x. x) result (defaulted name.now number_at otherwise (view value.now)) }
 {
     match value.get(name) {
@@ -121,7 +120,7 @@ pub(crate) fn position_or(
     }
 }
 
-pub(crate) fn text_or_empty(alloc: Global, name: &str, value: &Value) -> Result<Str, ReadError>
+pub(crate) fn text_or_empty(alloc: Global, name: &str, value: &Value) -> Result<Str, LineError>
     ensures { Gives (λ x. x) result (defaulted name.now text_at [] (view value.now)) }
 {
     match value.get(name) {
@@ -130,16 +129,72 @@ pub(crate) fn text_or_empty(alloc: Global, name: &str, value: &Value) -> Result<
     }
 }
 
-pub(crate) fn items_or_none<'v>(
+/// The item of a list at this place.
+#[tactic(auto, unfolding(crate::specs::Reading::item_at))]
+pub(crate) fn required_item<'v>(
     alloc: Global,
     name: &str,
+    index: usize,
     value: &'v Value,
-) -> Result<&'v [Value], ReadError>
-    ensures { Gives (λ v. items_view v.now) result (defaulted name.now items_at no_items (view value.now)) }
+) -> Result<&'v Value, LineError>
+    ensures { Gives (λ v. view v.now) result (item_at name.now index (view value.now)) }
+{
+    match value.get(index) {
+        Some(item) => Ok(item),
+        None => refused(alloc, name),
+    }
+}
+
+/// A list has no item at this place.
+#[tactic(auto, unfolding(crate::specs::Reading::no_item_at))]
+pub(crate) fn no_item(
+    alloc: Global,
+    name: &str,
+    index: usize,
+    value: &Value,
+) -> Result<(), LineError>
+    ensures { Gives (λ x. x) result (no_item_at name.now index (view value.now)) }
+{
+    match value.get(index) {
+        Some(_) => refused(alloc, name),
+        None => Ok(()),
+    }
+}
+
+#[tactic(auto, unfolding(crate::specs::Reading::side_at))]
+pub(crate) fn side(alloc: Global, name: &str, value: &Value) -> Result<i32, LineError>
+    ensures { Gives (λ x. x) result (side_at name.now (view value.now)) }
+{
+    match value.as_i64() {
+        Some(n) if -2_147_483_648 <= n && n <= 2_147_483_647 => Ok(n as i32),
+        _ => refused(alloc, name),
+    }
+}
+
+pub(crate) fn side_or(
+    alloc: Global,
+    name: &str,
+    value: &Value,
+    otherwise: i32,
+) -> Result<i32, LineError>
+    ensures { Gives (λ x. x) result (defaulted name.now side_at otherwise (view value.now)) }
 {
     match value.get(name) {
-        Some(member) => Ok(items(alloc, name, member)?.as_slice()),
-        None => Ok(&[]),
+        Some(member) => side(alloc, name, member),
+        None => Ok(otherwise),
+    }
+}
+
+pub(crate) fn position_if_there(
+    alloc: Global,
+    name: &str,
+    value: &Value,
+) -> Result<Option<u32>, LineError>
+    ensures { Gives (λ x. x) result (optional name.now number_at (view value.now)) }
+{
+    match value.get(name) {
+        Some(member) => Ok(Some(position(alloc, name, member)?)),
+        None => Ok(None),
     }
 }
 
@@ -148,7 +203,7 @@ pub(crate) fn at_most_item<'v>(
     alloc: Global,
     name: &str,
     items: &'v [Value],
-) -> Result<Option<&'v Value>, ReadError>
+) -> Result<Option<&'v Value>, LineError>
     ensures { Gives (option_map (λ v. view v.now)) result (at_most_item name.now (items_view items.now)) }
 {
     if items.len() > 1 {

@@ -5,13 +5,25 @@
 //! for want of memory.
 #![tactic(auto)]
 
+mod change;
+mod changes_reading;
 mod command;
 mod fields;
+mod listed;
+mod map_reading;
+mod map_request;
+mod mapped;
 mod reading;
 mod refusal;
 mod reply;
+mod spec;
 
-pub use command::{Change, Command};
+pub use change::Change;
+pub use command::Command;
+pub use listed::Listed;
+pub use map_request::{MapOp, MapPlace, MapRequest, MapSets};
+pub use mapped::{Mapped, MappedPlace};
 pub use reading::command_of;
-pub use refusal::{ReadError, Refusal};
+pub use refusal::{LineError, Refusal};
 pub use reply::{Answer, Reply, reply_text};
+pub use spec::Spec;

@@ -1,31 +1,19 @@
-ghost use Rattle.serde_json.specs.View.{view, items_view, members_view};
+ghost use Rattle.serde_json.specs.View.{view, members_view};
 ghost use Rattle.script.specs.Reading.{Gives};
-ghost use Rattle.script.specs.Command.{change_of, changes_of, command_of_members, spec_of, update_of, start_of, text_of, command_named, command_of};
+ghost use Rattle.script.specs.Command.{command_of_members, spec_of, update_of, start_of, text_of, command_named, command_of};
 
-use crate::command::{Change, Command};
-use crate::fields::{
-    at_most_item, items, items_or_none, members, only_fields, position, position_or,
-    required_member, text_or_empty,
-};
-use crate::refusal::{ReadError, Refusal};
+use crate::changes_reading::changes_or_none;
+use crate::command::Command;
+use crate::fields::{at_most_item, items, members, only_fields, text_or_empty};
+use crate::map_reading::read_map;
+use crate::refusal::{LineError, Refusal};
+use crate::spec::Spec;
 use cm_plain::Str;
 use serde_json::{Map, Value};
 use std::alloc::Global;
 
-#[tactic(auto, unfolding(crate::specs::Command::change_of))]
-fn read_change(alloc: Global, value: &Value) -> Result<Change, ReadError>
-    ensures { Gives (λ x. x) result (change_of (view value.now)) }
-{
-    let members = members(alloc, "changes", value)?;
-    let from = position(alloc, "from", required_member(alloc, "from", value)?)?;
-    let to = position_or(alloc, "to", value, from)?;
-    let insert = text_or_empty(alloc, "insert", value)?;
-    only_fields(alloc, &["from", "to", "insert"], members)?;
-    Ok(Change { from, to, insert })
-}
-
 #[tactic(auto, unfolding(crate::specs::Command::start_of))]
-fn read_start(alloc: Global, value: &Value) -> Result<Command, ReadError>
+fn read_start(alloc: Global, value: &Value) -> Result<Command, LineError>
     ensures { Gives (λ x. x) result (start_of (view value.now)) }
 {
     let members = members(alloc, "start", value)?;
@@ -35,7 +23,7 @@ fn read_start(alloc: Global, value: &Value) -> Result<Command, ReadError>
 }
 
 #[tactic(auto, unfolding(crate::specs::Command::text_of))]
-fn read_text(alloc: Global, value: &Value) -> Result<Command, ReadError>
+fn read_text(alloc: Global, value: &Value) -> Result<Command, LineError>
     ensures { Gives (λ x. x) result (text_of (view value.now)) }
 {
     let members = members(alloc, "text", value)?;
@@ -43,40 +31,29 @@ fn read_text(alloc: Global, value: &Value) -> Result<Command, ReadError>
     Ok(Command::Text)
 }
 
-#[tactic(auto, unfolding(crate::specs::Command::changes_of))]
-fn read_changes(alloc: Global, items: &[Value]) -> Result<Option<Change>, ReadError>
-    ensures { Gives (λ x. x) result (changes_of (items_view items.now)) }
-{
-    match at_most_item(alloc, "changes", items)? {
-        None => Ok(None),
-        Some(item) => Ok(Some(read_change(alloc, item)?)),
-    }
-}
-
 #[tactic(auto, unfolding(crate::specs::Command::spec_of))]
-fn read_spec(alloc: Global, value: &Value) -> Result<Option<Change>, ReadError>
+fn read_spec(alloc: Global, value: &Value) -> Result<Spec, LineError>
     ensures { Gives (λ x. x) result (spec_of (view value.now)) }
 {
     let members = members(alloc, "update", value)?;
-    let items = items_or_none(alloc, "changes", value)?;
-    let change = read_changes(alloc, items)?;
+    let changes = changes_or_none(alloc, "changes", value)?;
     only_fields(alloc, &["changes"], members)?;
-    Ok(change)
+    Ok(Spec { changes })
 }
 
 #[tactic(auto, unfolding(crate::specs::Command::update_of))]
-fn read_update(alloc: Global, value: &Value) -> Result<Command, ReadError>
+fn read_update(alloc: Global, value: &Value) -> Result<Command, LineError>
     ensures { Gives (λ x. x) result (update_of (view value.now)) }
 {
     let items = items(alloc, "update", value)?;
     match at_most_item(alloc, "update", items)? {
         None => Ok(Command::Update(None)),
-        Some(only) => Ok(Command::Update(read_spec(alloc, only)?)),
+        Some(only) => Ok(Command::Update(Some(read_spec(alloc, only)?))),
     }
 }
 
 #[tactic(auto, unfolding(crate::specs::Command::command_named))]
-fn read_named(alloc: Global, name: &str, value: &Value) -> Result<Command, ReadError>
+fn read_named(alloc: Global, name: &str, value: &Value) -> Result<Command, LineError>
     ensures { Gives (λ x. x) result (command_named name.now (view value.now)) }
 {
     if name == "start" {
@@ -85,18 +62,20 @@ fn read_named(alloc: Global, name: &str, value: &Value) -> Result<Command, ReadE
         read_update(alloc, value)
     } else if name == "text" {
         read_text(alloc, value)
+    } else if name == "map" {
+        read_map(alloc, value)
     } else {
-        Err(ReadError::Refused(Refusal::NotCommand {
+        Err(LineError::Refused(Refusal::NotCommand {
             field: Str::of_text(alloc, name)?,
         }))
     }
 }
 
 #[tactic(auto, using(crate::proofs::One::not_one))]
-fn read_members(alloc: Global, members: &Map<String, Value>) -> Result<Command, ReadError>
+fn read_members(alloc: Global, members: &Map<String, Value>) -> Result<Command, LineError>
     ensures { Gives (λ x. x) result (command_of_members (members_view members.now.entries)) }
 {
-    let no_command = Err(ReadError::Refused(Refusal::NotCommand {
+    let no_command = Err(LineError::Refused(Refusal::NotCommand {
         field: Str::empty(alloc),
     }));
     if members.len() != 1 {
@@ -113,12 +92,12 @@ fn read_members(alloc: Global, members: &Map<String, Value>) -> Result<Command, 
 /// or a field is missing, of a wrong kind, out of its range or not in the command's table. The only other error is
 /// want of memory.
 #[tactic(auto, unfolding(crate::specs::Command::command_of))]
-pub fn command_of(alloc: Global, value: &Value) -> Result<Command, ReadError>
+pub fn command_of(alloc: Global, value: &Value) -> Result<Command, LineError>
     ensures { Gives (λ x. x) result (command_of (view value.now)) }
 {
     match value.as_object() {
         Some(members) => read_members(alloc, members),
-        None => Err(ReadError::Refused(Refusal::NotCommand {
+        None => Err(LineError::Refused(Refusal::NotCommand {
             field: Str::empty(alloc),
         })),
     }

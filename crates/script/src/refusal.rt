@@ -1,5 +1,5 @@
 ghost use Rattle.std.specs.Prelude.{◌≡◌};
-ghost use Rattle.script.specs.declared.refusal.ReadError.TheVariants.{NoMemory};
+ghost use Rattle.script.specs.declared.refusal.LineError.TheVariants.{NoMemory};
 
 use cm_plain::Str;
 use std::alloc::{AllocError, AllocFailed};
@@ -33,36 +33,42 @@ pub enum Refusal {
         to: u32,
         len: u32,
     },
-    /// The document would have `len` characters, which is more than `max`.
+    /// A set of changes is over a text of `have` characters where one of `want` is changed.
+    LengthMismatch {
+        want: u32,
+        have: u32,
+    },
+    /// The changed text would have `len` characters, which is more than `max`. Of the texts behind each change of a
+    /// list, this is the first one that is too long.
     TooLong {
         len: u64,
         max: u32,
     },
 }
 
-/// Why a value was not read.
+/// Why a line is not carried out.
 #[derive(Debug, Drop, Error)]
-pub enum ReadError {
+pub enum LineError {
     /// Memory was wanting.
     #[error("out of memory")]
     NoMemory,
-    /// The value is refused.
-    #[error("the value is refused")]
+    /// The line is refused.
+    #[error("the line is refused")]
     Refused(Refusal),
 }
 
-impl From<AllocError> for ReadError {
+impl From<AllocError> for LineError {
     ghost from_gives = { λ _ e. e ≡ NoMemory };
 
-    fn from(_error: AllocError) -> ReadError {
-        ReadError::NoMemory
+    fn from(_error: AllocError) -> LineError {
+        LineError::NoMemory
     }
 }
 
-impl<T: Drop> From<AllocFailed<T>> for ReadError {
+impl<T: Drop> From<AllocFailed<T>> for LineError {
     ghost from_gives = { λ _ e. e ≡ NoMemory };
 
-    fn from(_error: AllocFailed<T>) -> ReadError {
-        ReadError::NoMemory
+    fn from(_error: AllocFailed<T>) -> LineError {
+        LineError::NoMemory
     }
 }

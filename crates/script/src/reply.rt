@@ -1,28 +1,54 @@
-ghost use Rattle.std.specs.Prelude.{◌≡◌, IfOk, string_bytes};
+ghost use Rattle.std.specs.Prelude.{◌≡◌, IfOk, map, string_bytes, encode_utf8_all};
+ghost use Rattle.serde_json.specs.Data.{string};
 ghost use Rattle.serde_json.specs.View.{view};
-ghost use Rattle.script.specs.Replies.{refusal_data, answer_data, reply_data, reply_text};
+ghost use Rattle.script.specs.declared.refusal.Refusal.TheVariants.{BadRange, LengthMismatch, TooLong};
+ghost use Rattle.script.specs.Replies.{refusal_data, section_data, mapped_data, answer_data, reply_data, reply_text};
 
+use crate::mapped::{Mapped, MappedPlace};
 use crate::refusal::Refusal;
+use change_desc::Section;
+use change_set::InsertedText;
 use cm_plain::Str;
+use line_tree::Text;
 use serde_json::{Value, json};
 use std::alloc::{AllocError, Global};
 
 /// What a command that was accepted gives.
-#[derive(Debug, Drop)]
+#[derive(Drop)]
 pub enum Answer {
     /// The length of the document, in characters.
     Length(u32),
     /// The text of the document.
     Text(Str),
+    /// What `map` made.
+    Mapped(Mapped),
 }
 
 /// What is answered to a line.
-#[derive(Debug, Drop)]
+#[derive(Drop)]
 pub enum Reply {
     /// The command was done.
     Ok(Answer),
     /// The line was refused, and nothing was changed.
     No(Refusal),
+}
+
+fn range_value(alloc: Global, index: u64, from: u32, to: u32, len: u32) -> Result<Value, AllocError>
+    ensures { IfOk result (λ v. view v ≡ refusal_data (BadRange index from to len)) }
+{
+    json!(in alloc; {"code": "BadRange", "from": from, "index": index, "len": len, "to": to})
+}
+
+fn mismatch_value(alloc: Global, want: u32, have: u32) -> Result<Value, AllocError>
+    ensures { IfOk result (λ v. view v ≡ refusal_data (LengthMismatch want have)) }
+{
+    json!(in alloc; {"code": "LengthMismatch", "have": have, "want": want})
+}
+
+fn too_long_value(alloc: Global, len: u64, max: u32) -> Result<Value, AllocError>
+    ensures { IfOk result (λ v. view v ≡ refusal_data (TooLong len max)) }
+{
+    json!(in alloc; {"code": "TooLong", "len": len, "max": max})
 }
 
 fn refusal_value(alloc: Global, refusal: &Refusal) -> Result<Value, AllocError>
@@ -46,11 +72,59 @@ fn refusal_value(alloc: Global, refusal: &Refusal) -> Result<Value, AllocError>
             from,
             to,
             len,
-        } => {
-            json!(in alloc; {"code": "BadRange", "from": *from, "index": *index, "len": *len, "to": *to})
+        } => range_value(alloc, *index, *from, *to, *len),
+        Refusal::LengthMismatch { want, have } => mismatch_value(alloc, *want, *have),
+        Refusal::TooLong { len, max } => too_long_value(alloc, *len, *max),
+    }
+}
+
+fn text_value(alloc: Global, text: &Text) -> Result<Value, AllocError>
+    ensures { IfOk result (λ v. view v ≡ string (encode_utf8_all text.now.characters)) }
+{
+    let characters = text.chars()?;
+    let text = Str::of(alloc, characters.as_slice())?.text()?;
+    Value::try_from_str(alloc, text.as_str())
+}
+
+fn section_value(alloc: Global, section: &Section<InsertedText>) -> Result<Value, AllocError>
+    ensures { IfOk result (λ v. view v ≡ section_data section.now) }
+{
+    match section {
+        Section::Keep(len) => json!(in alloc; *len),
+        Section::Replace(len, text) => {
+            let text = text_value(alloc, text.text())?;
+            json!(in alloc; [*len, text])
         }
-        Refusal::TooLong { len, max } =>
-            json!(in alloc; {"code": "TooLong", "len": *len, "max": *max}),
+    }
+}
+
+fn section_values(
+    alloc: Global,
+    sections: &[Section<InsertedText>],
+) -> Result<Vec<Value>, AllocError>
+    ensures { IfOk result (λ v. map view v.items ≡ map section_data sections.now) }
+{
+    let mut values = Vec::new(alloc);
+    for section in sections {
+        values.push(section_value(alloc, section)?)?;
+    }
+    Ok(values)
+}
+
+fn mapped_value(alloc: Global, mapped: &Mapped) -> Result<Value, AllocError>
+    ensures { IfOk result (λ v. view v ≡ mapped_data mapped.now) }
+{
+    let sections = Value::Array(section_values(alloc, mapped.set.sections())?);
+    let text = mapped.text.text()?;
+    let text = text.as_str();
+    match mapped.place {
+        MappedPlace::NotAsked => json!(in alloc; {"sections": sections, "text": text}),
+        MappedPlace::Deleted => {
+            json!(in alloc; {"pos": null, "sections": sections, "text": text})
+        }
+        MappedPlace::At(pos) => {
+            json!(in alloc; {"pos": pos, "sections": sections, "text": text})
+        }
     }
 }
 
@@ -63,6 +137,7 @@ fn answer_value(alloc: Global, answer: &Answer) -> Result<Value, AllocError>
             let text = text.text()?;
             Value::try_from_str(alloc, text.as_str())
         }
+        Answer::Mapped(mapped) => mapped_value(alloc, mapped),
     }
 }
 
@@ -83,7 +158,7 @@ fn reply_value(alloc: Global, reply: &Reply) -> Result<Value, AllocError>
 
 /// The line that answers: the compact JSON text of the reply, with members in byte order of their names, and LF. The
 /// only error is want of memory.
-#[tactic(auto, unfolding(crate::specs::Replies::reply_text))]
+#[tactic(auto, using(crate::proofs::NoFloats::reply_has_none), unfolding(crate::specs::Replies::reply_text))]
 pub fn reply_text(alloc: Global, reply: &Reply) -> Result<String, AllocError>
     ensures { IfOk result (λ s. string_bytes s ≡ reply_text reply.now) }
 {

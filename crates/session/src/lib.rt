@@ -6,8 +6,10 @@
 //! memory was wanting; each status but `Ok` and `NoMemory` has its cause; a refused line changes nothing.
 #![tactic(auto)]
 
+mod changes;
 mod commands;
 mod lines;
+mod mapping;
 mod outcome;
 mod program;
 mod session;

@@ -1,11 +1,9 @@
 use crate::started::Started;
-use script::{Answer, Refusal};
+use script::Answer;
 
-/// What a line does.
+/// What a line does that isn't refused.
 #[derive(Drop)]
 pub enum Outcome {
-    /// It is refused, and nothing changes.
-    Refused(Refusal),
     /// It is answered, and nothing changes.
     Answered(Answer),
     /// It is answered, and this state takes the place of the one before.

@@ -1,13 +1,12 @@
-ghost use Rattle.std.specs.Prelude.{◌≡◌, ◌<◌, List, ℕ, length, IfOk, OnOk, OnErr, string_bytes};
+ghost use Rattle.std.specs.Prelude.{◌≡◌, ◌<◌, List, ℕ, length, IsErr, IfOk, OnOk, OnErr, string_bytes};
 ghost use Rattle.cm_outside.specs.Lines.{max_line};
 ghost use Rattle.session.specs.State.{fresh};
-ghost use Rattle.session.specs.Session.{IsRefused};
 ghost use Rattle.session.specs.Transcript.{outcome, after, reply};
 
 use crate::lines::outcome_of;
 use crate::outcome::Outcome;
 use crate::started::Started;
-use script::{Refusal, Reply, reply_text};
+use script::{LineError, Refusal, Reply, reply_text};
 use std::alloc::{AllocError, Global};
 use std::marker::Model;
 
@@ -40,13 +39,14 @@ impl Session {
     pub fn line(&mut self, line: &[u8]) -> Result<String, AllocError>
         ensures reply { IfOk result (λ r. string_bytes r ≡ reply line.now self.old) }
         ensures after { OnOk result (self.new ≡ after line.now self.old) }
-        ensures refused { IsRefused (outcome line.now self.old.state) → self.new ≡ self.old }
+        ensures refused { IsErr (outcome line.now self.old.state) → self.new ≡ self.old }
         ensures err { OnErr result (self.new ≡ self.old) }
     {
-        match outcome_of(self.alloc, line, &self.state)? {
-            Outcome::Refused(refusal) => reply_text(self.alloc, &Reply::No(refusal)),
-            Outcome::Answered(answer) => reply_text(self.alloc, &Reply::Ok(answer)),
-            Outcome::Changed(answer, state) => {
+        match outcome_of(self.alloc, line, &self.state) {
+            Err(LineError::NoMemory) => Err(AllocError),
+            Err(LineError::Refused(refusal)) => reply_text(self.alloc, &Reply::No(refusal)),
+            Ok(Outcome::Answered(answer)) => reply_text(self.alloc, &Reply::Ok(answer)),
+            Ok(Outcome::Changed(answer, state)) => {
                 let reply = reply_text(self.alloc, &Reply::Ok(answer))?;
                 self.state = Some(state);
                 Ok(reply)

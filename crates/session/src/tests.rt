@@ -81,6 +81,108 @@ fn lines_are_answered(rt: HostRuntime) -> Result<(), Fail> {
 }
 
 #[test]
+fn changes_of_one_spec_are_folded(rt: HostRuntime) -> Result<(), Fail> {
+    let cases = [
+        (
+            r#"{"start":{"doc":"abc"}}
+{"update":[{"changes":[{"from":3,"insert":"!"},{"from":0,"to":1}]}]}
+{"text":{}}"#,
+            r#"{"ok":{"length":3}}
+{"ok":{"length":3}}
+{"ok":"bc!"}
+"#,
+        ),
+        (
+            r#"{"start":{"doc":"abc"}}
+{"update":[{"changes":[{"from":0,"insert":"x"},{"from":2,"to":1}]}]}
+{"text":{}}"#,
+            r#"{"ok":{"length":3}}
+{"no":{"code":"BadRange","from":2,"index":1,"len":3,"to":1}}
+{"ok":"abc"}
+"#,
+        ),
+    ];
+    for (input, replies) in cases {
+        let (status, text) = replayed(rt.alloc(), LIMIT, input.as_bytes(), 100, &[], &[])?;
+        assert_eq!(rt; status, Status::Ok);
+        assert_eq!(rt; text.as_str(), replies, "{input}");
+    }
+    Ok(())
+}
+
+#[test]
+fn sets_are_mapped(rt: HostRuntime) -> Result<(), Fail> {
+    let cases = [
+        (
+            r#"{"map":{"doc":"ab","a":[{"from":1,"insert":"XY"}],"op":"of","pos":1,"side":-1}}"#,
+            r#"{"ok":{"pos":1,"sections":[1,[0,"XY"],1],"text":"aXYb"}}"#,
+        ),
+        (
+            r#"{"map":{"doc":"ab","a":[{"from":1,"insert":"XY"}],"op":"of","pos":1}}"#,
+            r#"{"ok":{"pos":3,"sections":[1,[0,"XY"],1],"text":"aXYb"}}"#,
+        ),
+        (
+            r#"{"map":{"doc":"abcd","a":[{"from":0,"to":2,"insert":"x"},{"from":2,"to":4,"insert":"y"}],"op":"of","pos":2}}"#,
+            r#"{"ok":{"pos":1,"sections":[[2,"x"],[2,"y"]],"text":"xy"}}"#,
+        ),
+        (
+            r#"{"map":{"doc":"abc","a":[{"from":0,"to":2,"insert":"x"},{"from":1,"to":3,"insert":"y"}],"op":"of"}}"#,
+            r#"{"ok":{"sections":[[2,"x"],[1,"y"]],"text":"xy"}}"#,
+        ),
+        (
+            r#"{"map":{"doc":"abcd","a":[{"from":0,"to":4,"insert":"xy"}],"op":"of","pos":2,"side":-1}}"#,
+            r#"{"ok":{"pos":0,"sections":[[4,"xy"]],"text":"xy"}}"#,
+        ),
+        (
+            r#"{"map":{"doc":"abcd","a":[{"from":0,"to":4,"insert":"xy"}],"op":"of","pos":2,"mode":"trackDel"}}"#,
+            r#"{"ok":{"pos":null,"sections":[[4,"xy"]],"text":"xy"}}"#,
+        ),
+        (
+            r#"{"map":{"doc":"ab","a":[{"from":1,"insert":"x"}],"b":[{"from":1,"insert":"y"}],"op":"map"}}"#,
+            r#"{"ok":{"sections":[2,[0,"y"],1],"text":"axyb"}}"#,
+        ),
+        (
+            r#"{"map":{"doc":"ab","a":[{"from":1,"insert":"y"}],"b":[{"from":1,"insert":"x"}],"op":"mapBefore"}}"#,
+            r#"{"ok":{"sections":[1,[0,"x"],2],"text":"axyb"}}"#,
+        ),
+        (
+            r#"{"map":{"doc":"abcd","a":[{"from":1,"to":3}],"b":[{"from":1,"insert":"Z"}],"op":"compose"}}"#,
+            r#"{"ok":{"sections":[1,[2,""],[0,"Z"],1],"text":"aZd"}}"#,
+        ),
+        (
+            r#"{"map":{"doc":"abcd","a":[{"from":1,"to":3}],"op":"invert"}}"#,
+            r#"{"ok":{"sections":[1,[0,"bc"],1],"text":"abcd"}}"#,
+        ),
+        (
+            r#"{"map":{"doc":"abcdef","a":[{"from":1,"to":4,"insert":"X"}],"op":"filter","protect":[[0,2]]}}"#,
+            r#"{"ok":{"sections":[2,[2,""],2],"text":"abef"}}"#,
+        ),
+        (
+            r#"{"map":{"doc":"ab","a":[],"op":"of","pos":3}}"#,
+            r#"{"no":{"code":"BadValue","field":"pos"}}"#,
+        ),
+        (
+            r#"{"map":{"doc":"ab","a":[],"b":[{"from":9}],"op":"of","pos":3}}"#,
+            r#"{"no":{"code":"BadRange","from":9,"index":0,"len":2,"to":9}}"#,
+        ),
+        (
+            r#"{"map":{"doc":"ab","a":[],"op":"of","protect":[[0]],"side":2147483648}}"#,
+            r#"{"no":{"code":"BadValue","field":"protect"}}"#,
+        ),
+        (
+            r#"{"map":{"doc":"ab","a":[],"op":"of","side":2147483648}}"#,
+            r#"{"no":{"code":"BadValue","field":"side"}}"#,
+        ),
+    ];
+    for (line, reply) in cases {
+        let (status, text) = replayed(rt.alloc(), LIMIT, line.as_bytes(), 100, &[], &[])?;
+        assert_eq!(rt; status, Status::Ok);
+        assert_eq!(rt; text.as_str().trim_end(), reply, "{line}");
+    }
+    Ok(())
+}
+
+#[test]
 fn bytes_that_are_no_text_are_refused(rt: HostRuntime) -> Result<(), Fail> {
     let (status, text) = replayed(rt.alloc(), LIMIT, b"\xff\n".as_slice(), 100, &[], &[])?;
     assert_eq!(rt; status, Status::Ok);

@@ -1,0 +1,49 @@
+-- A reply has no number with a fraction.
+use Rattle.std.proofs.Common.{◌≡◌, ℕ, List, [], ◌∷◌, false, ◌||◌, map, refl, ap}
+use Rattle.serde_json.specs.Data.{object, array, string, member, no_members}
+use Rattle.serde_json.specs.View.{items_of}
+use Rattle.serde_json.specs.Written.{has_float, items_have_float}
+use Rattle.std.specs.Prelude.{codes}
+use Rattle.change_desc.specs.declared.section.Section.{Section}
+use Rattle.change_desc.specs.declared.section.Section.TheVariants.{Keep, Replace}
+use Rattle.script.specs.declared.mapped.MappedPlace.{MappedPlace}
+use Rattle.script.specs.declared.mapped.MappedPlace.TheVariants.{NotAsked, Deleted, At}
+use Rattle.script.specs.declared.refusal.Refusal.{Refusal}
+use Rattle.script.specs.declared.refusal.Refusal.TheVariants.{LineTooLong, NotUtf8, NotJson, NotCommand, BadValue, NoSession, BadRange, LengthMismatch, TooLong}
+use Rattle.script.specs.declared.reply.Answer.{Answer}
+use Rattle.script.specs.declared.reply.Answer.TheVariants.{Length, Text, Mapped}
+use Rattle.script.specs.declared.reply.Reply.{Reply}
+use Rattle.script.specs.declared.reply.Reply.TheVariants.{Ok, No}
+use Rattle.script.specs.Replies.{section_data, with_place, refusal_data, answer_data, reply_data}
+
+sections_have_none : (sections : List (Section (List ℕ))) → items_have_float (items_of (map section_data sections)) ≡ false
+sections_have_none [] = refl
+sections_have_none (Keep n ∷ sections) = sections_have_none sections
+sections_have_none (Replace n text ∷ sections) = sections_have_none sections
+
+mapped_has_none : (place : MappedPlace) (sections : List (Section (List ℕ))) (text : List ℕ)
+    → has_float (object (with_place place (member (codes "sections") (array (items_of (map section_data sections))) (member (codes "text") (string text) no_members)))) ≡ false
+mapped_has_none NotAsked sections text = ap (λ b. b || false) (sections_have_none sections)
+mapped_has_none Deleted sections text = ap (λ b. b || false) (sections_have_none sections)
+mapped_has_none (At n) sections text = ap (λ b. b || false) (sections_have_none sections)
+
+refusal_has_none : (refusal : Refusal) → has_float (refusal_data refusal) ≡ false
+refusal_has_none LineTooLong = refl
+refusal_has_none NotUtf8 = refl
+refusal_has_none NotJson = refl
+refusal_has_none (NotCommand field) = refl
+refusal_has_none (BadValue field) = refl
+refusal_has_none NoSession = refl
+refusal_has_none (BadRange index from to len) = refl
+refusal_has_none (LengthMismatch want have) = refl
+refusal_has_none (TooLong len most) = refl
+
+answer_has_none : (answer : Answer) → has_float (answer_data answer) ≡ false
+answer_has_none (Length len) = refl
+answer_has_none (Text text) = refl
+answer_has_none (Mapped m) = mapped_has_none m.place m.set _
+
+-- no reply has one
+pub reply_has_none : (reply : Reply) → has_float (reply_data reply) ≡ false
+reply_has_none (Ok answer) = ap (λ b. b || false) (answer_has_none answer)
+reply_has_none (No refusal) = ap (λ b. b || false) (refusal_has_none refusal)

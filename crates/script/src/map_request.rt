@@ -1,0 +1,54 @@
+use crate::change::Change;
+use crate::listed::Listed;
+use change_desc::MapMode;
+use cm_plain::Str;
+
+/// How `map` puts two sets of changes together.
+#[derive(Clone, Copy, Drop)]
+pub enum MapOp {
+    /// The first set.
+    Of,
+    /// The first set, and then the second one over the text that the first one gives.
+    Compose,
+    /// The second set mapped over the first one, whose texts stand first where texts meet.
+    Map,
+    /// The second set mapped over the first one, and its own texts stand first where texts meet.
+    MapBefore,
+    /// The inverse of the first set.
+    Invert,
+    /// What stays of the first set where ranges are protected.
+    Filter,
+}
+
+/// A text and two lists of changes of it.
+#[derive(Drop)]
+pub struct MapSets {
+    /// The text, not yet cut at its line breaks.
+    pub doc: Str,
+    /// The changes of the first set, which refer to the text.
+    pub a: Listed<Change>,
+    /// The changes of the second set. They refer to the text, or under `MapOp::Compose` to the text that the first set
+    /// gives.
+    pub b: Listed<Change>,
+}
+
+/// A position that is to be mapped.
+#[derive(Drop)]
+pub struct MapPlace {
+    /// The position in characters, if one is asked for.
+    pub pos: Option<u32>,
+    /// Whether it stays before text that is inserted at it: where this is negative.
+    pub side: i32,
+    /// What it keeps track of.
+    pub mode: MapMode,
+}
+
+/// What `map` asks for.
+#[derive(Drop)]
+pub struct MapRequest {
+    pub sets: MapSets,
+    pub op: MapOp,
+    /// The protected ranges of `MapOp::Filter`, each from a position to a position, as they were given.
+    pub protect: Listed<(u32, u32)>,
+    pub place: MapPlace,
+}
