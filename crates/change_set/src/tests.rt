@@ -72,7 +72,10 @@ fn changes_of_one_document_make_one_set(rt: HostRuntime) -> Result<(), Fail> {
         &[span(alloc, 3, 3, &['!'])?, span(alloc, 0, 1, &[])?],
         3,
     )?;
-    assert_eq!(rt; applied(&rt, &set, &abc)?.as_slice(), ['b', 'c', '!'].as_slice());
+    assert_eq!(rt;
+        applied(&rt, &set, &abc)?.as_slice(),
+        ['b', 'c', '!'].as_slice()
+    );
     let set = set_of(
         alloc,
         &[span(alloc, 0, 2, &['x'])?, span(alloc, 1, 3, &['y'])?],
@@ -84,7 +87,10 @@ fn changes_of_one_document_make_one_set(rt: HostRuntime) -> Result<(), Fail> {
     );
     let again = set_of(alloc, &[Change::Set(set.try_copy()?)], 3)?;
     assert!(rt; again.same(&set));
-    assert_eq!(rt; applied(&rt, &again, &abc)?.as_slice(), ['x', 'y'].as_slice());
+    assert_eq!(rt;
+        applied(&rt, &again, &abc)?.as_slice(),
+        ['x', 'y'].as_slice()
+    );
     let none = ChangeSet::empty(alloc, 3)?;
     assert!(rt; none.is_empty() && !set.is_empty() && !none.same(&set));
     Ok(())
@@ -97,9 +103,15 @@ fn texts_at_one_place_stand_in_order(rt: HostRuntime) -> Result<(), Fail> {
     let y = set_of(alloc, &[span(alloc, 1, 1, &['y'])?], 2)?;
     let axb = text(alloc, &['a', 'x', 'b'])?;
     let after = mapped(&rt, &y, &x, false)?;
-    assert_eq!(rt; applied(&rt, &after, &axb)?.as_slice(), ['a', 'x', 'y', 'b'].as_slice());
+    assert_eq!(rt;
+        applied(&rt, &after, &axb)?.as_slice(),
+        ['a', 'x', 'y', 'b'].as_slice()
+    );
     let before = mapped(&rt, &y, &x, true)?;
-    assert_eq!(rt; applied(&rt, &before, &axb)?.as_slice(), ['a', 'y', 'x', 'b'].as_slice());
+    assert_eq!(rt;
+        applied(&rt, &before, &axb)?.as_slice(),
+        ['a', 'y', 'x', 'b'].as_slice()
+    );
     Ok(())
 }
 
@@ -120,10 +132,16 @@ fn sets_follow_each_other_and_lead_back(rt: HostRuntime) -> Result<(), Fail> {
         ]
         .as_slice()
     );
-    assert_eq!(rt; applied(&rt, &both, &abcd)?.as_slice(), ['a', 'Z', 'd'].as_slice());
+    assert_eq!(rt;
+        applied(&rt, &both, &abcd)?.as_slice(),
+        ['a', 'Z', 'd'].as_slice()
+    );
     let back = inverted(&rt, &deletion, &abcd)?;
     let ad = text(alloc, &['a', 'd'])?;
-    assert_eq!(rt; applied(&rt, &back, &ad)?.as_slice(), ['a', 'b', 'c', 'd'].as_slice());
+    assert_eq!(rt;
+        applied(&rt, &back, &ad)?.as_slice(),
+        ['a', 'b', 'c', 'd'].as_slice()
+    );
     Ok(())
 }
 

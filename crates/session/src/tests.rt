@@ -137,6 +137,18 @@ fn sets_are_mapped(rt: HostRuntime) -> Result<(), Fail> {
             r#"{"map":{"doc":"abcd","a":[{"from":0,"to":4,"insert":"xy"}],"op":"of","pos":2,"mode":"trackDel"}}"#,
             r#"{"ok":{"pos":null,"sections":[[4,"xy"]],"text":"xy"}}"#,
         ),
+    ];
+    for (line, reply) in cases {
+        let (status, text) = replayed(rt.alloc(), LIMIT, line.as_bytes(), 100, &[], &[])?;
+        assert_eq!(rt; status, Status::Ok);
+        assert_eq!(rt; text.as_str().trim_end(), reply, "{line}");
+    }
+    Ok(())
+}
+
+#[test]
+fn two_sets_are_put_together(rt: HostRuntime) -> Result<(), Fail> {
+    let cases = [
         (
             r#"{"map":{"doc":"ab","a":[{"from":1,"insert":"x"}],"b":[{"from":1,"insert":"y"}],"op":"map"}}"#,
             r#"{"ok":{"sections":[2,[0,"y"],1],"text":"axyb"}}"#,
@@ -157,6 +169,18 @@ fn sets_are_mapped(rt: HostRuntime) -> Result<(), Fail> {
             r#"{"map":{"doc":"abcdef","a":[{"from":1,"to":4,"insert":"X"}],"op":"filter","protect":[[0,2]]}}"#,
             r#"{"ok":{"sections":[2,[2,""],2],"text":"abef"}}"#,
         ),
+    ];
+    for (line, reply) in cases {
+        let (status, text) = replayed(rt.alloc(), LIMIT, line.as_bytes(), 100, &[], &[])?;
+        assert_eq!(rt; status, Status::Ok);
+        assert_eq!(rt; text.as_str().trim_end(), reply, "{line}");
+    }
+    Ok(())
+}
+
+#[test]
+fn a_wrong_map_is_refused(rt: HostRuntime) -> Result<(), Fail> {
+    let cases = [
         (
             r#"{"map":{"doc":"ab","a":[],"op":"of","pos":3}}"#,
             r#"{"no":{"code":"BadValue","field":"pos"}}"#,
