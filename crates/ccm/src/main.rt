@@ -44,6 +44,7 @@ fn main(rt: HostRuntime) -> ExitCode {
     let mut sink = StandardOutput::new(io::writer(&rt));
     let status = match words(&rt) {
         Ok(words) => run(rt.alloc(), words.as_slice(), &mut source, &mut sink),
+        Err(error) if error.kind() == io::ErrorKind::OutOfMemory => Status::NoMemory,
         Err(_) => Status::Usage,
     };
     if status != Status::Ok {

@@ -1,6 +1,7 @@
 pub mod State
 pub mod Changes
 pub mod Spans
+pub mod OneChange
 pub mod Mapping
 pub mod Session
 pub mod Transcript

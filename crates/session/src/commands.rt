@@ -1,8 +1,9 @@
-ghost use Rattle.std.specs.Prelude.{◌≡◌, Ok};
+ghost use Rattle.std.specs.Prelude.{◌≡◌, ◌≤◌, [], ◌∷◌, length, MatchOption, Ok};
 ghost use Rattle.script.specs.declared.reply.Answer.TheVariants as answers;
 ghost use Rattle.session.specs.declared.outcome.Outcome.TheVariants.{Answered};
-ghost use Rattle.line_tree.specs.Text.{cut};
+ghost use Rattle.line_tree.specs.Text.{cut, max_len};
 ghost use Rattle.script.specs.Reading.{Gives};
+ghost use Rattle.session.specs.OneChange.{one_change};
 ghost use Rattle.session.specs.Session.{put, start, update, act};
 
 use crate::changes::set_of;
@@ -30,9 +31,53 @@ fn start(alloc: Global, doc: &Str) -> Result<Outcome, LineError>
     Ok(put(Text::of(alloc, doc.chars())?))
 }
 
+/// The change of a list of one.
+fn only(changes: &[Change]) -> Option<&Change>
+    ensures { MatchOption result (Unit {0}) (λ change. changes.now ≡ change.now ∷ []) }
+{
+    if changes.len() == 1 {
+        Some(&changes[0])
+    } else {
+        None
+    }
+}
+
+/// What a list of one change does, without a set: its range is replaced.
+#[tactic(auto, using(crate::proofs::OneChange::length_replaced))]
+fn one_change(alloc: Global, change: &Change, text: &Text) -> Result<Outcome, LineError>
+    requires { length text.now.characters ≤ max_len }
+    ensures { Gives (λ o. o) result (one_change change.now text.now.characters) }
+{
+    let (from, to) = (change.from, change.to);
+    let len = text.len();
+    if from > to || to > len {
+        return Err(LineError::Refused(Refusal::BadRange {
+            index: 0,
+            from,
+            to,
+            len,
+        }));
+    }
+    let new_len = (len - (to - from)) as u64 + cut_len(change.insert.chars()) as u64;
+    if new_len > MAX_LEN as u64 {
+        return Err(LineError::Refused(Refusal::TooLong {
+            len: new_len,
+            max: MAX_LEN,
+        }));
+    }
+    let insert = Text::of(alloc, change.insert.chars())?;
+    Ok(put(text.replace(from, to, &insert)?))
+}
+
+#[tactic(auto, using(crate::proofs::OneChange::update_one))]
 fn update(alloc: Global, changes: &[Change], text: &Text) -> Result<Outcome, LineError>
     ensures { Gives (λ o. o) result (update changes.now text.now.characters) }
 {
+    if text.len() <= MAX_LEN {
+        if let Some(change) = only(changes) {
+            return one_change(alloc, change, text);
+        }
+    }
     let set = set_of(alloc, changes, text.len())?;
     Ok(put(set.apply(text)?))
 }
