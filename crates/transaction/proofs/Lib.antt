@@ -1,0 +1,4 @@
+pub mod KindMaps
+pub mod Meetings
+pub mod Joins
+pub mod Steps

@@ -1,0 +1,83 @@
+-- Two sets of changes of one document.
+use Rattle.std.proofs.Common.{◌≡◌, ℕ, ◌+◌, ◌≤◌, ◌<◌, ◌^◌, Bool, true, false, cond, ltb, List, Option, Some, None, refl, sym, ap, subst, ◌∙◌, arith}
+use Rattle.std.proofs.lemmas.Bool.Decides.{nat_tests}
+use Rattle.change_desc.specs.declared.section.Section.{Section}
+use Rattle.change_desc.specs.Sections.{spelled, counted, lengths, new_size, old_size}
+use Rattle.change_desc.specs.Columns.{Row, last, next, Fate, stays, leaves, follows, along_old}
+use Rattle.change_desc.specs.Algebra.{compose, map_over, then_also}
+use Rattle.change_desc.specs.Weaving.{merged_len}
+use Rattle.change_desc.proofs.MapLengths.{column_new, ends_new}
+use Rattle.change_desc.proofs.Measures.{new_size-map_over}
+use Rattle.change_desc.proofs.Merges.{old_size-lengths, new_size-lengths, old_size-map_over}
+use Rattle.change_set.proofs.RunningTotals.{also-size, also-old, also-meets, also-moved, also-is}
+use Rattle.transaction.specs.declared.error.TransactionError.TheVariants.{TooLong}
+use Rattle.transaction.specs.declared.meeting.Meeting.{Meeting}
+use Rattle.transaction.specs.Merging.{Changes}
+use Rattle.transaction.specs.Refusals.{too_long}
+use Rattle.transaction.specs.Meetings.{IsMeeting}
+
+-- the length of the merge is the same from both sides
+merged_len-swap : (r s : Row ℕ (Fate ℕ)) → merged_len r s ≡ merged_len s r
+merged_len-swap (last i) (last j) = omega (arith, ends_new false i j, ends_new false j i)
+merged_len-swap (last i) (next j y s) = refl
+merged_len-swap (next i x r) (last j) = refl
+merged_len-swap (next i stays r) (next j stays s) = omega (arith, column_new false i stays r j stays s, column_new false j stays s i stays r, merged_len-swap r s)
+merged_len-swap (next i stays r) (next j (leaves u) s) = omega (arith, column_new false i stays r j (leaves u) s, column_new false j (leaves u) s i stays r, merged_len-swap r s)
+merged_len-swap (next i stays r) (next j follows s) = omega (arith, column_new false i stays r j follows s, column_new false j follows s i stays r, merged_len-swap r s)
+merged_len-swap (next i (leaves t) r) (next j stays s) = omega (arith, column_new false i (leaves t) r j stays s, column_new false j stays s i (leaves t) r, merged_len-swap r s)
+merged_len-swap (next i (leaves t) r) (next j (leaves u) s) = omega (arith, column_new false i (leaves t) r j (leaves u) s, column_new false j (leaves u) s i (leaves t) r, merged_len-swap r s)
+merged_len-swap (next i (leaves t) r) (next j follows s) = omega (arith, column_new false i (leaves t) r j follows s, column_new false j follows s i (leaves t) r, merged_len-swap r s)
+merged_len-swap (next i follows r) (next j stays s) = omega (arith, column_new false i follows r j stays s, column_new false j stays s i follows r, merged_len-swap r s)
+merged_len-swap (next i follows r) (next j (leaves u) s) = omega (arith, column_new false i follows r j (leaves u) s, column_new false j (leaves u) s i follows r, merged_len-swap r s)
+merged_len-swap (next i follows r) (next j follows s) = omega (arith, column_new false i follows r j follows s, column_new false j follows s i follows r, merged_len-swap r s)
+
+pub is_long : (max n : ℕ) (total : Changes) → n ≡ new_size spelled total → max < n → too_long max total ≡ Some (TooLong n max)
+is_long max n total e l = rw (← e) (cases (ltb max n) (grind (arith, nat_tests)))
+  where
+    cases : (b : Bool) → b ≡ true → cond b (Some (TooLong n max)) None ≡ Some (TooLong n max)
+    cases true h = refl
+    cases false h = cc
+
+pub not_long : (max n : ℕ) (total : Changes) → n ≡ new_size spelled total → n ≤ max → too_long max total ≡ None
+not_long max n total e l = rw (← e) (cases (ltb max n) (grind (arith, nat_tests)))
+  where
+    cases : (b : Bool) → b ≡ false → cond b (Some (TooLong n max)) None ≡ None
+    cases false h = refl
+    cases true h = cc
+
+pub fits_by : (x y n max : ℕ) → x ≡ y → n ≡ y → n ≤ max → max < 2 ^ 32 → x < 2 ^ 32
+fits_by x y n max e f l k = omega (arith, e, f, l, k)
+
+module _ (a b : Changes) (d f : List (Section ℕ)) (e : d ≡ lengths spelled a) (g : f ≡ lengths spelled b) (h : old_size b ≡ old_size a) where
+  pub described : old_size d ≡ old_size f
+  described = ap old_size e ∙ (old_size-lengths spelled a ∙ (sym h ∙ (sym (old_size-lengths spelled b) ∙ ap old_size (sym g))))
+
+  pub meets : old_size d ≡ old_size b
+  meets = ap old_size e ∙ (old_size-lengths spelled a ∙ sym h)
+
+  pub merged-size : (n : ℕ) → ((before : Bool) → n ≡ new_size counted (map_over counted f d before)) → n ≡ new_size spelled (then_also spelled a b)
+  merged-size n k = k false ∙ also-size a b d f e g h
+
+  pub back-size : new_size counted (map_over counted d f true) ≡ new_size spelled (then_also spelled a b)
+  back-size =
+      new_size-map_over d f true ∙
+      (merged_len-swap (along_old counted f) (along_old counted d) ∙ (sym (new_size-map_over f d false) ∙ also-size a b d f e g h))
+
+  pub moved-size : new_size spelled (map_over spelled b d false) ≡ new_size spelled (then_also spelled a b)
+  moved-size = also-moved a b d e h
+
+  pub is_meeting : (max n : ℕ) (m : Meeting) (moved : Changes) → n ≤ max → ((before : Bool) → n ≡ new_size counted (map_over counted f d before)) →
+      moved ≡ map_over spelled b d false → m.over ≡ lengths spelled moved → m.back ≡ map_over counted d f true → m.changes ≡ compose spelled a moved → IsMeeting max a b m
+  is_meeting max n m moved l k p q r s =
+      let both : m.changes ≡ then_also spelled a b = s ∙ (ap (λ z. compose spelled a z) p ∙ also-is a b d e) in
+      record {
+        accepted = not_long max n (then_also spelled a b) (merged-size n k) l;
+        changes = both;
+        over = q ∙ (ap (lengths spelled) p ∙ ap (λ z. lengths spelled (map_over spelled b z false)) e);
+        back = r ∙ (ap (λ z. map_over counted z f true) e ∙ ap (λ z. map_over counted (lengths spelled a) z true) g);
+        starts = ap old_size both ∙ also-old a b h;
+        over_old = ap old_size q ∙ (old_size-lengths spelled moved ∙ (ap old_size p ∙ sym (also-meets a b d e h)));
+        over_new = ap (new_size counted) q ∙ (new_size-lengths spelled moved ∙ (ap (new_size spelled) p ∙ (also-moved a b d e h ∙ ap (new_size spelled) (sym both))));
+        back_old = ap old_size r ∙ (old_size-map_over counted d f true (sym described) ∙ (ap (new_size counted) g ∙ new_size-lengths spelled b));
+        back_new = ap (new_size counted) r ∙ (back-size ∙ ap (new_size spelled) (sym both));
+      }

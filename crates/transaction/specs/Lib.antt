@@ -1,0 +1,12 @@
+pub use Rattle.change_desc.specs.Sections
+pub use Rattle.change_desc.specs.Algebra
+pub use Rattle.change_set.specs.Changes
+pub use Rattle.selection.specs.Selections
+pub mod Specs
+pub mod Merging
+pub mod Refusals
+pub mod Lookups
+pub mod Extras
+pub mod Meetings
+pub mod Steps
+pub mod Made

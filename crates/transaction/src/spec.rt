@@ -1,0 +1,158 @@
+ghost use Rattle.std.specs.Prelude.{IfErr, IfOk, None, Option, Some, length, ◌≡◌, ◌≤◌, ◌≢◌};
+ghost use Rattle.change_desc.specs.Algebra.{of};
+ghost use Rattle.change_desc.specs.Sections.{new_size, old_size, spelled};
+ghost use Rattle.change_set.specs.Changes.{as_sets};
+ghost use Rattle.change_set.specs.Refusals.{refusal};
+ghost use Rattle.transaction.specs.Merging.{SelectionIn, given_selection, spec_draft};
+ghost use Rattle.transaction.specs.Refusals.{changes_refused, given_refusal, unknown_effect, unknown_in, unknown_refused};
+ghost use Rattle.transaction.specs.Made.{IsMade, IsMadeSelection};
+
+use crate::annotation::{Annotation, with_event};
+use crate::draft::Draft;
+use crate::effect::{Effect, first_unknown};
+use crate::effect_kinds::EffectKinds;
+use crate::error::TransactionError;
+use change_set::{Change, ChangeSet};
+use cm_plain::Str;
+use selection::{Range, Selection, SelectionError, first_outside};
+use std::alloc::{AllocError, Global};
+
+/// A selection that a spec gives: ranges as they were written, and which of them, counted from 0, is the main one. They refer
+/// to the document after the spec's own changes.
+#[derive(Drop)]
+pub struct SelectionSpec {
+    pub ranges: Vec<Range>,
+    pub main: usize,
+}
+
+/// One part of a transaction (Reference Manual, TransactionSpec).
+#[derive(Drop)]
+pub struct Spec<V> {
+    /// All refer to the spec's start document.
+    pub changes: Vec<Change>,
+    /// The selection to be set, if any.
+    pub selection: Option<SelectionSpec>,
+    /// They refer to the document after the spec's own changes.
+    pub effects: Vec<Effect<V>>,
+    pub annotations: Vec<Annotation>,
+    /// The event's name, which becomes an annotation `userEvent` behind the others.
+    pub user_event: Option<Str>,
+    /// Whether its start document is the one after the specs before it, in place of the start document of all.
+    pub sequential: bool,
+    /// Whether filters are asked.
+    pub filter: bool,
+}
+
+/// A selection that was made of a spec's ranges, or why there is none.
+#[derive(Drop)]
+pub(crate) struct MadeSelection {
+    pub(crate) selection: Option<Selection>,
+    pub(crate) refusal: Option<TransactionError>,
+}
+
+/// A spec as a draft by itself, and why its selection is refused, if it is.
+#[derive(Drop)]
+pub(crate) struct Made<V> {
+    pub(crate) draft: Draft<V>,
+    pub(crate) refusal: Option<TransactionError>,
+    pub(crate) sequential: bool,
+}
+
+impl SelectionSpec {
+    /// The selection of a document of `len` characters, or why there is none.
+    fn made(&self, alloc: Global, len: u32) -> Result<MadeSelection, AllocError>
+        ensures { IfOk result (λ made. IsMadeSelection len (Some self.now) made) }
+    {
+        match Selection::create(alloc, &self.ranges, self.main) {
+            Err(SelectionError::NoMemory) => Err(AllocError),
+            Err(error) => Ok(MadeSelection {
+                selection: None,
+                refusal: Some(TransactionError::from(error)),
+            }),
+            Ok(selection) => match first_outside(&self.ranges, len) {
+                None => Ok(MadeSelection {
+                    selection: Some(selection),
+                    refusal: None,
+                }),
+                Some(pos) => Ok(MadeSelection {
+                    selection: None,
+                    refusal: Some(TransactionError::SelectionOutside { pos, len }),
+                }),
+            },
+        }
+    }
+}
+
+/// The given selection of a document of `len` characters, if there is one.
+fn made_selection(
+    alloc: Global,
+    given: &Option<SelectionSpec>,
+    len: u32,
+) -> Result<MadeSelection, AllocError>
+    ensures { IfOk result (λ made. IsMadeSelection len given.now made) }
+{
+    match given {
+        None => Ok(MadeSelection {
+            selection: None,
+            refusal: None,
+        }),
+        Some(given) => given.made(alloc, len),
+    }
+}
+
+impl<V: Drop> Spec<V> {
+    /// The id of its first effect whose kind is not known.
+    pub(crate) fn unknown_effect(&self, kinds: &EffectKinds) -> Option<u32>
+        ensures { unknown_refused result ≡ unknown_in (length kinds.now.maps.items) self.now.effects.items }
+    {
+        first_unknown(&self.effects, kinds)
+    }
+
+    /// The spec as a draft by itself, over a document of `start` characters.
+    pub(crate) fn made(
+        self,
+        alloc: Global,
+        start: u32,
+        max: u32,
+    ) -> Result<Made<V>, TransactionError>
+        ensures made { IfOk result (λ made. IsMade start max self made) }
+        ensures refused { IfErr result (λ error. error ≢ TransactionError.NoMemory → changes_refused (refusal start max self.changes.items) ≡ Some error) }
+    {
+        let Spec {
+            changes,
+            selection,
+            effects,
+            annotations,
+            user_event,
+            sequential,
+            filter,
+        } = self;
+        let own = ChangeSet::of(alloc, &changes, start, max)?;
+        let given = made_selection(alloc, &selection, own.new_len())?;
+        let MadeSelection { selection, refusal } = given;
+        let annotations = with_event(alloc, annotations, user_event)?;
+        Ok(Made {
+            draft: Draft {
+                changes: own,
+                selection,
+                effects,
+                annotations,
+                filter,
+            },
+            refusal,
+            sequential,
+        })
+    }
+}
+
+/// The id of the first effect of some specs whose kind is not known.
+pub(crate) fn unknown_effect<V>(specs: &[Spec<V>], kinds: &EffectKinds) -> Option<u32>
+    ensures { unknown_refused result ≡ unknown_effect (length kinds.now.maps.items) specs.now }
+{
+    for spec in specs {
+        if let Some(id) = first_unknown(&spec.effects, kinds) {
+            return Some(id);
+        }
+    }
+    None
+}
