@@ -6,6 +6,8 @@
 
 mod standard_input;
 mod standard_output;
+#[cfg(test)]
+mod tests;
 
 use cm_outside::Status;
 use cm_plain::Str;
