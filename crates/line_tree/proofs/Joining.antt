@@ -1,11 +1,23 @@
 -- Lines that are joined, and what is added at their end.
-use Rattle.std.proofs.Common.{◌≡◌, ◌≢◌, ℕ, ◌<◌, List, [], ◌∷◌, ◌++◌, length, take, get_or, ◌+◌, ◌≤◌, refl, sym, ap, ◌∙◌, append_assoc, arith}
+use Rattle.std.proofs.Common.{◌≡◌, ◌≢◌, ℕ, zero, suc, ◌<◌, List, [], ◌∷◌, ◌++◌, length, take, drop, get_or, ◌+◌, ◌≤◌, refl, sym, ap, ◌∙◌, append_assoc, arith}
 use Rattle.std.proofs.lemmas.List.{length-append, length-take, take_more}
-use Rattle.line_tree.specs.Joined.{joined, HasNoBreak, AreLines}
+use Rattle.line_tree.specs.Joined.{joined, HasNoBreak, AreLines, BeginsWithBreak}
 
-pub no_break_push : (line : List ℕ) (c : ℕ) → HasNoBreak line → c ≢ 10 → HasNoBreak (line ++ c ∷ [])
-no_break_push [] c h k = (k, tt)
-no_break_push (x ∷ line) c h k = (h.0, no_break_push line c h.1 k)
+pub no_break_run : (line run : List ℕ) → HasNoBreak line → HasNoBreak run → HasNoBreak (line ++ run)
+no_break_run [] run h k = k
+no_break_run (x ∷ line) run h k = (h.0, no_break_run line run h.1 k)
+
+-- a character more of those before a break
+pub run_more : (chars : List ℕ) (i c : ℕ) → HasNoBreak (take i chars) → i < length chars → c ≡ get_or chars i c → c ≢ 10 → HasNoBreak (take (i + 1) chars)
+run_more [] i c k h is n = absurd (omega arith)
+run_more (x ∷ chars) zero c k h is n = (λ e. n (is ∙ e), tt)
+run_more (x ∷ chars) (suc i) c k h is n = let e : suc i + 1 ≡ suc (i + 1) = omega arith in rw e (k.0, run_more chars i c k.1 (omega arith) is n)
+
+-- the break that ends them
+pub break_at : (chars : List ℕ) (i c : ℕ) → i < length chars → c ≡ get_or chars i c → c ≡ 10 → BeginsWithBreak (drop i chars)
+break_at [] i c h is e = absurd (omega arith)
+break_at (x ∷ chars) zero c h is e = sym is ∙ e
+break_at (x ∷ chars) (suc i) c h is e = break_at chars i c (omega arith) is e
 
 pub are_lines_push : (lines : List (List ℕ)) (line : List ℕ) → AreLines lines → HasNoBreak line → AreLines (lines ++ line ∷ [])
 are_lines_push [] line h k = (k, tt)
@@ -47,12 +59,12 @@ ended done new_done last new_last len is d l =
     let text : joined (new_done ++ new_last ∷ []) ≡ joined (done ++ last ∷ []) ++ 10 ∷ [] = ap (λ x. joined (x ++ new_last ∷ [])) d ∙ ap (λ x. joined ((done ++ last ∷ []) ++ x ∷ [])) l ∙ joined_push done last [] in
     (rw d (are_lines_push done last is.lines is.one), rw l tt, omega (arith, is.count, ap length text, length-append (joined (done ++ last ∷ [])) (10 ∷ [])), text)
 
--- a character is added to the line
-pub added : (done : List (List ℕ)) (last new_last : List ℕ) (len c : ℕ) → IsBuilder done last len → c ≢ 10 → new_last ≡ last ++ c ∷ []
-    → AreLines done × HasNoBreak new_last × (len + 1 ≡ length (joined (done ++ new_last ∷ []))) × (joined (done ++ new_last ∷ []) ≡ joined (done ++ last ∷ []) ++ c ∷ [])
-added done last new_last len c is no_break l =
-    let text : joined (done ++ new_last ∷ []) ≡ joined (done ++ last ∷ []) ++ c ∷ [] = ap (λ x. joined (done ++ x ∷ [])) l ∙ joined_last done last (c ∷ []) in
-    (is.lines, rw l (no_break_push last c is.one no_break), omega (arith, is.count, ap length text, length-append (joined (done ++ last ∷ [])) (c ∷ [])), text)
+-- characters are added to the line
+pub added : (done : List (List ℕ)) (last new_last : List ℕ) (len : ℕ) (run : List ℕ) → IsBuilder done last len → HasNoBreak run → new_last ≡ last ++ run
+    → AreLines done × HasNoBreak new_last × (len + length run ≡ length (joined (done ++ new_last ∷ []))) × (joined (done ++ new_last ∷ []) ≡ joined (done ++ last ∷ []) ++ run)
+added done last new_last len run is no_break l =
+    let text : joined (done ++ new_last ∷ []) ≡ joined (done ++ last ∷ []) ++ run = ap (λ x. joined (done ++ x ∷ [])) l ∙ joined_last done last run in
+    (is.lines, rw l (no_break_run last run is.one no_break), omega (arith, is.count, ap length text, length-append (joined (done ++ last ∷ [])) run), text)
 
 -- a line more of those that are joined: the first, or one behind others
 pub one_more : (lines : List (List ℕ)) (i : ℕ) (line chars : List ℕ) → i < length lines → line ≡ get_or lines i line → 0 < i → chars ≡ joined (take i lines) ++ 10 ∷ [] → chars ++ line ≡ joined (take (i + 1) lines)

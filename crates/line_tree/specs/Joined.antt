@@ -1,5 +1,5 @@
 -- Lines that are joined: how the text is kept. For private clauses.
-use Rattle.std.specs.Prelude.{◌≢◌, ℕ, List, [], ◌∷◌, ◌++◌}
+use Rattle.std.specs.Prelude.{◌≡◌, ◌≢◌, ℕ, List, [], ◌∷◌, ◌++◌}
 use Rattle.line_tree.specs.Text.{line_feed}
 
 -- lines with a break between each two
@@ -15,3 +15,8 @@ HasNoBreak (c ∷ cs) = (c ≢ line_feed) × HasNoBreak cs
 abbrev pub AreLines : List (List ℕ) → Type 0
 AreLines [] = Unit {0}
 AreLines (line ∷ lines) = HasNoBreak line × AreLines lines
+
+-- characters that are none or begin with a break
+abbrev pub BeginsWithBreak : List ℕ → Type 0
+BeginsWithBreak [] = Unit {0}
+BeginsWithBreak (c ∷ cs) = c ≡ line_feed

@@ -1,6 +1,6 @@
-ghost use Rattle.std.specs.Prelude.{◌≡◌, ◌≢◌, ◌++◌, ◌+◌, ◌^◌, ◌<◌, ◌≤◌, [], ◌∷◌, length, OnOk, IfOk, IsTrue, ◌↔◌};
+ghost use Rattle.std.specs.Prelude.{◌≡◌, ◌≢◌, ◌++◌, ◌+◌, ◌^◌, ◌<◌, ◌≤◌, [], ◌∷◌, length, take, drop, OnOk, IfOk, IsTrue, ◌↔◌};
 ghost use Rattle.line_tree.specs.Text.{line_feed};
-ghost use Rattle.line_tree.specs.Joined.{joined, AreLines, HasNoBreak};
+ghost use Rattle.line_tree.specs.Joined.{joined, AreLines, HasNoBreak, BeginsWithBreak};
 
 use std::alloc::{AllocError, Global};
 use std::marker::Model;
@@ -42,6 +42,20 @@ impl LineText {
     {
         self.chars.len() as u32
     }
+}
+
+/// How many characters stand before the first LF, or in all.
+fn line_len(chars: &[char]) -> usize
+    ensures within { result ≤ length chars.now }
+    ensures in_line { HasNoBreak (take result chars.now) }
+    ensures behind { BeginsWithBreak (drop result chars.now) }
+{
+    for (index, c) in chars.iter().enumerate() {
+        if *c == '\n' {
+            return index;
+        }
+    }
+    chars.len()
 }
 
 /// A text that grows at its end.
@@ -93,14 +107,14 @@ impl Builder {
         }
     }
 
-    /// Adds a character of the line.
-    fn push_char(&mut self, c: char) -> Result<(), AllocError>
-        requires in_line { c ≢ line_feed }
-        requires fits { length self.old + 1 < 2 ^ 32 }
-        ensures { OnOk result (self.new ≡ self.old ++ c ∷ []) }
+    /// Adds characters of the line.
+    fn push_run(&mut self, run: &[char]) -> Result<(), AllocError>
+        requires in_line { HasNoBreak run.now }
+        requires fits { length self.old + length run.now < 2 ^ 32 }
+        ensures { OnOk result (self.new ≡ self.old ++ run.now) }
     {
-        self.last.push(c)?;
-        self.len += 1;
+        self.last.extend_from_slice(run)?;
+        self.len += run.len() as u32;
         Ok(())
     }
 
@@ -112,7 +126,7 @@ impl Builder {
         if c == '\n' {
             self.push_break()
         } else {
-            self.push_char(c)
+            self.push_run(&[c])
         }
     }
 
@@ -127,10 +141,18 @@ impl Builder {
         requires { length self.old + length chars.now < 2 ^ 32 }
         ensures { OnOk result (self.new ≡ self.old ++ chars.now) }
     {
-        for c in chars {
-            self.push(*c)?;
+        let mut rest = chars;
+        loop {
+            let (line, behind) = rest.split_at(line_len(rest));
+            self.push_run(line)?;
+            match behind.split_first() {
+                None => return Ok(()),
+                Some((_, next)) => {
+                    self.push_break()?;
+                    rest = next;
+                }
+            }
         }
-        Ok(())
     }
 
     pub(crate) fn finish(self) -> Result<(Vec<LineText>, u32), AllocError>

@@ -158,7 +158,7 @@ impl Text {
     pub fn chars(&self) -> Result<Vec<char>, AllocError>
         ensures { IfOk result (λ v. v.items ≡ self.now.characters) }
     {
-        let mut chars = Vec::new(*self.lines.allocator());
+        let mut chars = Vec::with_capacity(*self.lines.allocator(), self.len as usize)?;
         for (number, line) in self.lines.iter().enumerate() {
             if number > 0 {
                 chars.push('\n')?;
