@@ -1,4 +1,4 @@
-ghost use Rattle.std.specs.Prelude.{IfErr, IfOk, MatchOption, [], length, map, ℕ, ◌<◌, ◌≡◌, ◌≢◌, ◌∷◌};
+ghost use Rattle.std.specs.Prelude.{IfErr, IfOk, IsTrue, MatchOption, [], length, map, ℕ, ◌<◌, ◌≡◌, ◌≢◌, ◌∷◌, ◌↔◌};
 ghost use Rattle.change_desc.specs.Sections.{counted, new_size, old_size};
 ghost use Rattle.selection.specs.Ranges.{moved_range};
 ghost use Rattle.selection.specs.Selections.{IsSelection, LieIn, SelectionView, first_outside, moved_selection, normal_form, range_at, selection_refusal, single_of};
@@ -117,6 +117,13 @@ impl Selection {
         Selection::normal(alloc, &moved, self.main)
     }
 
+    /// Whether both have the same ranges, and the same one of them is the main one (Reference Manual, EditorSelection.eq).
+    pub fn same(&self, other: &Selection) -> bool
+        ensures { IsTrue result ↔ (self.now ≡ other.now) }
+    {
+        self.main == other.main && same_ranges(&self.ranges, &other.ranges)
+    }
+
     /// A copy.
     pub fn try_copy(&self) -> Result<Selection, AllocError>
         ensures { IfOk result (λ copy. copy ≡ self.now) }
@@ -128,6 +135,21 @@ impl Selection {
             main: self.main,
         })
     }
+}
+
+/// Whether both have the same ranges in the same order.
+fn same_ranges(left: &[Range], right: &[Range]) -> bool
+    ensures { IsTrue result ↔ (left.now ≡ right.now) }
+{
+    if left.len() != right.len() {
+        return false;
+    }
+    for (a, b) in left.iter().zip(right) {
+        if a.anchor != b.anchor || a.head != b.head {
+            return false;
+        }
+    }
+    true
 }
 
 /// The ranges after changes to their document.

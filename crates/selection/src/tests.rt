@@ -23,6 +23,7 @@ fn ranges_are_sorted_and_joined(rt: HostRuntime) -> Result<(), Fail> {
     let touching = Selection::create(rt.alloc(), [range(2, 5), range(0, 2)].as_slice(), 0)?;
     assert_eq!(rt; touching.ranges(), [range(0, 2), range(2, 5)].as_slice());
     assert_eq!(rt; touching.main_index(), 1);
+    assert!(rt; !touching.same(&selection) && selection.same(&selection.try_copy()?));
     Ok(())
 }
 
