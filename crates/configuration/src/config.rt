@@ -5,7 +5,7 @@ ghost use Rattle.configuration.specs.Resolved.{IsConfig, IsCause};
 
 use crate::config_error::ConfigError;
 use crate::defs::Defs;
-use crate::listed::Listed;
+use listed::Listed;
 use crate::ordering::ordered;
 use crate::pairs::dependency_pairs;
 use crate::present::{compartments_of, inputs_by_facet, nodes_by_field};

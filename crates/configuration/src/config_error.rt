@@ -3,7 +3,7 @@ ghost use Rattle.std.specs.Prelude.{◌≡◌};
 ghost use Rattle.configuration.specs.Causes.{of_extensions};
 ghost use Rattle.configuration.specs.declared.config_error.ConfigError.TheVariants.{NoMemory};
 
-use crate::listed::Listed;
+use listed::Listed;
 use crate::vertex::Vertex;
 use ext_tree::{ExtError, ExtId, ExtIds};
 use std::alloc::AllocError;

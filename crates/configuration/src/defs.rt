@@ -4,7 +4,7 @@ ghost use Rattle.std.specs.Prelude.{◌≡◌, ◌<◌, ◌+◌, ◌^◌, length
 use crate::facet_def::FacetDef;
 use crate::field_def::FieldDef;
 use crate::leaf_def::LeafDef;
-use crate::listed::Listed;
+use listed::Listed;
 use ext_tree::Links;
 
 /// The definitions of facets, fields and nodes, each at its id, `V` being the type of values; and what facets enable and

@@ -1,6 +1,6 @@
 // The definition of a field.
 use crate::dependency::Dependency;
-use crate::listed::Listed;
+use listed::Listed;
 
 /// The definition of a field, by rule numbers. What it provides stands in the links. (Reference Manual,
 /// StateField.define.)

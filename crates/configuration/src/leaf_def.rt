@@ -1,6 +1,6 @@
 // The definition of a node.
 use crate::dependency::Dependency;
-use crate::listed::Listed;
+use listed::Listed;
 
 /// The definition of a node of the arena, `V` being the type of values.
 #[derive(Debug, Drop)]

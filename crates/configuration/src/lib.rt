@@ -15,7 +15,6 @@ mod facet_def;
 mod field_def;
 mod kinds;
 mod leaf_def;
-mod listed;
 mod ordering;
 mod pairs;
 mod present;
@@ -28,7 +27,6 @@ pub use dependency::Dependency;
 pub use facet_def::FacetDef;
 pub use field_def::FieldDef;
 pub use leaf_def::LeafDef;
-pub use listed::Listed;
 pub use vertex::Vertex;
 
 #[cfg(test)]

@@ -5,7 +5,7 @@ ghost use Rattle.configuration.specs.Vertices.{AreOrdered};
 ghost use Rattle.configuration.specs.Causes.{IsOrderCause};
 
 use crate::config_error::ConfigError;
-use crate::listed::Listed;
+use listed::Listed;
 use crate::vertex::{Vertex, vertices_at};
 use dep_graph::{Edge, OrderError, order};
 use std::alloc::Global;
@@ -28,7 +28,7 @@ pub fn ordered(
         }
         Err(OrderError::NoMemory) => Err(ConfigError::NoMemory),
         Err(OrderError::Cycle { members }) => {
-            let members = Listed::of(vertices_at(alloc, facets, &members)?);
+            let members = Listed::new(vertices_at(alloc, facets, &members)?);
             Err(ConfigError::Cycle { members })
         }
     }

@@ -7,7 +7,7 @@ use crate::defs::Defs;
 use crate::dependency::Dependency;
 use crate::field_def::FieldDef;
 use crate::leaf_def::LeafDef;
-use crate::listed::Listed;
+use listed::Listed;
 use dep_graph::Edge;
 use ext_tree::ExtId;
 use std::alloc::{AllocError, Global};

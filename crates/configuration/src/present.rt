@@ -3,7 +3,7 @@ ghost use Rattle.std.specs.Prelude.{◌≡◌, IfOk, OnOk, map, length};
 ghost use Rattle.configuration.specs.Present.{input_lists, field_nodes, placed, noted, compartments_of};
 
 use crate::kinds::{compartment_of, facet_of, field_of};
-use crate::listed::Listed;
+use listed::Listed;
 use ext_tree::{ExtId, Node};
 use std::alloc::{AllocError, Global};
 
@@ -43,7 +43,7 @@ pub fn inputs_by_facet(
 {
     let mut inputs = Vec::new(alloc);
     for _facet in 0..facets {
-        inputs.push(Listed::of(Vec::new(alloc)))?;
+        inputs.push(Listed::new(Vec::new(alloc)))?;
     }
     for node in order {
         place(&mut inputs, facet_of(nodes, *node), *node)?;

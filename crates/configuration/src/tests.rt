@@ -79,9 +79,9 @@ fn defs_of(
     assert!(rt; facets.len() < 1000);
     assert!(rt; fields.len() < 1000);
     Ok(Defs {
-        facets: Listed::of(facets),
-        fields: Listed::of(fields),
-        leaves: Listed::of(leaves),
+        facets: Listed::new(facets),
+        fields: Listed::new(fields),
+        leaves: Listed::new(leaves),
         links: Links::empty(alloc),
     })
 }
@@ -91,7 +91,7 @@ fn computed(alloc: Global, facet: u32) -> Result<LeafDef<u32>, AllocError> {
     reads.push(Dependency::Facet(facet))?;
     Ok(LeafDef::Compute {
         rule: 4,
-        reads: Listed::of(reads),
+        reads: Listed::new(reads),
     })
 }
 
@@ -159,8 +159,8 @@ fn reading(alloc: Global, read: Dependency) -> Result<FieldDef, AllocError> {
         create: 1,
         update: 1,
         compare: 1,
-        reads: Listed::of(reads),
-        listens: Listed::of(Vec::new(alloc)),
+        reads: Listed::new(reads),
+        listens: Listed::new(Vec::new(alloc)),
     })
 }
 

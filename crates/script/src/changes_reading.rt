@@ -8,7 +8,7 @@ use crate::fields::{
     items, members, no_item, only_fields, position, position_or, required_item, required_member,
     text_or_empty,
 };
-use crate::listed::Listed;
+use listed::Listed;
 use crate::refusal::LineError;
 use serde_json::Value;
 use std::alloc::Global;

@@ -9,7 +9,6 @@ mod change;
 mod changes_reading;
 mod command;
 mod fields;
-mod listed;
 mod map_reading;
 mod map_request;
 mod mapped;
@@ -20,7 +19,6 @@ mod spec;
 
 pub use change::Change;
 pub use command::Command;
-pub use listed::Listed;
 pub use map_request::{MapOp, MapPlace, MapRequest, MapSets};
 pub use mapped::{Mapped, MappedPlace};
 pub use reading::command_of;

@@ -10,7 +10,7 @@ use crate::command::Command;
 use crate::fields::{
     members, only_fields, position_if_there, refused, required_member, side_or, text,
 };
-use crate::listed::Listed;
+use listed::Listed;
 use crate::map_request::{MapOp, MapPlace, MapRequest, MapSets};
 use crate::refusal::LineError;
 use change_desc::MapMode;

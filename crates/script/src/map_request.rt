@@ -1,5 +1,5 @@
 use crate::change::Change;
-use crate::listed::Listed;
+use listed::Listed;
 use change_desc::MapMode;
 use cm_plain::Str;
 

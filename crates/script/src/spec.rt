@@ -1,5 +1,5 @@
 use crate::change::Change;
-use crate::listed::Listed;
+use listed::Listed;
 
 /// What a transaction is to do.
 #[derive(Debug, Drop)]

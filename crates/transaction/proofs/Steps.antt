@@ -38,13 +38,13 @@ none_right (Some a) p e = cc
 
 module _ {V : Type 0} (len max : ℕ) (before : Option Changes) (s : Spec V) where
   pub refused_by_changes : (start : ℕ) (e : TransactionError) → start ≡ start_len len before s.sequential →
-      changes_refused (refusal start max s.changes.items) ≡ Some e → spec_changes_refusal len max before s ≡ Some e
+      changes_refused (refusal start max s.changes) ≡ Some e → spec_changes_refusal len max before s ≡ Some e
   refused_by_changes start e f h =
-      or_some _ (too_long max (next_total before s.sequential (own_changes len before s))) e (ap (λ n. changes_refused (refusal n max s.changes.items)) (sym f) ∙ h)
+      or_some _ (too_long max (next_total before s.sequential (own_changes len before s))) e (ap (λ n. changes_refused (refusal n max s.changes)) (sym f) ∙ h)
 
   -- the changes of a spec that was made
   made-changes : (start : ℕ) (m : Made V) → start ≡ start_len len before s.sequential → IsMade start max s m → m.draft.changes ≡ own_changes len before s
-  made-changes start m f h = h.changes ∙ ap (λ n. of spelled n (as_sets n s.changes.items)) f
+  made-changes start m f h = h.changes ∙ ap (λ n. of spelled n (as_sets n s.changes)) f
 
   made-total : (start : ℕ) (m : Made V) → start ≡ start_len len before s.sequential → IsMade start max s m →
       next_total before m.sequential m.draft.changes ≡ next_total before s.sequential (own_changes len before s)
@@ -54,7 +54,7 @@ module _ {V : Type 0} (len max : ℕ) (before : Option Changes) (s : Spec V) whe
   made-accepted : (start : ℕ) (m : Made V) → start ≡ start_len len before s.sequential → IsMade start max s m →
       spec_changes_refusal len max before s ≡ too_long max (next_total before s.sequential (own_changes len before s))
   made-accepted start m f h =
-      or_none _ _ (ap (λ n. changes_refused (refusal n max s.changes.items)) (sym f) ∙ ap changes_refused h.accepted)
+      or_none _ _ (ap (λ n. changes_refused (refusal n max s.changes)) (sym f) ∙ ap changes_refused h.accepted)
 
   pub refused_by_length : (start : ℕ) (m : Made V) (e : TransactionError) → start ≡ start_len len before s.sequential → IsMade start max s m →
       too_long max (next_total before m.sequential m.draft.changes) ≡ Some e → spec_changes_refusal len max before s ≡ Some e

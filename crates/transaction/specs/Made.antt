@@ -20,11 +20,11 @@ pub record IsMadeSelection (len : ℕ) (given : Option SelectionSpec) (m : MadeS
 
 -- the draft and the refusal are those of the spec
 pub record IsMade {V : Type 0} (start max : ℕ) (s : Spec V) (m : Made V) : Type 0 where
-  pub accepted : refusal start max s.changes.items ≡ None
-  pub changes : m.draft.changes ≡ of spelled start (as_sets start s.changes.items)
+  pub accepted : refusal start max s.changes ≡ None
+  pub changes : m.draft.changes ≡ of spelled start (as_sets start s.changes)
   pub starts : old_size m.draft.changes ≡ start
   pub short : new_size spelled m.draft.changes ≤ max
   pub refusal : m.refusal ≡ given_refusal (new_size spelled m.draft.changes) s.selection
-  pub value : m.refusal ≡ None → seen m.draft ≡ spec_draft (of spelled start (as_sets start s.changes.items)) s
+  pub value : m.refusal ≡ None → seen m.draft ≡ spec_draft (of spelled start (as_sets start s.changes)) s
   pub inside : SelectionIn (new_size spelled m.draft.changes) m.draft.selection
   pub sequential : m.sequential ≡ s.sequential

@@ -29,7 +29,7 @@ start_len len (Some total) false = len
 
 -- a spec's changes, over the document that it starts in
 abbrev pub own_changes : {V : Type 0} → (len : ℕ) → (before : Option Changes) → Spec V → Changes
-own_changes len before s = let start = start_len len before s.sequential in of spelled start (as_sets start s.changes.items)
+own_changes len before s = let start = start_len len before s.sequential in of spelled start (as_sets start s.changes)
 
 -- the changes so far and then those of one more spec, which are mapped over them where it isn't sequential
 abbrev pub next_total : (before : Option Changes) → (sequential : Bool) → (own : Changes) → Changes
@@ -47,12 +47,12 @@ changes_after len specs = fold (with_changes len) None specs
 -- the normal form of a given selection
 abbrev pub given_selection : Option SelectionSpec → Option SelectionView
 given_selection None = None
-given_selection (Some s) = Some (normal_form s.ranges.items s.main)
+given_selection (Some s) = Some (normal_form s.ranges s.main)
 
 -- a spec by itself, over the document that it starts in
 abbrev pub spec_draft : {V : Type 0} → (own : Changes) → Spec V → DraftView V
 spec_draft own s =
-    record { changes = own; selection = given_selection s.selection; effects = s.effects.items; annotations = all_annotations s; filter = s.filter }
+    record { changes = own; selection = given_selection s.selection; effects = s.effects; annotations = all_annotations s; filter = s.filter }
 
 abbrev pub or_before : {A : Type 0} → Option A → Option A → Option A
 or_before (Some a) before = Some a

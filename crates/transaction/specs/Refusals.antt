@@ -51,7 +51,7 @@ unknown_in kinds (Kind id value ∷ es) = cond (ltb id kinds) (unknown_in kinds 
 
 abbrev pub unknown_effect : {V : Type 0} → (kinds : ℕ) → List (Spec V) → Option TransactionError
 unknown_effect kinds [] = None
-unknown_effect kinds (s ∷ specs) = or_before (unknown_in kinds s.effects.items) (unknown_effect kinds specs)
+unknown_effect kinds (s ∷ specs) = or_before (unknown_in kinds s.effects) (unknown_effect kinds specs)
 
 -- the merged changes so far lead to a document that is too long
 abbrev pub too_long : (max : ℕ) → Changes → Option TransactionError
@@ -60,7 +60,7 @@ too_long max total = cond (ltb max (new_size spelled total)) (Some (TooLong (new
 -- what is wrong with a spec's own changes, and then with the merged ones
 abbrev pub spec_changes_refusal : {V : Type 0} → (len max : ℕ) → (before : Option Changes) → Spec V → Option TransactionError
 spec_changes_refusal len max before s =
-    or_before (changes_refused (refusal (start_len len before s.sequential) max s.changes.items))
+    or_before (changes_refused (refusal (start_len len before s.sequential) max s.changes))
     (too_long max (next_total before s.sequential (own_changes len before s)))
 
 -- of several specs, the first refusal of changes
@@ -73,7 +73,7 @@ changes_refusal len max before (s ∷ specs) =
 -- range, as they were given, that ends past the document
 abbrev pub given_refusal : (len : ℕ) → Option SelectionSpec → Option TransactionError
 given_refusal len None = None
-given_refusal len (Some s) = or_before (selection_refused (selection_refusal s.ranges.items s.main)) (outside_refused len (first_outside len s.ranges.items))
+given_refusal len (Some s) = or_before (selection_refused (selection_refusal s.ranges s.main)) (outside_refused len (first_outside len s.ranges))
 
 -- of several specs, the first refusal of a selection; each refers to the document after the spec's own changes
 abbrev pub selections_refusal : {V : Type 0} → (len : ℕ) → (before : Option Changes) → List (Spec V) → Option TransactionError

@@ -32,4 +32,4 @@ event_annotation (Some event) = record { kind = user_event_name; value = plain.T
 
 -- A spec's annotations: those given, and then its user event (manual: TransactionSpec.userEvent).
 abbrev pub all_annotations : {V : Type 0} → Spec V → List Annotation
-all_annotations s = s.annotations.items ++ event_annotation s.user_event
+all_annotations s = s.annotations ++ event_annotation s.user_event

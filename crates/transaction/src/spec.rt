@@ -14,6 +14,7 @@ use crate::effect_kinds::EffectKinds;
 use crate::error::TransactionError;
 use change_set::{Change, ChangeSet};
 use cm_plain::Str;
+use listed::Listed;
 use selection::{Range, Selection, SelectionError, first_outside};
 use std::alloc::{AllocError, Global};
 
@@ -21,7 +22,7 @@ use std::alloc::{AllocError, Global};
 /// to the document after the spec's own changes.
 #[derive(Drop)]
 pub struct SelectionSpec {
-    pub ranges: Vec<Range>,
+    pub ranges: Listed<Range>,
     pub main: usize,
 }
 
@@ -29,12 +30,12 @@ pub struct SelectionSpec {
 #[derive(Drop)]
 pub struct Spec<V> {
     /// All refer to the spec's start document.
-    pub changes: Vec<Change>,
+    pub changes: Listed<Change>,
     /// The selection to be set, if any.
     pub selection: Option<SelectionSpec>,
     /// They refer to the document after the spec's own changes.
-    pub effects: Vec<Effect<V>>,
-    pub annotations: Vec<Annotation>,
+    pub effects: Listed<Effect<V>>,
+    pub annotations: Listed<Annotation>,
     /// The event's name, which becomes an annotation `userEvent` behind the others.
     pub user_event: Option<Str>,
     /// Whether its start document is the one after the specs before it, in place of the start document of all.
@@ -63,13 +64,13 @@ impl SelectionSpec {
     fn made(&self, alloc: Global, len: u32) -> Result<MadeSelection, AllocError>
         ensures { IfOk result (λ made. IsMadeSelection len (Some self.now) made) }
     {
-        match Selection::create(alloc, &self.ranges, self.main) {
+        match Selection::create(alloc, self.ranges.as_slice(), self.main) {
             Err(SelectionError::NoMemory) => Err(AllocError),
             Err(error) => Ok(MadeSelection {
                 selection: None,
                 refusal: Some(TransactionError::from(error)),
             }),
-            Ok(selection) => match first_outside(&self.ranges, len) {
+            Ok(selection) => match first_outside(self.ranges.as_slice(), len) {
                 None => Ok(MadeSelection {
                     selection: Some(selection),
                     refusal: None,
@@ -103,9 +104,9 @@ fn made_selection(
 impl<V: Drop> Spec<V> {
     /// The id of its first effect whose kind is not known.
     pub(crate) fn unknown_effect(&self, kinds: &EffectKinds) -> Option<u32>
-        ensures { unknown_refused result ≡ unknown_in (length kinds.now.maps.items) self.now.effects.items }
+        ensures { unknown_refused result ≡ unknown_in (length kinds.now.maps.items) self.now.effects }
     {
-        first_unknown(&self.effects, kinds)
+        first_unknown(self.effects.as_slice(), kinds)
     }
 
     /// The spec as a draft by itself, over a document of `start` characters.
@@ -116,7 +117,7 @@ impl<V: Drop> Spec<V> {
         max: u32,
     ) -> Result<Made<V>, TransactionError>
         ensures made { IfOk result (λ made. IsMade start max self made) }
-        ensures refused { IfErr result (λ error. error ≢ TransactionError.NoMemory → changes_refused (refusal start max self.changes.items) ≡ Some error) }
+        ensures refused { IfErr result (λ error. error ≢ TransactionError.NoMemory → changes_refused (refusal start max self.changes) ≡ Some error) }
     {
         let Spec {
             changes,
@@ -127,15 +128,15 @@ impl<V: Drop> Spec<V> {
             sequential,
             filter,
         } = self;
-        let own = ChangeSet::of(alloc, &changes, start, max)?;
+        let own = ChangeSet::of(alloc, changes.as_slice(), start, max)?;
         let given = made_selection(alloc, &selection, own.new_len())?;
         let MadeSelection { selection, refusal } = given;
-        let annotations = with_event(alloc, annotations, user_event)?;
+        let annotations = with_event(alloc, annotations.into_vec(), user_event)?;
         Ok(Made {
             draft: Draft {
                 changes: own,
                 selection,
-                effects,
+                effects: effects.into_vec(),
                 annotations,
                 filter,
             },
@@ -150,7 +151,7 @@ pub(crate) fn unknown_effect<V>(specs: &[Spec<V>], kinds: &EffectKinds) -> Optio
     ensures { unknown_refused result ≡ unknown_effect (length kinds.now.maps.items) specs.now }
 {
     for spec in specs {
-        if let Some(id) = first_unknown(&spec.effects, kinds) {
+        if let Some(id) = first_unknown(spec.effects.as_slice(), kinds) {
             return Some(id);
         }
     }

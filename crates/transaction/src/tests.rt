@@ -9,6 +9,7 @@ use change_desc::Desc;
 use change_set::Change;
 use cm_plain::{Plain, Str};
 use line_tree::Text;
+use listed::Listed;
 use selection::Range;
 use std::alloc::{AllocError, Global};
 use std::test::Fail;
@@ -35,10 +36,10 @@ fn spec_of(alloc: Global, at: u32, insert: Text) -> Result<Spec<u8>, AllocError>
         insert,
     })?;
     Ok(Spec {
-        changes,
+        changes: Listed::new(changes),
         selection: None,
-        effects: Vec::new(alloc),
-        annotations: Vec::new(alloc),
+        effects: Listed::empty(alloc),
+        annotations: Listed::empty(alloc),
         user_event: None,
         sequential: false,
         filter: true,
@@ -61,7 +62,10 @@ fn specs_merge_over_one_document(rt: HostRuntime) -> Result<(), Fail> {
     let mut second = spec_of(alloc, 1, Text::of(alloc, &['y'])?)?;
     let mut ranges = Vec::new(alloc);
     ranges.push(Range { anchor: 1, head: 1 })?;
-    second.selection = Some(SelectionSpec { ranges, main: 0 });
+    second.selection = Some(SelectionSpec {
+        ranges: Listed::new(ranges),
+        main: 0,
+    });
     let draft = merged_of(alloc, vec![in alloc; first, second]?)?;
     assert_eq!(rt; draft.changes.len(), 4);
     assert_eq!(rt; draft.changes.new_len(), 6);
@@ -109,7 +113,10 @@ fn specs_are_refused(rt: HostRuntime) -> Result<(), Fail> {
     let mut outside = spec_of(alloc, 0, Text::of(alloc, &['x'])?)?;
     let mut ranges = Vec::new(alloc);
     ranges.push(Range { anchor: 9, head: 9 })?;
-    outside.selection = Some(SelectionSpec { ranges, main: 0 });
+    outside.selection = Some(SelectionSpec {
+        ranges: Listed::new(ranges),
+        main: 0,
+    });
     assert!(rt;
         matches!(
             &merged_of(alloc, vec![in alloc; outside]?),

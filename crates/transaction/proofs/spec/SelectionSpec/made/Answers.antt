@@ -6,7 +6,7 @@ use Rattle.transaction.proofs.spec.SelectionSpec.made.Goals as goal
 
 pub returns-in-None : goal.returns-in-None
 returns-in-None c =
-    let ranges = c.args.self.now.ranges.items in
+    let ranges = c.args.self.now.ranges in
     let shown = c.deref.ensures.value in
     let shown_again = c.deref-in-Ok.ensures.value in
     record {

@@ -1,8 +1,7 @@
-// A list in a field.
-use std::alloc::AllocError;
+use std::alloc::{AllocError, Global};
 use std::marker::Model;
 
-/// A list that contracts see as its elements alone.
+/// A list in a field, which clauses see as its items alone.
 #[derive(Debug, Drop)]
 pub struct Listed<T> {
     items: Vec<T>,
@@ -19,21 +18,37 @@ impl<T> Model for Listed<T> {
 impl<T> Listed<T> {
     ghost use Rattle.std.specs.Prelude.{◌≡◌, ◌++◌, ◌∷◌, [], OnOk, OnErr};
 
-    /// The list of these elements. Takes no memory.
-    pub fn of(items: Vec<T>) -> Self
+    /// The list of these items, in order. Takes no memory.
+    pub fn new(items: Vec<T>) -> Listed<T>
         ensures { result ≡ items.items }
     {
         Listed { items }
     }
 
-    /// The elements in order. Takes no memory.
+    /// The list of no items. Takes no memory.
+    pub fn empty(alloc: Global) -> Listed<T>
+        ensures { result ≡ [] }
+    {
+        Listed {
+            items: Vec::new(alloc),
+        }
+    }
+
+    /// The items, in order. Takes no memory.
     pub fn as_slice(&self) -> &[T]
         ensures { result.now ≡ self.now }
     {
-        &self.items
+        self.items.as_slice()
     }
 
-    /// Adds an element at the end. After want of memory the list is as before.
+    /// The items as a vector. Takes no memory.
+    pub fn into_vec(self) -> Vec<T>
+        ensures { result.items ≡ self }
+    {
+        self.items
+    }
+
+    /// Adds an item at the end. After want of memory the list is as before.
     pub fn push(&mut self, item: T) -> Result<(), AllocError>
     where
         T: Drop,
