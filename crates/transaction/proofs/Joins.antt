@@ -1,8 +1,8 @@
 -- A draft and what is merged with it, in parts.
-use Rattle.std.proofs.Common.{◌≡◌, ℕ, ◌≤◌, List, ◌++◌, Option, Some, None, refl, sym, ap, subst, ◌∙◌}
+use Rattle.std.proofs.Common.{◌≡◌, ℕ, List, Option, refl, sym, ap, subst, ◌∙◌}
 use Rattle.change_desc.specs.declared.section.Section.{Section}
 use Rattle.change_desc.specs.Sections.{spelled, counted, lengths, new_size, old_size}
-use Rattle.change_desc.specs.Algebra.{compose, map_over, then_also}
+use Rattle.change_desc.specs.Algebra.{compose}
 use Rattle.change_desc.proofs.Merges.{old_size-lengths, new_size-lengths}
 use Rattle.selection.specs.Selections.{SelectionView}
 use Rattle.transaction.specs.declared.draft.Draft.{Draft}

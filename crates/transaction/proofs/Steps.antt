@@ -1,5 +1,5 @@
 -- One more spec, and several in a row.
-use Rattle.std.proofs.Common.{◌≡◌, ℕ, ◌≤◌, ◌<◌, Bool, true, false, List, [], ◌∷◌, fold, Option, Some, None, refl, sym, ap, subst, ◌∙◌, arith}
+use Rattle.std.proofs.Common.{◌≡◌, ℕ, ◌≤◌, Bool, true, false, List, [], ◌∷◌, fold, Option, Some, None, refl, sym, ap, subst, ◌∙◌}
 use Rattle.change_desc.specs.Sections.{spelled, new_size, old_size}
 use Rattle.change_desc.specs.Algebra.{of}
 use Rattle.change_set.specs.Changes.{as_sets}
@@ -9,11 +9,11 @@ use Rattle.transaction.specs.declared.draft.Draft.{Draft}
 use Rattle.transaction.specs.declared.error.TransactionError.{TransactionError}
 use Rattle.transaction.specs.declared.spec.Made.{Made}
 use Rattle.transaction.specs.declared.spec.Spec.{Spec}
-use Rattle.transaction.specs.Specs.{DraftView, seen}
+use Rattle.transaction.specs.Specs.{seen}
 use Rattle.transaction.specs.Merging.{Changes, IsDraft, ValueMap, joined, merged, next_draft, next_total, or_before, or_empty, own_changes, spec_draft, start_len, with_spec}
 use Rattle.transaction.specs.Refusals.{changes_refusal, changes_refused, given_refusal, selections_refusal, spec_changes_refusal, specs_refusal, too_long, unknown_effect}
 use Rattle.transaction.specs.Made.{IsMade}
-use Rattle.transaction.specs.Steps.{Advances, Follows, IsBefore, Progress, changes_seen, joined_behind, seen_before}
+use Rattle.transaction.specs.Steps.{Advances, Follows, Progress, changes_seen, joined_behind, seen_before}
 use Rattle.transaction.proofs.Meetings.{not_long}
 
 or_some : {A : Type 0} (o p : Option A) (a : A) → o ≡ Some a → or_before o p ≡ Some a

@@ -1,5 +1,5 @@
 -- What is looked up in a draft's annotations (manual: Transaction.annotation, Transaction.isUserEvent).
-use Rattle.std.specs.Prelude.{◌≡◌, ℕ, Bool, true, false, cond, eqb, ◌&&◌, List, [], ◌∷◌, Option, Some, None}
+use Rattle.std.specs.Prelude.{ℕ, Bool, true, false, cond, eqb, ◌&&◌, List, [], ◌∷◌, Option, Some, None}
 use Rattle.cm_plain.specs.declared.plain.Plain.{Plain}
 use Rattle.cm_plain.specs.declared.plain.Plain.TheVariants as plain
 use Rattle.transaction.specs.declared.annotation.Annotation.{Annotation}

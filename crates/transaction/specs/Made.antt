@@ -1,5 +1,5 @@
 -- What private clauses say of a spec that was made into a draft by itself.
-use Rattle.std.specs.Prelude.{◌≡◌, ℕ, ◌≤◌, List, Option, Some, None}
+use Rattle.std.specs.Prelude.{◌≡◌, ℕ, ◌≤◌, Option, None}
 use Rattle.change_desc.specs.Sections.{spelled, new_size, old_size}
 use Rattle.change_desc.specs.Algebra.{of}
 use Rattle.change_set.specs.Changes.{as_sets}
@@ -9,7 +9,7 @@ use Rattle.transaction.specs.declared.spec.MadeSelection.{MadeSelection}
 use Rattle.transaction.specs.declared.spec.SelectionSpec.{SelectionSpec}
 use Rattle.transaction.specs.declared.spec.Spec.{Spec}
 use Rattle.transaction.specs.Specs.{seen}
-use Rattle.transaction.specs.Merging.{Changes, SelectionIn, given_selection, spec_draft}
+use Rattle.transaction.specs.Merging.{SelectionIn, given_selection, spec_draft}
 use Rattle.transaction.specs.Refusals.{given_refusal}
 
 -- the selection and the refusal are those of the given ranges

@@ -1,5 +1,5 @@
 -- What private clauses say of two sets of changes of one document.
-use Rattle.std.specs.Prelude.{◌≡◌, ℕ, true, false, List, Option, None}
+use Rattle.std.specs.Prelude.{◌≡◌, ℕ, true, false, None}
 use Rattle.change_desc.specs.Sections.{spelled, counted, lengths, new_size, old_size}
 use Rattle.change_desc.specs.Algebra.{map_over, then_also}
 use Rattle.transaction.specs.declared.meeting.Meeting.{Meeting}

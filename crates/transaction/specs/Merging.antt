@@ -1,17 +1,16 @@
 -- How specs are merged into one draft (manual: TransactionSpec, EditorState.update).
-use Rattle.std.specs.Prelude.{◌≡◌, ℕ, zero, suc, Bool, true, false, cond, ltb, not, ◌&&◌, List, [], ◌∷◌, ◌++◌, length, fold, filter_map, Option, Some, None, option_map}
+use Rattle.std.specs.Prelude.{◌≡◌, ℕ, zero, suc, Bool, true, false, ◌&&◌, List, [], ◌∷◌, ◌++◌, fold, filter_map, Option, Some, None}
 use Rattle.change_desc.specs.declared.section.Section.{Section}
 use Rattle.change_desc.specs.declared.section.Section.TheVariants.{Keep}
 use Rattle.change_desc.specs.Sections.{spelled, counted, lengths, new_size, old_size, normal}
 use Rattle.change_desc.specs.Algebra.{compose, map_over, of, then_also}
 use Rattle.change_set.specs.Changes.{as_sets}
 use Rattle.selection.specs.Selections.{LieIn, SelectionView, moved_selection, normal_form}
-use Rattle.transaction.specs.declared.draft.Draft.{Draft}
 use Rattle.transaction.specs.declared.effect.Effect.{Effect}
 use Rattle.transaction.specs.declared.effect.Effect.TheVariants.{Kind}
 use Rattle.transaction.specs.declared.spec.Spec.{Spec}
 use Rattle.transaction.specs.declared.spec.SelectionSpec.{SelectionSpec}
-use Rattle.transaction.specs.Specs.{DraftView, all_annotations, seen}
+use Rattle.transaction.specs.Specs.{DraftView, all_annotations}
 
 -- a set of changes over a document
 abbrev pub Changes : Type 0

@@ -1,5 +1,5 @@
 -- Which specs are refused, and with which values.
-use Rattle.std.specs.Prelude.{ℕ, zero, suc, Bool, true, false, cond, ltb, leb, List, [], ◌∷◌, length, Option, Some, None, option_map}
+use Rattle.std.specs.Prelude.{ℕ, cond, ltb, List, [], ◌∷◌, Option, Some, None}
 use Rattle.change_desc.specs.Sections.{spelled, new_size}
 use Rattle.change_set.specs.Refusals.{refusal}
 use Rattle.change_set.specs.declared.error.ChangesError.{ChangesError}
@@ -7,7 +7,6 @@ use Rattle.change_set.specs.declared.error.ChangesError.TheVariants as changes_e
 use Rattle.selection.specs.Selections.{first_outside, selection_refusal}
 use Rattle.selection.specs.declared.error.SelectionError.{SelectionError}
 use Rattle.selection.specs.declared.error.SelectionError.TheVariants as selection_error
-use Rattle.selection.specs.declared.range.Range.{Range}
 use Rattle.transaction.specs.declared.effect.Effect.{Effect}
 use Rattle.transaction.specs.declared.effect.Effect.TheVariants.{Kind}
 use Rattle.transaction.specs.declared.spec.Spec.{Spec}

@@ -1,8 +1,7 @@
 -- Specs and drafts as plain data (manual: TransactionSpec, Transaction).
-use Rattle.std.specs.Prelude.{ℕ, Bool, true, List, [], ◌∷◌, ◌++◌, map, Option, Some, None, option_map}
+use Rattle.std.specs.Prelude.{ℕ, Bool, List, [], ◌∷◌, ◌++◌, Option, Some, None}
 use Rattle.change_desc.specs.declared.section.Section.{Section}
 use Rattle.cm_plain.specs.declared.plain.Plain.TheVariants as plain
-use Rattle.selection.specs.declared.range.Range.{Range}
 use Rattle.selection.specs.Selections.{SelectionView}
 use Rattle.transaction.specs.declared.annotation.Annotation.{Annotation}
 use Rattle.transaction.specs.declared.draft.Draft.{Draft}

@@ -1,4 +1,4 @@
-use Rattle.std.proofs.Common.{◌≡◌, ◌≤◌, ◌<◌, ◌^◌, sym, ap, ◌∙◌, arith}
+use Rattle.std.proofs.Common.{◌≤◌, ◌<◌, ◌^◌, sym, ap, ◌∙◌, arith}
 use Rattle.transaction.proofs.Meetings.{described, meets, merged-size, back-size, moved-size, is_long, is_meeting, fits_by}
 use Rattle.change_set.proofs.RunningTotals.{also-meets}
 use Rattle.change_desc.specs.Sections.{spelled, old_size}

@@ -1,14 +1,12 @@
-use Rattle.std.proofs.Common.{◌≡◌, Some, None, subst, sym, ap, refl, ◌∙◌}
-use Rattle.selection.specs.Selections.{LieIn, first_outside, normal_form, selection_refusal}
-use Rattle.transaction.specs.Refusals.{outside_refused, selection_refused}
-use Rattle.transaction.specs.Merging.{or_before}
+use Rattle.std.proofs.Common.{◌≡◌, Some, None, sym, ap, refl}
+use Rattle.selection.specs.Selections.{first_outside, selection_refusal}
 use Rattle.transaction.proofs.spec.SelectionSpec.made.Goals as goal
 
 pub returns-in-None : goal.returns-in-None
 returns-in-None c =
     let ranges = c.args.self.now.ranges in
-    let shown = c.deref.ensures.value in
-    let shown_again = c.deref-in-Ok.ensures.value in
+    let shown = c.as_slice.ensures in
+    let shown_again = c.as_slice-in-Ok.ensures in
     record {
       refusal =
           let a : selection_refusal ranges c.args.self.now.main ≡ None = rw (← shown) c.in-Ok.ensures.accepted in
