@@ -2,3 +2,4 @@ pub mod SelectionOrder
 pub mod Normals
 pub mod Moves
 pub mod CreatedAgain
+pub mod Alone

@@ -114,6 +114,12 @@ impl Selection {
     {
         let alloc = *self.ranges.allocator();
         let moved = moved_ranges(alloc, &self.ranges, changes)?;
+        if moved.len() == 1 {
+            return Ok(Selection {
+                ranges: moved,
+                main: 0,
+            });
+        }
         Selection::normal(alloc, &moved, self.main)
     }
 
