@@ -6,20 +6,25 @@ use Rattle.serde_json.specs.Written.{has_float, items_have_float}
 use Rattle.std.specs.Prelude.{codes}
 use Rattle.change_desc.specs.declared.section.Section.{Section}
 use Rattle.change_desc.specs.declared.section.Section.TheVariants.{Keep, Replace}
+use Rattle.selection.specs.declared.range.Range.{Range}
 use Rattle.script.specs.declared.mapped.MappedPlace.{MappedPlace}
 use Rattle.script.specs.declared.mapped.MappedPlace.TheVariants.{NotAsked, Deleted, At}
 use Rattle.script.specs.declared.refusal.Refusal.{Refusal}
-use Rattle.script.specs.declared.refusal.Refusal.TheVariants.{LineTooLong, NotUtf8, NotJson, NotCommand, BadValue, NoSession, BadRange, LengthMismatch, TooLong}
+use Rattle.script.specs.declared.refusal.Refusal.TheVariants.{LineTooLong, NotUtf8, NotJson, NotCommand, BadValue, NoSession, BadRange, LengthMismatch, TooLong, NoRanges, BadMain, SelectionOutside}
 use Rattle.script.specs.declared.reply.Answer.{Answer}
-use Rattle.script.specs.declared.reply.Answer.TheVariants.{Length, Text, Mapped}
+use Rattle.script.specs.declared.reply.Answer.TheVariants.{Length, Text, Selection, Mapped}
 use Rattle.script.specs.declared.reply.Reply.{Reply}
 use Rattle.script.specs.declared.reply.Reply.TheVariants.{Ok, No}
-use Rattle.script.specs.Replies.{section_data, with_place, refusal_data, answer_data, reply_data}
+use Rattle.script.specs.Replies.{section_data, range_data, with_place, refusal_data, answer_data, reply_data}
 
 sections_have_none : (sections : List (Section (List ℕ))) → items_have_float (items_of (map section_data sections)) ≡ false
 sections_have_none [] = refl
 sections_have_none (Keep n ∷ sections) = sections_have_none sections
 sections_have_none (Replace n text ∷ sections) = sections_have_none sections
+
+ranges_have_none : (ranges : List Range) → items_have_float (items_of (map range_data ranges)) ≡ false
+ranges_have_none [] = refl
+ranges_have_none (r ∷ ranges) = ranges_have_none ranges
 
 mapped_has_none : (place : MappedPlace) (sections : List (Section (List ℕ))) (text : List ℕ)
     → has_float (object (with_place place (member (codes "sections") (array (items_of (map section_data sections))) (member (codes "text") (string text) no_members)))) ≡ false
@@ -37,10 +42,14 @@ refusal_has_none NoSession = refl
 refusal_has_none (BadRange index from to len) = refl
 refusal_has_none (LengthMismatch want have) = refl
 refusal_has_none (TooLong len most) = refl
+refusal_has_none NoRanges = refl
+refusal_has_none (BadMain main count) = refl
+refusal_has_none (SelectionOutside at len) = refl
 
 answer_has_none : (answer : Answer) → has_float (answer_data answer) ≡ false
 answer_has_none (Length len) = refl
 answer_has_none (Text text) = refl
+answer_has_none (Selection selection) = ap (λ b. b || false) (ranges_have_none selection.ranges)
 answer_has_none (Mapped m) = mapped_has_none m.place m.set _
 
 -- no reply has one

@@ -1,7 +1,10 @@
 -- The command of a value: an object with one member, whose name is that of the command and whose value is its argument.
-use Rattle.std.specs.Prelude.{ℕ, List, [], ◌∷◌, Option, Some, None, Result, Ok, Err, if◌then◌else◌, codes, pos}
+use Rattle.std.specs.Prelude.{ℕ, List, [], ◌∷◌, Option, Result, Ok, Err, Bool, true, false, if◌then◌else◌, codes, pos, option_map}
 use Rattle.std.specs.Str.{chars, bytes_eq}
 use Rattle.serde_json.specs.Data.{Data, null, boolean, number, string, array, object, Members, no_members, member}
+use Rattle.selection.specs.declared.range.Range.{Range}
+use Rattle.transaction.specs.declared.annotation.Annotation.{Annotation}
+use Rattle.transaction.specs.declared.spec.SelectionSpec.{SelectionSpec}
 use Rattle.change_desc.specs.declared.map_mode.MapMode.TheVariants.{Simple}
 use Rattle.script.specs.declared.refusal.Refusal.{Refusal}
 use Rattle.script.specs.declared.refusal.Refusal.TheVariants.{NotCommand}
@@ -11,8 +14,9 @@ use Rattle.script.specs.declared.map_request.MapSets.{MapSets}
 use Rattle.script.specs.declared.map_request.MapPlace.{MapPlace}
 use Rattle.script.specs.declared.map_request.MapOp.{MapOp}
 use Rattle.script.specs.declared.command.Command.{Command}
-use Rattle.script.specs.declared.command.Command.TheVariants.{Start, Update, Text, Map}
-use Rattle.script.specs.Reading.{◌>>=◌, required, defaulted, optional, text_at, number_at, side_at, items_at, item_at, no_item_at, members_at, only, each, at_most_item}
+use Rattle.script.specs.declared.command.Command.TheVariants.{Start, Update, Text, Selection, Map}
+use Rattle.script.specs.Reading.{◌>>=◌, required, defaulted, optional, text_at, number_at, side_at, flag_at, items_at, item_at, no_item_at, members_at, only, each}
+use Rattle.script.specs.Values.{value_at}
 use Rattle.script.specs.Words.{op_at, mode_at}
 
 -- an item of a list of changes, {from, to (default from), insert (default "")}
@@ -44,33 +48,90 @@ range_of name d = do
 unfoldable pub ranges_at : List ℕ → Data → Result (List (ℕ × ℕ)) Refusal
 ranges_at name d = items_at name d >>= each (range_of name)
 
--- a spec, {changes (default [])}
+-- an item of a list of ranges that are selected, [anchor, head]
+unfoldable pub selected_of : List ℕ → Data → Result Range Refusal
+selected_of name d = range_of name d >>= λ ends. Ok (record { anchor = ends.0; head = ends.1 })
+
+-- a list of ranges that are selected
+unfoldable pub selected_at : List ℕ → Data → Result (List Range) Refusal
+selected_at name d = items_at name d >>= each (selected_of name)
+
+-- which range is the main one, counted from 0: {main (default 0)}
+unfoldable pub main_of : Data → Result ℕ Refusal
+main_of d = defaulted (codes "main") number_at 0 d
+
+abbrev pub with_main : ℕ → List Range → SelectionSpec
+with_main main ranges = record { ranges = ranges; main = main }
+
+-- the selection of a new document: {selection (default [[0, 0]]), main}
+unfoldable pub first_selection_of : Data → Result SelectionSpec Refusal
+first_selection_of d = do
+  ranges ← defaulted (codes "selection") selected_at (record { anchor = 0; head = 0 } ∷ []) d
+  main ← main_of d
+  Ok (with_main main ranges)
+
+-- the selection of a spec: {selection (default none), main}
+unfoldable pub given_selection_of : Data → Result (Option SelectionSpec) Refusal
+given_selection_of d = do
+  ranges ← optional (codes "selection") selected_at d
+  main ← main_of d
+  Ok (option_map (with_main main) ranges)
+
+-- an item of a list of annotations, {type, value}
+unfoldable pub annotation_of : List ℕ → Data → Result Annotation Refusal
+annotation_of name d = do
+  members ← members_at name d
+  word ← required (codes "type") d
+  kind ← text_at (codes "type") word
+  given ← required (codes "value") d
+  value ← value_at (codes "value") given
+  known ← only (codes "type" ∷ codes "value" ∷ []) members
+  Ok (record { kind = kind; value = value })
+
+-- a list of annotations
+unfoldable pub annotations_at : List ℕ → Data → Result (List Annotation) Refusal
+annotations_at name d = items_at name d >>= each (annotation_of name)
+
+-- what a spec says beside its changes and its selection: {annotations (default []), userEvent (default none)}
+unfoldable pub notes_of : Data → Result (List Annotation × Option (List ℕ)) Refusal
+notes_of d = do
+  annotations ← defaulted (codes "annotations") annotations_at [] d
+  event ← optional (codes "userEvent") text_at d
+  Ok (annotations, event)
+
+-- how a spec is taken: {sequential (default false), filter (default true)}
+unfoldable pub flags_of : Data → Result (Bool × Bool) Refusal
+flags_of d = do
+  sequential ← defaulted (codes "sequential") flag_at false d
+  filter ← defaulted (codes "filter") flag_at true d
+  Ok (sequential, filter)
+
+-- a spec, {changes (default []), selection, main, annotations, userEvent, sequential, filter}
 unfoldable pub spec_of : Data → Result Spec Refusal
 spec_of d = do
   members ← members_at (codes "update") d
   changes ← defaulted (codes "changes") changes_at [] d
-  known ← only (codes "changes" ∷ []) members
-  Ok (record { changes = changes })
+  selection ← given_selection_of d
+  notes ← notes_of d
+  flags ← flags_of d
+  known ← only (codes "changes" ∷ codes "selection" ∷ codes "main" ∷ codes "annotations" ∷ codes "userEvent" ∷ codes "sequential" ∷ codes "filter" ∷ []) members
+  Ok (record { changes = changes; selection = selection; annotations = notes.0; user_event = notes.1; sequential = flags.0; filter = flags.1 })
 
-abbrev pub if_spec : Option Data → Result (Option Spec) Refusal
-if_spec None = Ok None
-if_spec (Some d) = spec_of d >>= λ spec. Ok (Some spec)
-
--- `update`: a list of at most one spec
+-- `update`: a list of specs
 unfoldable pub update_of : Data → Result Command Refusal
 update_of d = do
   items ← items_at (codes "update") d
-  first ← at_most_item (codes "update") items
-  spec ← if_spec first
-  Ok (Update spec)
+  specs ← each spec_of items
+  Ok (Update specs)
 
--- `start`: {doc (default "")}
+-- `start`: {doc (default ""), selection, main}
 unfoldable pub start_of : Data → Result Command Refusal
 start_of d = do
   members ← members_at (codes "start") d
   doc ← defaulted (codes "doc") text_at [] d
-  known ← only (codes "doc" ∷ []) members
-  Ok (Start doc)
+  selection ← first_selection_of d
+  known ← only (codes "doc" ∷ codes "selection" ∷ codes "main" ∷ []) members
+  Ok (Start (record { doc = doc; selection = selection }))
 
 -- `text`: {}
 unfoldable pub text_of : Data → Result Command Refusal
@@ -78,6 +139,13 @@ text_of d = do
   members ← members_at (codes "text") d
   known ← only [] members
   Ok Text
+
+-- `selection`: {}
+unfoldable pub selection_of : Data → Result Command Refusal
+selection_of d = do
+  members ← members_at (codes "selection") d
+  known ← only [] members
+  Ok Selection
 
 -- the first fields of `map`: {doc, a, b (default [])}
 unfoldable pub map_sets_of : Data → Result MapSets Refusal
@@ -121,8 +189,9 @@ command_named name d =
     if bytes_eq name (codes "start") then start_of d
     else (if bytes_eq name (codes "update") then update_of d
     else (if bytes_eq name (codes "text") then text_of d
+    else (if bytes_eq name (codes "selection") then selection_of d
     else (if bytes_eq name (codes "map") then map_of d
-    else Err (NotCommand (chars name)))))
+    else Err (NotCommand (chars name))))))
 
 abbrev pub command_of_members : Members → Result Command Refusal
 command_of_members no_members = Err (NotCommand [])

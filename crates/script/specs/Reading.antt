@@ -4,7 +4,7 @@
 use Rattle.std.specs.Prelude.{◌≡◌, ℕ, ◌^◌, ℤ, pos, negsuc, int_le, ◌&&◌, List, [], ◌∷◌, Bool, false, ◌||◌, nat_lt, Option, Some, None, Result, Ok, Err, if◌then◌else◌, option_map, option_and_then, ⊤}
 use Rattle.std.specs.Str.{chars, bytes_eq}
 use Rattle.serde_json.specs.Data.{Data, Items, no_items, item, Members, no_members, member}
-use Rattle.serde_json.specs.Find.{get, at, as_str, as_number, as_u64, as_i64, as_array, as_object}
+use Rattle.serde_json.specs.Find.{get, at, as_bool, as_str, as_number, as_u64, as_i64, as_array, as_object}
 use Rattle.script.specs.declared.refusal.Refusal.{Refusal}
 use Rattle.script.specs.declared.refusal.Refusal.TheVariants.{BadValue}
 use Rattle.script.specs.declared.refusal.LineError.{LineError}
@@ -70,6 +70,10 @@ fits_i32 n = if int_le (negsuc 2147483647) n && int_le n (pos 2147483647) then S
 unfoldable pub side_at : List ℕ → Data → Result ℤ Refusal
 side_at name d = or_bad name (option_and_then fits_i32 (option_and_then as_i64 (as_number d)))
 
+-- true or false
+unfoldable pub flag_at : List ℕ → Data → Result Bool Refusal
+flag_at name d = or_bad name (as_bool d)
+
 -- a list
 unfoldable pub items_at : List ℕ → Data → Result Items Refusal
 items_at name d = or_bad name (as_array d)
@@ -106,9 +110,3 @@ each read (item d ds) = do
   first ← read d
   others ← each read ds
   Ok (first ∷ others)
-
--- the item of a list of at most one; a longer list is refused
-abbrev pub at_most_item : List ℕ → Items → Result (Option Data) Refusal
-at_most_item name no_items = Ok None
-at_most_item name (item d no_items) = Ok (Some d)
-at_most_item name (item d (item e ds)) = bad name

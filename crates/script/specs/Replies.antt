@@ -5,13 +5,15 @@ use Rattle.serde_json.specs.View.{items_of}
 use Rattle.serde_json.specs.Written.{compact_text}
 use Rattle.change_desc.specs.declared.section.Section.{Section}
 use Rattle.change_desc.specs.declared.section.Section.TheVariants.{Keep, Replace}
+use Rattle.selection.specs.Selections.{SelectionView}
+use Rattle.selection.specs.declared.range.Range.{Range}
 use Rattle.script.specs.declared.mapped.MappedPlace.{MappedPlace}
 use Rattle.script.specs.declared.mapped.MappedPlace.TheVariants.{NotAsked, Deleted, At}
-use Rattle.script.specs.declared.mapped.Mapped.{Mapped as MappedSet}
+use Rattle.script.specs.declared.mapped.MappedParts.{MappedParts}
 use Rattle.script.specs.declared.refusal.Refusal.{Refusal}
-use Rattle.script.specs.declared.refusal.Refusal.TheVariants.{LineTooLong, NotUtf8, NotJson, NotCommand, BadValue, NoSession, BadRange, LengthMismatch, TooLong}
+use Rattle.script.specs.declared.refusal.Refusal.TheVariants.{LineTooLong, NotUtf8, NotJson, NotCommand, BadValue, NoSession, BadRange, LengthMismatch, TooLong, NoRanges, BadMain, SelectionOutside}
 use Rattle.script.specs.declared.reply.Answer.{Answer}
-use Rattle.script.specs.declared.reply.Answer.TheVariants.{Length, Text, Mapped}
+use Rattle.script.specs.declared.reply.Answer.TheVariants.{Length, Text, Selection, Mapped}
 use Rattle.script.specs.declared.reply.Reply.{Reply}
 use Rattle.script.specs.declared.reply.Reply.TheVariants.{Ok, No}
 
@@ -39,6 +41,9 @@ refusal_data (BadRange index from to len) = coded (codes "BadRange")
     (member (codes "from") (whole from) (member (codes "index") (whole index) (member (codes "len") (whole len) (member (codes "to") (whole to) no_members))))
 refusal_data (LengthMismatch want have) = coded (codes "LengthMismatch") (member (codes "have") (whole have) (member (codes "want") (whole want) no_members))
 refusal_data (TooLong len most) = coded (codes "TooLong") (member (codes "len") (whole len) (member (codes "max") (whole most) no_members))
+refusal_data NoRanges = coded (codes "NoRanges") no_members
+refusal_data (BadMain main count) = coded (codes "BadMain") (member (codes "count") (whole count) (member (codes "main") (whole main) no_members))
+refusal_data (SelectionOutside at len) = coded (codes "SelectionOutside") (member (codes "len") (whole len) (member (codes "pos") (whole at) no_members))
 
 -- a section of a set of changes: n where n characters are kept, [n, text] where n characters give way to a text
 abbrev pub section_data : Section (List ℕ) → Data
@@ -48,6 +53,14 @@ section_data (Replace n text) = array (item (whole n) (item (string (encode_utf8
 abbrev pub sections_data : List (Section (List ℕ)) → Items
 sections_data sections = items_of (map section_data sections)
 
+-- a range of a selection: [anchor, head]
+abbrev pub range_data : Range → Data
+range_data r = array (item (whole r.anchor) (item (whole r.head) no_items))
+
+-- a selection: its ranges, and which of them is the main one
+abbrev pub selection_data : SelectionView → Data
+selection_data s = object (member (codes "main") (whole s.main) (member (codes "ranges") (array (items_of (map range_data s.ranges))) no_members))
+
 -- where a position went, if one was asked for
 abbrev pub with_place : MappedPlace → Members → Members
 with_place NotAsked ms = ms
@@ -55,13 +68,14 @@ with_place Deleted ms = member (codes "pos") null ms
 with_place (At n) ms = member (codes "pos") (whole n) ms
 
 -- what `map` made
-abbrev pub mapped_data : MappedSet → Data
+abbrev pub mapped_data : MappedParts → Data
 mapped_data m = object (with_place m.place (member (codes "sections") (array (sections_data m.set)) (member (codes "text") (string (encode_utf8_all m.text)) no_members)))
 
 -- an answer
 abbrev pub answer_data : Answer → Data
 answer_data (Length len) = single (codes "length") (whole len)
 answer_data (Text text) = string (encode_utf8_all text)
+answer_data (Selection selection) = selection_data selection
 answer_data (Mapped mapped) = mapped_data mapped
 
 abbrev pub reply_data : Reply → Data

@@ -8,8 +8,8 @@ use crate::fields::{
     items, members, no_item, only_fields, position, position_or, required_item, required_member,
     text_or_empty,
 };
-use listed::Listed;
 use crate::refusal::LineError;
+use listed::Listed;
 use serde_json::Value;
 use std::alloc::Global;
 
@@ -28,7 +28,7 @@ fn read_change(alloc: Global, name: &str, value: &Value) -> Result<Change, LineE
 fn read_each_change(alloc: Global, name: &str, items: &[Value]) -> Result<Vec<Change>, LineError>
     ensures { Gives (λ v. v.items) result (each (change_of name.now) (items_view items.now)) }
 {
-    let mut changes = Vec::new(alloc);
+    let mut changes = Vec::with_capacity(alloc, items.len())?;
     for item in items {
         changes.push(read_change(alloc, name, item)?)?;
     }
@@ -54,12 +54,12 @@ pub(crate) fn changes_or_none(
 {
     match value.get(name) {
         Some(member) => changes(alloc, name, member),
-        None => Ok(Listed::new(Vec::new(alloc))),
+        None => Ok(Listed::empty(alloc)),
     }
 }
 
 #[tactic(auto, unfolding(crate::specs::Command::range_of))]
-fn read_range(alloc: Global, name: &str, value: &Value) -> Result<(u32, u32), LineError>
+pub(crate) fn read_range(alloc: Global, name: &str, value: &Value) -> Result<(u32, u32), LineError>
     ensures { Gives (λ x. x) result (range_of name.now (view value.now)) }
 {
     let from = position(alloc, name, required_item(alloc, name, 0, value)?)?;
@@ -71,7 +71,7 @@ fn read_range(alloc: Global, name: &str, value: &Value) -> Result<(u32, u32), Li
 fn read_each_range(alloc: Global, name: &str, items: &[Value]) -> Result<Vec<(u32, u32)>, LineError>
     ensures { Gives (λ v. v.items) result (each (range_of name.now) (items_view items.now)) }
 {
-    let mut ranges = Vec::new(alloc);
+    let mut ranges = Vec::with_capacity(alloc, items.len())?;
     for item in items {
         ranges.push(read_range(alloc, name, item)?)?;
     }
@@ -97,6 +97,6 @@ pub(crate) fn ranges_or_none(
 {
     match value.get(name) {
         Some(member) => ranges(alloc, name, member),
-        None => Ok(Listed::new(Vec::new(alloc))),
+        None => Ok(Listed::empty(alloc)),
     }
 }

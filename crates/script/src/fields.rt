@@ -1,6 +1,6 @@
-ghost use Rattle.std.specs.Prelude.{◌≡◌, [], map, option_map};
+ghost use Rattle.std.specs.Prelude.{◌≡◌, [], map};
 ghost use Rattle.serde_json.specs.View.{view, items_view, members_view};
-ghost use Rattle.script.specs.Reading.{Gives, bad, required, optional, text_at, number_at, side_at, items_at, item_at, no_item_at, members_at, only, is_among, defaulted, at_most_item};
+ghost use Rattle.script.specs.Reading.{Gives, bad, required, optional, text_at, number_at, side_at, items_at, item_at, no_item_at, members_at, only, is_among, defaulted, flag_at};
 
 use crate::refusal::{LineError, Refusal};
 use cm_plain::Str;
@@ -198,16 +198,39 @@ pub(crate) fn position_if_there(
     }
 }
 
-#[tactic(auto, using(crate::proofs::One::too_many))]
-pub(crate) fn at_most_item<'v>(
+pub(crate) fn text_if_there(
     alloc: Global,
     name: &str,
-    items: &'v [Value],
-) -> Result<Option<&'v Value>, LineError>
-    ensures { Gives (option_map (λ v. view v.now)) result (at_most_item name.now (items_view items.now)) }
+    value: &Value,
+) -> Result<Option<Str>, LineError>
+    ensures { Gives (λ x. x) result (optional name.now text_at (view value.now)) }
 {
-    if items.len() > 1 {
-        return refused(alloc, name);
+    match value.get(name) {
+        Some(member) => Ok(Some(text(alloc, name, member)?)),
+        None => Ok(None),
     }
-    Ok(items.first())
+}
+
+#[tactic(auto, unfolding(crate::specs::Reading::flag_at))]
+pub(crate) fn flag(alloc: Global, name: &str, value: &Value) -> Result<bool, LineError>
+    ensures { Gives (λ x. x) result (flag_at name.now (view value.now)) }
+{
+    match value.as_bool() {
+        Some(flag) => Ok(flag),
+        None => refused(alloc, name),
+    }
+}
+
+pub(crate) fn flag_or(
+    alloc: Global,
+    name: &str,
+    value: &Value,
+    otherwise: bool,
+) -> Result<bool, LineError>
+    ensures { Gives (λ x. x) result (defaulted name.now flag_at otherwise (view value.now)) }
+{
+    match value.get(name) {
+        Some(member) => flag(alloc, name, member),
+        None => Ok(otherwise),
+    }
 }

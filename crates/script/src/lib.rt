@@ -5,6 +5,7 @@
 //! for want of memory.
 #![tactic(auto)]
 
+mod annotation_reading;
 mod change;
 mod changes_reading;
 mod command;
@@ -15,13 +16,20 @@ mod mapped;
 mod reading;
 mod refusal;
 mod reply;
+mod selection_reading;
 mod spec;
+mod spec_reading;
+mod start_request;
+#[cfg(test)]
+mod tests;
+mod value_reading;
 
 pub use change::Change;
 pub use command::Command;
-pub use map_request::{MapOp, MapPlace, MapRequest, MapSets};
-pub use mapped::{Mapped, MappedPlace};
+pub use map_request::{MapOp, MapParts, MapPlace, MapRequest, MapSets};
+pub use mapped::{Mapped, MappedParts, MappedPlace};
 pub use reading::command_of;
 pub use refusal::{LineError, Refusal};
 pub use reply::{Answer, Reply, reply_text};
 pub use spec::Spec;
+pub use start_request::StartRequest;

@@ -10,10 +10,10 @@ use crate::command::Command;
 use crate::fields::{
     members, only_fields, position_if_there, refused, required_member, side_or, text,
 };
-use listed::Listed;
-use crate::map_request::{MapOp, MapPlace, MapRequest, MapSets};
+use crate::map_request::{MapOp, MapParts, MapPlace, MapRequest, MapSets};
 use crate::refusal::LineError;
 use change_desc::MapMode;
+use listed::Listed;
 use serde_json::Value;
 use std::alloc::Global;
 
@@ -125,10 +125,11 @@ pub(crate) fn read_map(alloc: Global, value: &Value) -> Result<Command, LineErro
         &["doc", "a", "b", "op", "protect", "pos", "side", "mode"],
         members,
     )?;
-    Ok(Command::Map(MapRequest {
+    let parts = MapParts {
         sets,
         op,
         protect,
         place,
-    }))
+    };
+    Ok(Command::Map(MapRequest::new(alloc, parts)?))
 }

@@ -1,7 +1,11 @@
+ghost use Rattle.std.specs.Prelude.{◌≡◌, IfOk};
+
 use crate::change::Change;
-use listed::Listed;
 use change_desc::MapMode;
 use cm_plain::Str;
+use listed::Listed;
+use std::alloc::{AllocError, Global};
+use std::marker::Model;
 
 /// How `map` puts two sets of changes together.
 #[derive(Clone, Copy, Drop)]
@@ -43,12 +47,43 @@ pub struct MapPlace {
     pub mode: MapMode,
 }
 
-/// What `map` asks for.
+/// The parts of what `map` asks for.
 #[derive(Drop)]
-pub struct MapRequest {
+pub struct MapParts {
     pub sets: MapSets,
     pub op: MapOp,
     /// The protected ranges of `MapOp::Filter`, each from a position to a position, as they were given.
     pub protect: Listed<(u32, u32)>,
     pub place: MapPlace,
+}
+
+/// What `map` asks for, kept in one place, so that it is as small as the other commands.
+#[derive(Drop)]
+pub struct MapRequest {
+    parts: Box<MapParts>,
+}
+
+impl Model for MapRequest {
+    ghost use Rattle.script.specs.declared.map_request.MapParts.{MapParts};
+
+    ghost Value = { MapParts };
+
+    ghost view = { λ r. r.parts.value };
+}
+
+impl MapRequest {
+    /// The request with these parts. `Err`: memory was wanting.
+    pub fn new(alloc: Global, parts: MapParts) -> Result<MapRequest, AllocError>
+        ensures { IfOk result (λ r. r ≡ parts) }
+    {
+        let parts = Box::new(alloc, parts)?;
+        Ok(MapRequest { parts })
+    }
+
+    /// Its parts. Takes no memory.
+    pub fn parts(&self) -> &MapParts
+        ensures { result.now ≡ self.now }
+    {
+        &self.parts
+    }
 }

@@ -1,5 +1,9 @@
+ghost use Rattle.std.specs.Prelude.{◌≡◌, IfOk};
+
 use change_set::ChangeSet;
 use cm_plain::Str;
+use std::alloc::{AllocError, Global};
+use std::marker::Model;
 
 /// Where a position went.
 #[derive(Clone, Copy, Drop)]
@@ -12,13 +16,44 @@ pub enum MappedPlace {
     At(u32),
 }
 
-/// What `map` answers.
+/// The parts of what `map` answers.
 #[derive(Drop)]
-pub struct Mapped {
+pub struct MappedParts {
     /// The set of changes.
     pub set: ChangeSet,
     /// The text that it leads to, or under the inverse of a set the text that this set changes.
     pub text: Str,
     /// Where the position that was asked for went.
     pub place: MappedPlace,
+}
+
+/// What `map` answers, kept in one place, so that it is as small as the other answers.
+#[derive(Drop)]
+pub struct Mapped {
+    parts: Box<MappedParts>,
+}
+
+impl Model for Mapped {
+    ghost use Rattle.script.specs.declared.mapped.MappedParts.{MappedParts};
+
+    ghost Value = { MappedParts };
+
+    ghost view = { λ m. m.parts.value };
+}
+
+impl Mapped {
+    /// The answer with these parts. `Err`: memory was wanting.
+    pub fn new(alloc: Global, parts: MappedParts) -> Result<Mapped, AllocError>
+        ensures { IfOk result (λ m. m ≡ parts) }
+    {
+        let parts = Box::new(alloc, parts)?;
+        Ok(Mapped { parts })
+    }
+
+    /// Its parts. Takes no memory.
+    pub fn parts(&self) -> &MappedParts
+        ensures { result.now ≡ self.now }
+    {
+        &self.parts
+    }
 }

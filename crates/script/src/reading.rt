@@ -1,13 +1,14 @@
 ghost use Rattle.serde_json.specs.View.{view, members_view};
 ghost use Rattle.script.specs.Reading.{Gives};
-ghost use Rattle.script.specs.Command.{command_of_members, spec_of, update_of, start_of, text_of, command_named, command_of};
+ghost use Rattle.script.specs.Command.{command_of_members, start_of, text_of, selection_of, command_named, command_of};
 
-use crate::changes_reading::changes_or_none;
 use crate::command::Command;
-use crate::fields::{at_most_item, items, members, only_fields, text_or_empty};
+use crate::fields::{members, only_fields, text_or_empty};
 use crate::map_reading::read_map;
 use crate::refusal::{LineError, Refusal};
-use crate::spec::Spec;
+use crate::selection_reading::first_selection;
+use crate::spec_reading::read_update;
+use crate::start_request::StartRequest;
 use cm_plain::Str;
 use serde_json::{Map, Value};
 use std::alloc::Global;
@@ -18,8 +19,9 @@ fn read_start(alloc: Global, value: &Value) -> Result<Command, LineError>
 {
     let members = members(alloc, "start", value)?;
     let doc = text_or_empty(alloc, "doc", value)?;
-    only_fields(alloc, &["doc"], members)?;
-    Ok(Command::Start(doc))
+    let selection = first_selection(alloc, value)?;
+    only_fields(alloc, &["doc", "selection", "main"], members)?;
+    Ok(Command::Start(StartRequest { doc, selection }))
 }
 
 #[tactic(auto, unfolding(crate::specs::Command::text_of))]
@@ -31,25 +33,13 @@ fn read_text(alloc: Global, value: &Value) -> Result<Command, LineError>
     Ok(Command::Text)
 }
 
-#[tactic(auto, unfolding(crate::specs::Command::spec_of))]
-fn read_spec(alloc: Global, value: &Value) -> Result<Spec, LineError>
-    ensures { Gives (λ x. x) result (spec_of (view value.now)) }
+#[tactic(auto, unfolding(crate::specs::Command::selection_of))]
+fn read_selection(alloc: Global, value: &Value) -> Result<Command, LineError>
+    ensures { Gives (λ x. x) result (selection_of (view value.now)) }
 {
-    let members = members(alloc, "update", value)?;
-    let changes = changes_or_none(alloc, "changes", value)?;
-    only_fields(alloc, &["changes"], members)?;
-    Ok(Spec { changes })
-}
-
-#[tactic(auto, unfolding(crate::specs::Command::update_of))]
-fn read_update(alloc: Global, value: &Value) -> Result<Command, LineError>
-    ensures { Gives (λ x. x) result (update_of (view value.now)) }
-{
-    let items = items(alloc, "update", value)?;
-    match at_most_item(alloc, "update", items)? {
-        None => Ok(Command::Update(None)),
-        Some(only) => Ok(Command::Update(Some(read_spec(alloc, only)?))),
-    }
+    let members = members(alloc, "selection", value)?;
+    only_fields(alloc, &[], members)?;
+    Ok(Command::Selection)
 }
 
 #[tactic(auto, unfolding(crate::specs::Command::command_named))]
@@ -62,6 +52,8 @@ fn read_named(alloc: Global, name: &str, value: &Value) -> Result<Command, LineE
         read_update(alloc, value)
     } else if name == "text" {
         read_text(alloc, value)
+    } else if name == "selection" {
+        read_selection(alloc, value)
     } else if name == "map" {
         read_map(alloc, value)
     } else {

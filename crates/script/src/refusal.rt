@@ -44,6 +44,19 @@ pub enum Refusal {
         len: u64,
         max: u32,
     },
+    /// A selection was given that has no range.
+    NoRanges,
+    /// A selection has `count` ranges, and the main one was to be that of index `main`, from 0.
+    BadMain {
+        main: usize,
+        count: usize,
+    },
+    /// A selection has a range that ends at `pos`, past the document's length `len`, in characters. Of such ranges, this
+    /// is the first one that was given.
+    SelectionOutside {
+        pos: u32,
+        len: u32,
+    },
 }
 
 /// Why a line is not carried out.

@@ -1,15 +1,17 @@
 ghost use Rattle.std.specs.Prelude.{◌≡◌, IfOk, map, string_bytes, encode_utf8_all};
 ghost use Rattle.serde_json.specs.Data.{string};
 ghost use Rattle.serde_json.specs.View.{view};
-ghost use Rattle.script.specs.declared.refusal.Refusal.TheVariants.{BadRange, LengthMismatch, TooLong};
-ghost use Rattle.script.specs.Replies.{refusal_data, section_data, mapped_data, answer_data, reply_data, reply_text};
+ghost use Rattle.script.specs.declared.refusal.Refusal.TheVariants.{BadRange, LengthMismatch, TooLong, BadMain, SelectionOutside};
+ghost use Rattle.script.specs.Replies.{refusal_data, section_data, range_data, selection_data, mapped_data, answer_data, reply_data, reply_text};
 
-use crate::mapped::{Mapped, MappedPlace};
+use crate::mapped::{Mapped, MappedParts, MappedPlace};
 use crate::refusal::Refusal;
 use change_desc::Section;
 use change_set::InsertedText;
 use cm_plain::Str;
+use itoa::Buffer;
 use line_tree::Text;
+use selection::{Range, Selection};
 use serde_json::{Value, json};
 use std::alloc::{AllocError, Global};
 
@@ -20,6 +22,8 @@ pub enum Answer {
     Length(u32),
     /// The text of the document.
     Text(Str),
+    /// The selection of the document.
+    Selection(Selection),
     /// What `map` made.
     Mapped(Mapped),
 }
@@ -33,7 +37,13 @@ pub enum Reply {
     No(Refusal),
 }
 
-fn range_value(alloc: Global, index: u64, from: u32, to: u32, len: u32) -> Result<Value, AllocError>
+fn bad_range_value(
+    alloc: Global,
+    index: u64,
+    from: u32,
+    to: u32,
+    len: u32,
+) -> Result<Value, AllocError>
     ensures { IfOk result (λ v. view v ≡ refusal_data (BadRange index from to len)) }
 {
     json!(in alloc; {"code": "BadRange", "from": from, "index": index, "len": len, "to": to})
@@ -49,6 +59,18 @@ fn too_long_value(alloc: Global, len: u64, max: u32) -> Result<Value, AllocError
     ensures { IfOk result (λ v. view v ≡ refusal_data (TooLong len max)) }
 {
     json!(in alloc; {"code": "TooLong", "len": len, "max": max})
+}
+
+fn bad_main_value(alloc: Global, main: usize, count: usize) -> Result<Value, AllocError>
+    ensures { IfOk result (λ v. view v ≡ refusal_data (BadMain main count)) }
+{
+    json!(in alloc; {"code": "BadMain", "count": count as u64, "main": main as u64})
+}
+
+fn outside_value(alloc: Global, pos: u32, len: u32) -> Result<Value, AllocError>
+    ensures { IfOk result (λ v. view v ≡ refusal_data (SelectionOutside pos len)) }
+{
+    json!(in alloc; {"code": "SelectionOutside", "len": len, "pos": pos})
 }
 
 fn refusal_value(alloc: Global, refusal: &Refusal) -> Result<Value, AllocError>
@@ -72,9 +94,12 @@ fn refusal_value(alloc: Global, refusal: &Refusal) -> Result<Value, AllocError>
             from,
             to,
             len,
-        } => range_value(alloc, *index, *from, *to, *len),
+        } => bad_range_value(alloc, *index, *from, *to, *len),
         Refusal::LengthMismatch { want, have } => mismatch_value(alloc, *want, *have),
         Refusal::TooLong { len, max } => too_long_value(alloc, *len, *max),
+        Refusal::NoRanges => json!(in alloc; {"code": "NoRanges"}),
+        Refusal::BadMain { main, count } => bad_main_value(alloc, *main, *count),
+        Refusal::SelectionOutside { pos, len } => outside_value(alloc, *pos, *len),
     }
 }
 
@@ -104,14 +129,37 @@ fn section_values(
 ) -> Result<Vec<Value>, AllocError>
     ensures { IfOk result (λ v. map view v.items ≡ map section_data sections.now) }
 {
-    let mut values = Vec::new(alloc);
+    let mut values = Vec::with_capacity(alloc, sections.len())?;
     for section in sections {
         values.push(section_value(alloc, section)?)?;
     }
     Ok(values)
 }
 
-fn mapped_value(alloc: Global, mapped: &Mapped) -> Result<Value, AllocError>
+fn range_value(alloc: Global, range: &Range) -> Result<Value, AllocError>
+    ensures { IfOk result (λ v. view v ≡ range_data range.now) }
+{
+    json!(in alloc; [range.anchor, range.head])
+}
+
+fn range_values(alloc: Global, ranges: &[Range]) -> Result<Vec<Value>, AllocError>
+    ensures { IfOk result (λ v. map view v.items ≡ map range_data ranges.now) }
+{
+    let mut values = Vec::with_capacity(alloc, ranges.len())?;
+    for range in ranges {
+        values.push(range_value(alloc, range)?)?;
+    }
+    Ok(values)
+}
+
+fn selection_value(alloc: Global, selection: &Selection) -> Result<Value, AllocError>
+    ensures { IfOk result (λ v. view v ≡ selection_data selection.now) }
+{
+    let ranges = Value::Array(range_values(alloc, selection.ranges())?);
+    json!(in alloc; {"main": selection.main_index() as u64, "ranges": ranges})
+}
+
+fn mapped_value(alloc: Global, mapped: &MappedParts) -> Result<Value, AllocError>
     ensures { IfOk result (λ v. view v ≡ mapped_data mapped.now) }
 {
     let sections = Value::Array(section_values(alloc, mapped.set.sections())?);
@@ -137,7 +185,8 @@ fn answer_value(alloc: Global, answer: &Answer) -> Result<Value, AllocError>
             let text = text.text()?;
             Value::try_from_str(alloc, text.as_str())
         }
-        Answer::Mapped(mapped) => mapped_value(alloc, mapped),
+        Answer::Selection(selection) => selection_value(alloc, selection),
+        Answer::Mapped(mapped) => mapped_value(alloc, mapped.parts()),
     }
 }
 
@@ -156,13 +205,35 @@ fn reply_value(alloc: Global, reply: &Reply) -> Result<Value, AllocError>
     }
 }
 
-/// The line that answers: the compact JSON text of the reply, with members in byte order of their names, and LF. The
-/// only error is want of memory.
+/// The line that answers with a length, written without a JSON value.
+#[tactic(auto, using(crate::proofs::LengthLine::length_line))]
+fn length_text(alloc: Global, len: u32) -> Result<String, AllocError>
+    ensures { IfOk result (λ s. string_bytes s ≡ reply_text (Reply.Ok (Answer.Length len))) }
+{
+    let mut digits = Buffer::new();
+    let mut text = String::with_capacity(alloc, 32)?;
+    text.push_str("{\"ok\":{\"length\":")?;
+    text.push_str(digits.format(len))?;
+    text.push_str("}}\n")?;
+    Ok(text)
+}
+
 #[tactic(auto, using(crate::proofs::NoFloats::reply_has_none), unfolding(crate::specs::Replies::reply_text))]
-pub fn reply_text(alloc: Global, reply: &Reply) -> Result<String, AllocError>
+fn value_text(alloc: Global, reply: &Reply) -> Result<String, AllocError>
     ensures { IfOk result (λ s. string_bytes s ≡ reply_text reply.now) }
 {
     let mut text = reply_value(alloc, reply)?.to_string(alloc)?;
     text.push_str("\n")?;
     Ok(text)
+}
+
+/// The line that answers: the compact JSON text of the reply, with members in byte order of their names, and LF. The
+/// only error is want of memory.
+pub fn reply_text(alloc: Global, reply: &Reply) -> Result<String, AllocError>
+    ensures { IfOk result (λ s. string_bytes s ≡ reply_text reply.now) }
+{
+    match reply {
+        Reply::Ok(Answer::Length(len)) => length_text(alloc, *len),
+        _ => value_text(alloc, reply),
+    }
 }

@@ -1,6 +1,8 @@
 pub mod State
 pub mod Changes
 pub mod Spans
+pub mod Specs
+pub mod SameSpecs
 pub mod OneChange
 pub mod Mapping
 pub mod Session

@@ -7,7 +7,7 @@ use Rattle.script.proofs.changes_reading.read_each_change.Goals as goal
 
 pub returns-in_err-read_change : goal.returns-in_err-read_change
 returns-in_err-read_change c =
-    let p = err_from_is_err_and c.from_residual.result c.from_residual.ensures.1 in
+    let p = err_from_is_err_and c.from_residual-in_err-read_change.result c.from_residual-in_err-read_change.ensures.1 in
     rw (p.1, p.2) (ends (change_of c.args.name.now) c.in_err-read_change.field-0.0 c.loop-item.changes.items c.args.items.now c.loop-item.item-index c.item-item.result (each (change_of c.args.name.now) (items_view c.args.items.now)) c.loop-item-test.true c.item-item.is c.in_err-read_change.ensures c.loop-item.invariant)
 
 pub loop-item-preserved : goal.loop-item-preserved

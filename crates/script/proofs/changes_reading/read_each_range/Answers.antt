@@ -7,7 +7,7 @@ use Rattle.script.proofs.changes_reading.read_each_range.Goals as goal
 
 pub returns-in_err-read_range : goal.returns-in_err-read_range
 returns-in_err-read_range c =
-    let p = err_from_is_err_and c.from_residual.result c.from_residual.ensures.1 in
+    let p = err_from_is_err_and c.from_residual-in_err-read_range.result c.from_residual-in_err-read_range.ensures.1 in
     rw (p.1, p.2) (ends (range_of c.args.name.now) c.in_err-read_range.field-0.0 c.loop-item.ranges.items c.args.items.now c.loop-item.item-index c.item-item.result (each (range_of c.args.name.now) (items_view c.args.items.now)) c.loop-item-test.true c.item-item.is c.in_err-read_range.ensures c.loop-item.invariant)
 
 pub loop-item-preserved : goal.loop-item-preserved

@@ -1,0 +1,18 @@
+use Rattle.std.proofs.lemmas.Result.{err_from_is_err_and}
+use Rattle.serde_json.specs.View.{items_view}
+use Rattle.script.specs.Reading.{each}
+use Rattle.script.specs.Command.{selected_of}
+use Rattle.script.proofs.Each.{goes_on, ends, is_done}
+use Rattle.script.proofs.selection_reading.read_each_selected.Goals as goal
+
+pub returns-in_err-read_selected : goal.returns-in_err-read_selected
+returns-in_err-read_selected c =
+    let p = err_from_is_err_and c.from_residual-in_err-read_selected.result c.from_residual-in_err-read_selected.ensures.1 in
+    rw (p.1, p.2) (ends (selected_of c.args.name.now) c.in_err-read_selected.field-0.0 c.loop-item.ranges.items c.args.items.now c.loop-item.item-index c.item-item.result (each (selected_of c.args.name.now) (items_view c.args.items.now)) c.loop-item-test.true c.item-item.is c.in_err-read_selected.ensures c.loop-item.invariant)
+
+pub loop-item-preserved : goal.loop-item-preserved
+loop-item-preserved c =
+    rw c.in_ok-push.ensures.items (goes_on (selected_of c.args.name.now) c.loop-item.ranges.items c.in_ok-read_selected.field-0 c.args.items.now c.loop-item.item-index c.item-item.result (each (selected_of c.args.name.now) (items_view c.args.items.now)) c.loop-item-test.true c.item-item.is c.in_ok-read_selected.ensures c.loop-item.invariant)
+
+pub returns : goal.returns
+returns c = is_done (selected_of c.args.name.now) c.loop-item.ranges.items c.args.items.now c.loop-item.item-index (each (selected_of c.args.name.now) (items_view c.args.items.now)) c.loop-item-test.false c.loop-item.invariant
