@@ -1,0 +1,5 @@
+pub mod Meeting
+pub mod Leading
+pub mod Moved
+pub mod Keeping
+pub mod Returning

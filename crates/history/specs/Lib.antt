@@ -1,0 +1,14 @@
+pub use Rattle.line_tree.specs.Text
+pub use Rattle.change_desc.specs.Sections
+pub use Rattle.change_desc.specs.Algebra
+pub use Rattle.change_desc.specs.Ranges
+pub use Rattle.change_set.specs.Same
+pub use Rattle.selection.specs.Selections
+pub use Rattle.transaction.specs.Lookups
+pub mod Histories
+pub mod Joining
+pub mod Moving
+pub mod Steps
+pub mod Restoring
+pub mod Reading
+pub mod Examples

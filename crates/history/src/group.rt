@@ -1,0 +1,8 @@
+/// Whether the newest event that can be undone is still open to further changes.
+#[derive(Clone, Copy, PartialEq, Eq, Debug, Drop)]
+pub enum Group {
+    /// It is not, or there is none.
+    Closed,
+    /// It is, and had its last change at this time, in milliseconds, if one was given.
+    Open { last: Option<i64> },
+}

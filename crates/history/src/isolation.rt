@@ -1,0 +1,35 @@
+ghost use Rattle.std.specs.Prelude.{◌≡◌};
+ghost use Rattle.history.specs.Joining.{closes_before, closes_behind};
+
+/// Where a change closes its group (Reference Manual, isolateHistory).
+#[derive(Clone, Copy, PartialEq, Eq, Debug, Drop)]
+pub enum Isolation {
+    /// Before it: it starts a group.
+    Before,
+    /// Behind it: it ends a group.
+    After,
+    /// On both sides.
+    Full,
+}
+
+impl Isolation {
+    /// Whether the group before the change is closed.
+    pub(crate) fn is_before(isolation: Option<Isolation>) -> bool
+        ensures { result ≡ closes_before isolation }
+    {
+        match isolation {
+            Some(Isolation::Before) | Some(Isolation::Full) => true,
+            _ => false,
+        }
+    }
+
+    /// Whether the change's group is closed behind it.
+    pub(crate) fn is_behind(isolation: Option<Isolation>) -> bool
+        ensures { result ≡ closes_behind isolation }
+    {
+        match isolation {
+            Some(Isolation::After) | Some(Isolation::Full) => true,
+            _ => false,
+        }
+    }
+}

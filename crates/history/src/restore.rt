@@ -1,0 +1,11 @@
+use change_set::ChangeSet;
+use selection::Selection;
+
+/// What an undo or a redo sends (Reference Manual, undo, redo).
+#[derive(Drop)]
+pub struct Restore {
+    /// The changes of the document.
+    pub changes: ChangeSet,
+    /// The selection to be set in the document behind them.
+    pub selection: Selection,
+}
