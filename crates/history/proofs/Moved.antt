@@ -15,7 +15,7 @@ use Rattle.selection.specs.Ranges.{moved_range}
 use Rattle.selection.specs.Selections.{LieIn, SelectionView, moved_selection}
 use Rattle.selection.proofs.Moves.{all_moved-inside}
 use Rattle.selection.proofs.Normals.{normal-inside}
-use Rattle.transaction.proofs.Meetings.{merged_len-swap}
+use Rattle.history.proofs.Swapped.{merged_len-swap}
 use Rattle.history.specs.declared.event.Event.{Event}
 use Rattle.history.specs.declared.event.Moved.{Moved}
 use Rattle.history.specs.Histories.{LeadOn}
