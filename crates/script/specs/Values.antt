@@ -14,6 +14,7 @@ use Rattle.script.specs.Reading.{or_bad}
 abbrev pub unless_deep : plain.Data → Option plain.Datum
 unless_deep ds = if nat_le (plain.depth (plain.list ds)) plain.max_depth then Some (plain.list ds) else None
 
+-- an item, if it is a value, ahead of the others, if they are
 abbrev pub with_first : Option plain.Datum → Option plain.Data → Option plain.Data
 with_first None others = None
 with_first (Some d) others = option_map (plain.datum d) others
@@ -33,6 +34,7 @@ abbrev mutual
   values_of no_items = Some plain.no_data
   values_of (item d ds) = with_first (value_of d) (values_of ds)
 
+-- the value that a datum is
 abbrev pub plain_of : plain.Datum → Plain
 plain_of plain.unit = Nothing
 plain_of (plain.boolean b) = Truth b

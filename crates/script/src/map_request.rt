@@ -50,10 +50,13 @@ pub struct MapPlace {
 /// The parts of what `map` asks for.
 #[derive(Drop)]
 pub struct MapParts {
+    /// The text and the changes of both sets.
     pub sets: MapSets,
+    /// How they are put together.
     pub op: MapOp,
     /// The protected ranges of `MapOp::Filter`, each from a position to a position, as they were given.
     pub protect: Listed<(u32, u32)>,
+    /// The position that is to be mapped over the answered set.
     pub place: MapPlace,
 }
 

@@ -1,5 +1,4 @@
 use super::*;
-use cm_plain::Plain;
 use selection::{Range, Selection};
 use serde_json::Value;
 use std::alloc::Global;
