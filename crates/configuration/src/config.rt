@@ -5,13 +5,13 @@ ghost use Rattle.configuration.specs.Resolved.{IsConfig, IsCause};
 
 use crate::config_error::ConfigError;
 use crate::defs::Defs;
-use listed::Listed;
 use crate::ordering::ordered;
 use crate::pairs::dependency_pairs;
 use crate::present::{compartments_of, inputs_by_facet, nodes_by_field};
 use crate::vertex::Vertex;
 use compartments::Contents;
 use ext_tree::{Arena, ExtId, Flat, flatten};
+use listed::Listed;
 use std::alloc::{AllocError, Global};
 use std::marker::Model;
 

@@ -3,9 +3,9 @@ ghost use Rattle.std.specs.Prelude.{◌≡◌};
 ghost use Rattle.configuration.specs.Causes.{of_extensions};
 ghost use Rattle.configuration.specs.declared.config_error.ConfigError.TheVariants.{NoMemory};
 
-use listed::Listed;
 use crate::vertex::Vertex;
 use ext_tree::{ExtError, ExtId, ExtIds};
+use listed::Listed;
 use std::alloc::AllocError;
 use thiserror::Error;
 

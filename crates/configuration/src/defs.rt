@@ -4,8 +4,8 @@ ghost use Rattle.std.specs.Prelude.{◌≡◌, ◌<◌, ◌+◌, ◌^◌, length
 use crate::facet_def::FacetDef;
 use crate::field_def::FieldDef;
 use crate::leaf_def::LeafDef;
-use listed::Listed;
 use ext_tree::Links;
+use listed::Listed;
 
 /// The definitions of facets, fields and nodes, each at its id, `V` being the type of values; and what facets enable and
 /// fields provide.

@@ -5,9 +5,9 @@ ghost use Rattle.configuration.specs.Vertices.{AreOrdered};
 ghost use Rattle.configuration.specs.Causes.{IsOrderCause};
 
 use crate::config_error::ConfigError;
-use listed::Listed;
 use crate::vertex::{Vertex, vertices_at};
 use dep_graph::{Edge, OrderError, order};
+use listed::Listed;
 use std::alloc::Global;
 
 /// The facets and fields in an order in which each stands after what it depends on.

@@ -7,9 +7,9 @@ use crate::defs::Defs;
 use crate::dependency::Dependency;
 use crate::field_def::FieldDef;
 use crate::leaf_def::LeafDef;
-use listed::Listed;
 use dep_graph::Edge;
 use ext_tree::ExtId;
+use listed::Listed;
 use std::alloc::{AllocError, Global};
 
 /// The number of the vertex that a dependency is, if it is a declared facet or field.

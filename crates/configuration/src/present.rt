@@ -3,8 +3,8 @@ ghost use Rattle.std.specs.Prelude.{◌≡◌, IfOk, OnOk, map, length};
 ghost use Rattle.configuration.specs.Present.{input_lists, field_nodes, placed, noted, compartments_of};
 
 use crate::kinds::{compartment_of, facet_of, field_of};
-use listed::Listed;
 use ext_tree::{ExtId, Node};
+use listed::Listed;
 use std::alloc::{AllocError, Global};
 
 /// Puts an input at the end of its facet's list, if the facet is declared.
