@@ -15,7 +15,7 @@ use Rattle.script.specs.declared.map_request.MapPlace.{MapPlace}
 use Rattle.script.specs.declared.map_request.MapOp.{MapOp}
 use Rattle.script.specs.declared.command.Command.{Command}
 use Rattle.script.specs.declared.command.Command.TheVariants.{Start, Update, Text, Selection, Map}
-use Rattle.script.specs.Reading.{◌>>=◌, required, defaulted, optional, text_at, number_at, side_at, flag_at, items_at, item_at, no_item_at, members_at, only, each}
+use Rattle.script.specs.Reading.{◌>>=◌, required, defaulted, optional, text_at, number_at, side_at, flag_at, item_at, no_item_at, members_at, only, list_of}
 use Rattle.script.specs.Values.{value_at}
 use Rattle.script.specs.Words.{op_at, mode_at}
 
@@ -30,10 +30,6 @@ change_of name d = do
   known ← only (codes "from" ∷ codes "to" ∷ codes "insert" ∷ []) members
   Ok (record { from = from; to = to; insert = insert })
 
--- a list of changes
-unfoldable pub changes_at : List ℕ → Data → Result (List Change) Refusal
-changes_at name d = items_at name d >>= each (change_of name)
-
 -- an item of a list of ranges, [from, to]
 unfoldable pub range_of : List ℕ → Data → Result (ℕ × ℕ) Refusal
 range_of name d = do
@@ -44,17 +40,9 @@ range_of name d = do
   end ← no_item_at name 2 d
   Ok (from, to)
 
--- a list of ranges
-unfoldable pub ranges_at : List ℕ → Data → Result (List (ℕ × ℕ)) Refusal
-ranges_at name d = items_at name d >>= each (range_of name)
-
 -- an item of a list of ranges that are selected, [anchor, head]
 unfoldable pub selected_of : List ℕ → Data → Result Range Refusal
 selected_of name d = range_of name d >>= λ ends. Ok (record { anchor = ends.0; head = ends.1 })
-
--- a list of ranges that are selected
-unfoldable pub selected_at : List ℕ → Data → Result (List Range) Refusal
-selected_at name d = items_at name d >>= each (selected_of name)
 
 -- which range is the main one, counted from 0: {main (default 0)}
 unfoldable pub main_of : Data → Result ℕ Refusal
@@ -66,14 +54,14 @@ with_main main ranges = record { ranges = ranges; main = main }
 -- the selection of a new document: {selection (default [[0, 0]]), main}
 unfoldable pub first_selection_of : Data → Result SelectionSpec Refusal
 first_selection_of d = do
-  ranges ← defaulted (codes "selection") selected_at (record { anchor = 0; head = 0 } ∷ []) d
+  ranges ← defaulted (codes "selection") (list_of selected_of) (record { anchor = 0; head = 0 } ∷ []) d
   main ← main_of d
   Ok (with_main main ranges)
 
 -- the selection of a spec: {selection (default none), main}
 unfoldable pub given_selection_of : Data → Result (Option SelectionSpec) Refusal
 given_selection_of d = do
-  ranges ← optional (codes "selection") selected_at d
+  ranges ← optional (codes "selection") (list_of selected_of) d
   main ← main_of d
   Ok (option_map (with_main main) ranges)
 
@@ -88,14 +76,10 @@ annotation_of name d = do
   known ← only (codes "type" ∷ codes "value" ∷ []) members
   Ok (record { kind = kind; value = value })
 
--- a list of annotations
-unfoldable pub annotations_at : List ℕ → Data → Result (List Annotation) Refusal
-annotations_at name d = items_at name d >>= each (annotation_of name)
-
 -- what a spec says beside its changes and its selection: {annotations (default []), userEvent (default none)}
 unfoldable pub notes_of : Data → Result (List Annotation × Option (List ℕ)) Refusal
 notes_of d = do
-  annotations ← defaulted (codes "annotations") annotations_at [] d
+  annotations ← defaulted (codes "annotations") (list_of annotation_of) [] d
   event ← optional (codes "userEvent") text_at d
   Ok (annotations, event)
 
@@ -106,11 +90,11 @@ flags_of d = do
   filter ← defaulted (codes "filter") flag_at true d
   Ok (sequential, filter)
 
--- a spec, {changes (default []), selection, main, annotations, userEvent, sequential, filter}
-unfoldable pub spec_of : Data → Result Spec Refusal
-spec_of d = do
-  members ← members_at (codes "update") d
-  changes ← defaulted (codes "changes") changes_at [] d
+-- an item of a list of specs, {changes (default []), selection, main, annotations, userEvent, sequential, filter}
+unfoldable pub spec_of : List ℕ → Data → Result Spec Refusal
+spec_of name d = do
+  members ← members_at name d
+  changes ← defaulted (codes "changes") (list_of change_of) [] d
   selection ← given_selection_of d
   notes ← notes_of d
   flags ← flags_of d
@@ -119,10 +103,7 @@ spec_of d = do
 
 -- `update`: a list of specs
 unfoldable pub update_of : Data → Result Command Refusal
-update_of d = do
-  items ← items_at (codes "update") d
-  specs ← each spec_of items
-  Ok (Update specs)
+update_of d = list_of spec_of (codes "update") d >>= λ specs. Ok (Update specs)
 
 -- `start`: {doc (default ""), selection, main}
 unfoldable pub start_of : Data → Result Command Refusal
@@ -153,8 +134,8 @@ map_sets_of d = do
   text ← required (codes "doc") d
   doc ← text_at (codes "doc") text
   list ← required (codes "a") d
-  a ← changes_at (codes "a") list
-  b ← defaulted (codes "b") changes_at [] d
+  a ← list_of change_of (codes "a") list
+  b ← defaulted (codes "b") (list_of change_of) [] d
   Ok (record { doc = doc; a = a; b = b })
 
 -- the last fields of `map`: {pos (default none), side (default 1), mode (default "simple")}
@@ -170,7 +151,7 @@ unfoldable pub map_op_of : Data → Result (MapOp × List (ℕ × ℕ)) Refusal
 map_op_of d = do
   word ← required (codes "op") d
   op ← op_at (codes "op") word
-  protect ← defaulted (codes "protect") ranges_at [] d
+  protect ← defaulted (codes "protect") (list_of range_of) [] d
   Ok (op, protect)
 
 -- `map`: {doc, a, b, op, protect, pos, side, mode}

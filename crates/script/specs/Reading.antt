@@ -110,3 +110,7 @@ each read (item d ds) = do
   first ← read d
   others ← each read ds
   Ok (first ∷ others)
+
+-- a list of such items, whose reading is told the name of the member that has the list
+unfoldable pub list_of : {A : Type 0} → (List ℕ → Data → Result A Refusal) → List ℕ → Data → Result (List A) Refusal
+list_of read name d = items_at name d >>= each (read name)

@@ -10,6 +10,7 @@ mod change;
 mod changes_reading;
 mod command;
 mod fields;
+mod item;
 mod map_reading;
 mod map_request;
 mod mapped;

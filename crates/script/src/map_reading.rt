@@ -5,11 +5,11 @@ ghost use Rattle.script.specs.Reading.{Gives, defaulted};
 ghost use Rattle.script.specs.Words.{op_named, mode_named, op_at, mode_at};
 ghost use Rattle.script.specs.Command.{map_sets_of, map_op_of, map_place_of, map_of};
 
-use crate::changes_reading::{changes, changes_or_none, ranges_or_none};
 use crate::command::Command;
 use crate::fields::{
     members, only_fields, position_if_there, refused, required_member, side_or, text,
 };
+use crate::item::{list, list_or_empty};
 use crate::map_request::{MapOp, MapParts, MapPlace, MapRequest, MapSets};
 use crate::refusal::LineError;
 use change_desc::MapMode;
@@ -87,8 +87,8 @@ fn read_sets(alloc: Global, value: &Value) -> Result<MapSets, LineError>
     ensures { Gives (λ x. x) result (map_sets_of (view value.now)) }
 {
     let doc = text(alloc, "doc", required_member(alloc, "doc", value)?)?;
-    let a = changes(alloc, "a", required_member(alloc, "a", value)?)?;
-    let b = changes_or_none(alloc, "b", value)?;
+    let a = list(alloc, "a", required_member(alloc, "a", value)?)?;
+    let b = list_or_empty(alloc, "b", value)?;
     Ok(MapSets { doc, a, b })
 }
 
@@ -107,7 +107,7 @@ fn read_op(alloc: Global, value: &Value) -> Result<(MapOp, Listed<(u32, u32)>), 
     ensures { Gives (λ x. x) result (map_op_of (view value.now)) }
 {
     let op = op(alloc, "op", required_member(alloc, "op", value)?)?;
-    let protect = ranges_or_none(alloc, "protect", value)?;
+    let protect = list_or_empty(alloc, "protect", value)?;
     Ok((op, protect))
 }
 

@@ -1,10 +1,10 @@
 ghost use Rattle.std.specs.Prelude.{[], ◌∷◌};
-ghost use Rattle.serde_json.specs.View.{view, items_view};
-ghost use Rattle.script.specs.Reading.{Gives, each, defaulted, optional};
-ghost use Rattle.script.specs.Command.{selected_of, selected_at, main_of, first_selection_of, given_selection_of};
+ghost use Rattle.serde_json.specs.View.{view};
+ghost use Rattle.script.specs.Reading.{Gives, defaulted, list_of};
+ghost use Rattle.script.specs.Command.{selected_of, main_of, first_selection_of, given_selection_of};
 
-use crate::changes_reading::read_range;
-use crate::fields::{items, position_or};
+use crate::fields::position_or;
+use crate::item::{Item, list, list_if_there};
 use crate::refusal::LineError;
 use listed::Listed;
 use selection::Range;
@@ -12,56 +12,26 @@ use serde_json::Value;
 use std::alloc::Global;
 use transaction::SelectionSpec;
 
-#[tactic(auto, unfolding(crate::specs::Command::selected_of))]
-fn read_selected(alloc: Global, name: &str, value: &Value) -> Result<Range, LineError>
-    ensures { Gives (λ x. x) result (selected_of name.now (view value.now)) }
-{
-    let (anchor, head) = read_range(alloc, name, value)?;
-    Ok(Range { anchor, head })
-}
+impl Item for Range {
+    ghost item_of = { selected_of };
 
-fn read_each_selected(alloc: Global, name: &str, items: &[Value]) -> Result<Vec<Range>, LineError>
-    ensures { Gives (λ v. v.items) result (each (selected_of name.now) (items_view items.now)) }
-{
-    let mut ranges = Vec::with_capacity(alloc, items.len())?;
-    for item in items {
-        ranges.push(read_selected(alloc, name, item)?)?;
+    #[tactic(auto, unfolding(crate::specs::Command::selected_of))]
+    fn read(alloc: Global, name: &str, value: &Value) -> Result<Range, LineError> {
+        let (anchor, head): (u32, u32) = Item::read(alloc, name, value)?;
+        Ok(Range { anchor, head })
     }
-    Ok(ranges)
-}
-
-#[tactic(auto, unfolding(crate::specs::Command::selected_at))]
-fn selected(alloc: Global, name: &str, value: &Value) -> Result<Listed<Range>, LineError>
-    ensures { Gives (λ x. x) result (selected_at name.now (view value.now)) }
-{
-    let items = items(alloc, name, value)?;
-    let ranges = read_each_selected(alloc, name, items)?;
-    Ok(Listed::new(ranges))
 }
 
 fn selected_or_start(alloc: Global, name: &str, value: &Value) -> Result<Listed<Range>, LineError>
-    ensures { Gives (λ x. x) result (defaulted name.now selected_at (record { anchor = 0; head = 0 } ∷ []) (view value.now)) }
+    ensures { Gives (λ x. x) result (defaulted name.now (list_of selected_of) (record { anchor = 0; head = 0 } ∷ []) (view value.now)) }
 {
     match value.get(name) {
-        Some(member) => selected(alloc, name, member),
+        Some(member) => list(alloc, name, member),
         None => {
             let mut ranges = Vec::with_capacity(alloc, 1)?;
             ranges.push(Range { anchor: 0, head: 0 })?;
             Ok(Listed::new(ranges))
         }
-    }
-}
-
-fn selected_if_there(
-    alloc: Global,
-    name: &str,
-    value: &Value,
-) -> Result<Option<Listed<Range>>, LineError>
-    ensures { Gives (λ x. x) result (optional name.now selected_at (view value.now)) }
-{
-    match value.get(name) {
-        Some(member) => Ok(Some(selected(alloc, name, member)?)),
-        None => Ok(None),
     }
 }
 
@@ -91,7 +61,7 @@ pub(crate) fn given_selection(
 ) -> Result<Option<SelectionSpec>, LineError>
     ensures { Gives (λ x. x) result (given_selection_of (view value.now)) }
 {
-    let ranges = selected_if_there(alloc, "selection", value)?;
+    let ranges = list_if_there(alloc, "selection", value)?;
     let main = main_range(alloc, value)?;
     match ranges {
         Some(ranges) => Ok(Some(SelectionSpec { ranges, main })),

@@ -2,7 +2,7 @@ use Rattle.std.proofs.Common.{refl}
 use Rattle.std.proofs.lemmas.Result.{err_from_is_err_and}
 use Rattle.script.specs.Command.{spec_of}
 use Rattle.script.proofs.Bind.{fails_through}
-use Rattle.script.proofs.spec_reading.read_spec.Goals as goal
+use Rattle.script.proofs.spec_reading.SpecItem.read.Goals as goal
 
 pub returns-in_err-only_fields : goal.returns-in_err-only_fields
 unfolding spec_of
