@@ -12,6 +12,6 @@ returns-in_ok-order-in-Ok-clause-order c = record {
 pub returns-in_ok-vertices_at-in-Err-Cycle-clause-cycle : goal.returns-in_ok-vertices_at-in-Err-Cycle-clause-cycle
 returns-in_ok-vertices_at-in-Err-Cycle-clause-cycle c = record {
   numbers = c.in-Err-Cycle.members.items;
-  vertices_are = c.of-members.ensures ∙ c.in_ok-vertices_at-in-Err-Cycle.ensures ∙ ap (map (vertex_at c.args.facets)) c.deref-in-Err-Cycle.ensures.value;
+  vertices_are = c.new-members.ensures ∙ c.in_ok-vertices_at-in-Err-Cycle.ensures ∙ ap (map (vertex_at c.args.facets)) c.deref-in-Err-Cycle.ensures.value;
   is_circle = rw c.in-Err-Cycle.field-0-is at c.in-Err-Cycle.ensures.cycle;
 }
