@@ -3,9 +3,10 @@ ghost use Rattle.std.specs.Prelude.{◌≡◌, true, Some};
 ghost use Rattle.std.specs.List.{AllByRecursion};
 ghost use Rattle.ext_tree.specs.Tree.{AreLinksOlder, IsOlder, linked};
 
-use crate::{Config, ConfigError, Defs, Dependency, FacetDef, FieldDef, LeafDef, Listed, Vertex};
+use crate::{Config, ConfigError, Defs, Dependency, FacetDef, FieldDef, LeafDef, Vertex};
 use compartments::Contents;
 use ext_tree::{Arena, ExtError, ExtId, Links, Node, Precedence};
+use listed::Listed;
 use std::alloc::{AllocError, Global};
 use std::process::Abort;
 use std::test::Fail;
