@@ -1,9 +1,13 @@
+ghost use Rattle.std.specs.Prelude.{IfOk};
+ghost use Rattle.transaction.specs.Merging.{IsDraft};
+ghost use Rattle.transaction.specs.Specs.{seen};
+
 use crate::annotation::Annotation;
 use crate::draft::Draft;
 use crate::effect::Effect;
 use crate::effect_kinds::{EffectKinds, EffectMaps};
 use crate::error::TransactionError;
-use crate::merging::resolve;
+use crate::merging::{merge, resolve};
 use crate::spec::{SelectionSpec, Spec};
 use change_desc::Desc;
 use change_set::Change;
@@ -47,7 +51,9 @@ fn spec_of(alloc: Global, at: u32, insert: Text) -> Result<Spec<u8>, AllocError>
 }
 
 /// Specs of a document of four characters, merged.
-fn merged_of(alloc: Global, specs: Vec<Spec<u8>>) -> Result<Draft<u8>, TransactionError> {
+fn merged_of(alloc: Global, specs: Vec<Spec<u8>>) -> Result<Draft<u8>, TransactionError>
+    ensures { IfOk result (λ draft. IsDraft 4 (seen draft)) }
+{
     let kinds = EffectKinds {
         maps: Vec::new(alloc),
     };
@@ -78,6 +84,32 @@ fn specs_merge_over_one_document(rt: HostRuntime) -> Result<(), Fail> {
     );
     assert!(rt; draft.is_user_event(&Str::of_text(alloc, "select")?));
     assert!(rt; !draft.is_user_event(&Str::of_text(alloc, "sel")?));
+    Ok(())
+}
+
+/// A draft with one more spec.
+fn merged_with(
+    alloc: Global,
+    draft: Draft<u8>,
+    spec: Spec<u8>,
+) -> Result<Draft<u8>, TransactionError>
+    requires { IsDraft 4 (seen draft) }
+{
+    let kinds = EffectKinds {
+        maps: Vec::new(alloc),
+    };
+    merge(alloc, draft, spec, 4, 100, &kinds, &Unmoved)
+}
+
+#[test]
+fn a_draft_takes_one_more_spec(rt: HostRuntime) -> Result<(), Fail> {
+    let alloc = rt.alloc();
+    let first = spec_of(alloc, 4, Text::of(alloc, &['x'])?)?;
+    let draft = merged_of(alloc, vec![in alloc; first]?)?;
+    let mut next = spec_of(alloc, 5, Text::of(alloc, &['y'])?)?;
+    next.sequential = true;
+    let both = merged_with(alloc, draft, next)?;
+    assert_eq!(rt; both.changes.new_len(), 6);
     Ok(())
 }
 
