@@ -1,5 +1,5 @@
 // Which nodes were walked to their end, at which precedence.
-ghost use Rattle.std.specs.Prelude.{◌≡◌, ◌⊎◌, IfOk, true, false};
+ghost use Rattle.std.specs.Prelude.{◌≡◌, ◌⊎◌, ◌<◌, ◌*◌, length, IfOk, true, false};
 ghost use Rattle.ext_tree.specs.declared.visit.Visit.{Visit};
 ghost use Rattle.ext_tree.specs.Memo.{place_of, is_walked};
 
@@ -21,7 +21,8 @@ fn place_of(visit: Visit) -> usize
 impl Memo {
     /// No marks, for this many nodes.
     pub fn new(alloc: Global, nodes: usize) -> Result<Self, AllocError>
-        ensures { IfOk result (λ memo. (v : Visit) → is_walked memo.walked.items v ≡ false) }
+        ensures none { IfOk result (λ memo. (v : Visit) → is_walked memo.walked.items v ≡ false) }
+        ensures room { IfOk result (λ memo. length memo.walked.items ≡ nodes * 5) }
     {
         let mut walked = Vec::new(alloc);
         for _node in 0..nodes {
@@ -42,7 +43,9 @@ impl Memo {
 
     /// Marks a node at this precedence.
     pub fn mark(&mut self, visit: Visit)
-        ensures { (w : Visit) → is_walked self.new.walked.items w ≡ true → (w ≡ visit) ⊎ (is_walked self.old.walked.items w ≡ true) }
+        ensures others { (w : Visit) → is_walked self.new.walked.items w ≡ true → (w ≡ visit) ⊎ (is_walked self.old.walked.items w ≡ true) }
+        ensures marked { place_of visit < length self.old.walked.items → is_walked self.new.walked.items visit ≡ true }
+        ensures room { length self.new.walked.items ≡ length self.old.walked.items }
     {
         let place = place_of(visit);
         if place < self.walked.len() {
