@@ -79,7 +79,7 @@ kept_kept w v m n (suc k) p l j t = record {
   less = omega (arith, present_le (Kept (m - suc k)), present_le (Kept (n - suc k)), present_some (Kept m) (omega arith), present_some (Kept n) (omega arith));
 }
 
--- one character in front of which a replacement of the second set begins
+-- one character before which a replacement of the second set begins
 pub kept_fresh : (w v : Weave) (m n u : ℕ) → 0 < m → 0 < n → Takes w v (part true 1 u) 1 u → Steps w v (Kept m) (Fresh n u) (Kept (m - 1)) (opened (n - 1))
 kept_fresh w v zero n u p q t = absurd (omega arith)
 kept_fresh w v m zero u p q t = absurd (omega arith)

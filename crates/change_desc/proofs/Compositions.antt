@@ -106,7 +106,7 @@ run_more_stays w k r s = woven-gather w (part false 0 k ∷ composed counted r s
 pub run_more_follows : (w : Weave) (k : ℕ) (r : Along_new) (s : Along_old) → woven w (composed counted r s) ≡ woven w (composed counted (mores counted (replicate k tt) r) (times counted k follows s))
 run_more_follows w k r s = woven-gather w (composed counted r s) (composed counted (mores counted (replicate k tt) r) (times counted k follows s)) (sym (gather-more_follows k r s))
 
--- a pure deletion or insertion in front of a gap
+-- a pure deletion or insertion before a gap
 deletions_join : (w : Weave) (n m : ℕ) (ps : List (Piece ℕ)) → woven w (whole (Replace (suc n) 0) ∷ whole (Replace m 0) ∷ ps) ≡ woven w (whole (Replace (suc n + m) 0) ∷ ps)
 deletions_join w n zero ps = rw (add-zero (suc n)) refl
 deletions_join w n (suc m) ps =

@@ -29,7 +29,7 @@ weight_le (Kept (suc n)) = omega arith
 weight_le (Fresh n t) = omega arith
 weight_le (Opened n) = omega arith
 
--- a section that comes is as good as its part in front of the others
+-- a section that comes is as good as its part before the others
 row_new-of : (x : Section ℕ) (s : List (Section ℕ)) → row_new (part_of x) (along_new counted s) ≡ along_new counted (x ∷ s)
 row_new-of (Keep n) s = refl
 row_new-of (Replace n t) s = refl

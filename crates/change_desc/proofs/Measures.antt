@@ -155,18 +155,18 @@ unfolding row_texts
 row_texts-follows zero r = refl
 row_texts-follows (suc n) r = omega (arith, row_texts-follows n r)
 
-row_texts-front : (t : ℕ) (r : Along_old) → row_texts (in_front counted t r) ≡ t + row_texts r
+row_texts-prefix : (t : ℕ) (r : Along_old) → row_texts (in_front counted t r) ≡ t + row_texts r
 unfolding row_texts
-row_texts-front t (last i) = refl
-row_texts-front t (next i stays r) = omega arith
-row_texts-front t (next i (leaves u) r) = omega arith
-row_texts-front t (next i follows r) = omega arith
+row_texts-prefix t (last i) = refl
+row_texts-prefix t (next i stays r) = omega arith
+row_texts-prefix t (next i (leaves u) r) = omega arith
+row_texts-prefix t (next i follows r) = omega arith
 
 row_texts-along : (s : List (Section ℕ)) → row_texts (along_old counted s) ≡ new_size counted s
 unfolding row_texts
 row_texts-along [] = refl
 row_texts-along (Keep n ∷ s) = omega (arith, row_texts-stays n (along_old counted s), row_texts-along s)
-row_texts-along (Replace zero t ∷ s) = omega (arith, row_texts-front t (along_old counted s), row_texts-along s)
+row_texts-along (Replace zero t ∷ s) = omega (arith, row_texts-prefix t (along_old counted s), row_texts-along s)
 row_texts-along (Replace (suc n) t ∷ s) = omega (arith, row_texts-follows n (along_old counted s), row_texts-along s)
 
 pub merged_len-sets : (a b : List (Section ℕ)) → merged_len (along_old counted a) (along_old counted b) ≤ new_size counted a + new_size counted b

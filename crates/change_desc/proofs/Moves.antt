@@ -152,19 +152,19 @@ module _ {T C : Type 0} (X : Texts T C) where
   cond-true true x y h = refl
   cond-true false x y h = cc
 
-  last_new-front : (cs : List Pair) (q : ℕ) → 0 < q → (w : ℕ) × (last_new (before q ((0, 0) ∷ cs)) ≡ Some w)
-  last_new-front cs q l =
+  last_new-prefix : (cs : List Pair) (q : ℕ) → 0 < q → (w : ℕ) × (last_new (before q ((0, 0) ∷ cs)) ≡ Some w)
+  last_new-prefix cs q l =
       let h : (w : ℕ) × (or_else (last_new (before q cs)) (Some 0) ≡ Some w) = or_else-some (last_new (before q cs)) 0 in
       (h.0, ap last_new (cond-true (ltb 0 q) ((0, 0) ∷ before q cs) (before q cs) (ltb-zero q l)) ∙ h.1)
 
   last_new-before : (s : List (Section T)) (q : ℕ) → 0 < q → (w : ℕ) × (last_new (before q (cuts X s)) ≡ Some w)
-  last_new-before [] q l = last_new-front [] q l
+  last_new-before [] q l = last_new-prefix [] q l
   last_new-before (Keep zero ∷ s) q l =
       let h : (w : ℕ) × (last_new (before q (cuts X s)) ≡ Some w) = last_new-before s q l in
       let e : q - 0 ≡ q = omega arith in
       (h.0, rw (before-shift q 0 0 (cuts X s) (omega arith), e, last_new-shift 0 0 (before q (cuts X s)), h.1, zero-add h.0) refl)
-  last_new-before (Keep (suc n) ∷ s) q l = last_new-front (shift 1 1 (diagonal n) ++ shift (suc n) (suc n) (cuts X s)) q l
-  last_new-before (Replace n t ∷ s) q l = last_new-front (shift n (X.size t) (cuts X s)) q l
+  last_new-before (Keep (suc n) ∷ s) q l = last_new-prefix (shift 1 1 (diagonal n) ++ shift (suc n) (suc n) (cuts X s)) q l
+  last_new-before (Replace n t ∷ s) q l = last_new-prefix (shift n (X.size t) (cuts X s)) q l
 
   -- a cut at the place or before it has a new place
   moved-some : (s : List (Section T)) (q : ℕ) → (w : ℕ) × (moved true q (cuts X s) ≡ Some w)
@@ -227,23 +227,23 @@ module _ {T C : Type 0} (X : Texts T C) where
   cond-false true x y h = cc
   cond-false false x y h = refl
 
-  at-front : (cs : List Pair) (p : ℕ) → 0 < p → at p ((0, 0) ∷ cs) ≡ at p cs
-  at-front cs p l = cond-false (eqb 0 p) ((0, 0) ∷ at p cs) (at p cs) (eqb-zero p l)
+  at-prefix : (cs : List Pair) (p : ℕ) → 0 < p → at p ((0, 0) ∷ cs) ≡ at p cs
+  at-prefix cs p l = cond-false (eqb 0 p) ((0, 0) ∷ at p cs) (at p cs) (eqb-zero p l)
 
-  before-front : (cs : List Pair) (p : ℕ) → 0 < p → before p ((0, 0) ∷ cs) ≡ (0, 0) ∷ before p cs
-  before-front cs p l = cond-true (ltb 0 p) ((0, 0) ∷ before p cs) (before p cs) (ltb-zero p l)
+  before-prefix : (cs : List Pair) (p : ℕ) → 0 < p → before p ((0, 0) ∷ cs) ≡ (0, 0) ∷ before p cs
+  before-prefix cs p l = cond-true (ltb 0 p) ((0, 0) ∷ before p cs) (before p cs) (ltb-zero p l)
 
-  after-front : (cs : List Pair) (p : ℕ) → after p ((0, 0) ∷ cs) ≡ after p cs
-  after-front cs p = cond-false (ltb p 0) ((0, 0) ∷ after p cs) (after p cs) (ltb-suc-zero p)
+  after-prefix : (cs : List Pair) (p : ℕ) → after p ((0, 0) ∷ cs) ≡ after p cs
+  after-prefix cs p = cond-false (ltb p 0) ((0, 0) ∷ after p cs) (after p cs) (ltb-suc-zero p)
 
   pub moved-replace_left : (n : ℕ) (t : T) (s : List (Section T)) (p : ℕ) → (p < n) ⊎ (p ≡ 0) → moved true p (cuts X (Replace n t ∷ s)) ≡ Some 0
   moved-replace_left n t s zero h = refl
   moved-replace_left n t s (suc p) h =
       let l : suc p < n = omega (arith, h) in
       rw (
-        at-front (shift n (X.size t) (cuts X s)) (suc p) (omega arith),
+        at-prefix (shift n (X.size t) (cuts X s)) (suc p) (omega arith),
         at-shift-none (suc p) n (X.size t) (cuts X s) l,
-        before-front (shift n (X.size t) (cuts X s)) (suc p) (omega arith),
+        before-prefix (shift n (X.size t) (cuts X s)) (suc p) (omega arith),
         before-shift-none (suc p) n (X.size t) (cuts X s) (omega arith),
       ) refl
 
@@ -253,9 +253,9 @@ module _ {T C : Type 0} (X : Texts T C) where
   pub moved-replace_right : (n : ℕ) (t : T) (s : List (Section T)) (p : ℕ) → 0 < p → p < n → moved false p (cuts X (Replace n t ∷ s)) ≡ Some (X.size t)
   moved-replace_right n t s p k l =
       rw (
-        at-front (shift n (X.size t) (cuts X s)) p k,
+        at-prefix (shift n (X.size t) (cuts X s)) p k,
         at-shift-none p n (X.size t) (cuts X s) l,
-        after-front (shift n (X.size t) (cuts X s)) p,
+        after-prefix (shift n (X.size t) (cuts X s)) p,
         after-shift-all p n (X.size t) (cuts X s) l,
         first_new-shift n (X.size t) (cuts X s),
         first_new-cuts s,
@@ -267,10 +267,10 @@ module _ {T C : Type 0} (X : Texts T C) where
   moved-replace_on true n t s p l k =
       let h : (w : ℕ) × (moved true (p - n) (cuts X s) ≡ Some w) = moved-some s (p - n) in
       rw (
-        at-front (shift n (X.size t) (cuts X s)) p (k refl),
+        at-prefix (shift n (X.size t) (cuts X s)) p (k refl),
         at-shift p n (X.size t) (cuts X s) l,
         first_new-shift n (X.size t) (at (p - n) (cuts X s)),
-        before-front (shift n (X.size t) (cuts X s)) p (k refl),
+        before-prefix (shift n (X.size t) (cuts X s)) p (k refl),
         before-shift p n (X.size t) (cuts X s) l,
         last_new-shift n (X.size t) (before (p - n) (cuts X s)),
       )
@@ -280,7 +280,7 @@ module _ {T C : Type 0} (X : Texts T C) where
       rw (
         at-shift 0 0 (X.size t) (cuts X s) (omega arith),
         last_new-shift 0 (X.size t) (at 0 (cuts X s)),
-        after-front (shift 0 (X.size t) (cuts X s)) 0,
+        after-prefix (shift 0 (X.size t) (cuts X s)) 0,
         after-shift 0 0 (X.size t) (cuts X s) (omega arith),
         first_new-shift 0 (X.size t) (after 0 (cuts X s)),
       )
@@ -288,10 +288,10 @@ module _ {T C : Type 0} (X : Texts T C) where
   moved-replace_on false (suc n) t s zero l k = absurd (omega arith)
   moved-replace_on false n t s (suc p) l k =
       rw (
-        at-front (shift n (X.size t) (cuts X s)) (suc p) (omega arith),
+        at-prefix (shift n (X.size t) (cuts X s)) (suc p) (omega arith),
         at-shift (suc p) n (X.size t) (cuts X s) l,
         last_new-shift n (X.size t) (at (suc p - n) (cuts X s)),
-        after-front (shift n (X.size t) (cuts X s)) (suc p),
+        after-prefix (shift n (X.size t) (cuts X s)) (suc p),
         after-shift (suc p) n (X.size t) (cuts X s) l,
         first_new-shift n (X.size t) (after (suc p - n) (cuts X s)),
       )
@@ -358,8 +358,8 @@ there_from_first [] v h = cc
 there_from_first (c ∷ cs) v h = refl
 
 module _ {T C : Type 0} (X : Texts T C) where
-  there-front : (cs : List Pair) (p : ℕ) → is_there (at p ((0, 0) ∷ cs)) ≡ cond (eqb 0 p) true (is_there (at p cs))
-  there-front cs p = cases (eqb 0 p)
+  there-prefix : (cs : List Pair) (p : ℕ) → is_there (at p ((0, 0) ∷ cs)) ≡ cond (eqb 0 p) true (is_there (at p cs))
+  there-prefix cs p = cases (eqb 0 p)
     where
       cases : (b : Bool) → is_there (cond b ((0, 0) ∷ at p cs) (at p cs)) ≡ cond b true (is_there (at p cs))
       cases true = refl
@@ -368,7 +368,7 @@ module _ {T C : Type 0} (X : Texts T C) where
   pub lost-replace_in : (mode : MapMode) (n : ℕ) (t : T) (s : List (Section T)) (p : ℕ) → p < n → is_lost X mode p (Replace n t ∷ s) ≡ loses mode p
   lost-replace_in Simple n t s p l = refl
   lost-replace_in TrackDel n t s p l =
-      rw (there-front (shift n (X.size t) (cuts X s)) p, there-shift-none X n (X.size t) p (cuts X s) l) (grind (arith, nat_tests))
+      rw (there-prefix (shift n (X.size t) (cuts X s)) p, there-shift-none X n (X.size t) p (cuts X s) l) (grind (arith, nat_tests))
   lost-replace_in TrackBefore n t s p l =
       rw (there-shift-none X n (X.size t) (p - 1) (kept X s) (omega arith)) (grind (arith, nat_tests))
   lost-replace_in TrackAfter n t s p l =
@@ -381,7 +381,7 @@ module _ {T C : Type 0} (X : Texts T C) where
   pub lost-replace_on : (mode : MapMode) (n : ℕ) (t : T) (s : List (Section T)) (p : ℕ) → n ≤ p → (mode ≡ TrackBefore → (n < p) ⊎ (p ≡ 0)) → is_lost X mode p (Replace n t ∷ s) ≡ is_lost X mode (p - n) s
   lost-replace_on Simple n t s p l h = refl
   lost-replace_on TrackDel n t s p l h =
-      rw (there-front (shift n (X.size t) (cuts X s)) p, there-shift X n (X.size t) p (cuts X s) l) (ap not (cases p l))
+      rw (there-prefix (shift n (X.size t) (cuts X s)) p, there-shift X n (X.size t) p (cuts X s) l) (ap not (cases p l))
     where
       cases : (p : ℕ) → n ≤ p → cond (eqb 0 p) true (is_there (at (p - n) (cuts X s))) ≡ is_there (at (p - n) (cuts X s))
       cases zero l = let e : 0 - n ≡ 0 = omega arith in rw e (sym (there_from_first (at 0 (cuts X s)) 0 (first_new-at_zero X s)))

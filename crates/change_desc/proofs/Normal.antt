@@ -1,4 +1,4 @@
--- The normal form: what it Keeps, and that sections may be put behind it one by one.
+-- The normal form: what it Keeps, and that sections may be put after it one by one.
 use Rattle.std.proofs.Common.{◌≡◌, ℕ, zero, suc, ◌+◌, ◌<◌, Bool, true, false, cond, ◌⊎◌, inl, inr, List, [], ◌∷◌, ◌++◌, refl, sym, ap, subst, ◌∙◌, append_assoc, append-nil, arith, add_assoc, length-append, zero-add, add-zero}
 use Rattle.change_desc.specs.declared.section.Section.{Section}
 use Rattle.change_desc.specs.declared.kind.Kind.{Kind}
@@ -186,7 +186,7 @@ module _ {T C : Type 0} (X : Texts T C) (L : Laws X) where
   pub in_order : (s : List (Section T)) → normal X s ≡ s → InOrder s
   in_order s e = subst InOrder e (in_order-normal s)
 
-  -- the tail may be put in normal form first, and the front too
+  -- the tail may be put in normal form first, and the prefix too
   pub normal-back : (s t u : List (Section T)) → normal X t ≡ normal X u → normal X (s ++ t) ≡ normal X (s ++ u)
   normal-back [] t u e = e
   normal-back (x ∷ s) t u e = rw (normal-back s t u e) refl
@@ -209,15 +209,15 @@ module _ {T C : Type 0} (X : Texts T C) (L : Laws X) where
       cases true h = rw (not_blank-joined x y h b, o.0) (put-put x y (normal X (s ++ t)) h (in_order-normal (s ++ t)))
       cases false h = rw b refl
 
-  pub normal-front : (s t : List (Section T)) → normal X (normal X s ++ t) ≡ normal X (s ++ t)
-  normal-front [] t = refl
-  normal-front (x ∷ s) t = cases (is_blank X x) refl (normal-front s t)
+  pub normal-prefix : (s t : List (Section T)) → normal X (normal X s ++ t) ≡ normal X (s ++ t)
+  normal-prefix [] t = refl
+  normal-prefix (x ∷ s) t = cases (is_blank X x) refl (normal-prefix s t)
     where
       cases : (b : Bool) → is_blank X x ≡ b → normal X (normal X s ++ t) ≡ normal X (s ++ t) → normal X (cond b (normal X s) (put X x (normal X s)) ++ t) ≡ cond b (normal X (s ++ t)) (put X x (normal X (s ++ t)))
       cases true h e = e
       cases false h e = normal-put x (normal X s) t h (in_order-normal s) ∙ ap (put X x) e
 
-  -- one more section behind
+  -- one more section after
   pub normal-blank : (s : List (Section T)) (x : Section T) → is_blank X x ≡ true → normal X (s ++ x ∷ []) ≡ normal X s
   normal-blank s x b = normal-back s (x ∷ []) [] (rw b refl) ∙ ap (normal X) (append-nil s)
 

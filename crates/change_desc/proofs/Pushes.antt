@@ -1,4 +1,4 @@
--- A section put behind a list of sections in normal form.
+-- A section put after a list of sections in normal form.
 use Rattle.std.proofs.Common.{◌≡◌, ℕ, zero, suc, ◌+◌, ◌≤◌, ◌<◌, true, false, List, [], ◌∷◌, ◌++◌, length, get_or, set, take, drop, refl, sym, ap, subst, ◌∙◌, arith}
 use Rattle.std.specs.List.{refill}
 use Rattle.std.proofs.lemmas.List.{length-set, append-nil, take_more, take_all, set_split, drop_all, nil_from_length}
@@ -32,7 +32,7 @@ module _ {T C : Type 0} (X : Texts T C) (L : Laws X) where
       let h' : normal X (take n s ++ x ∷ []) ≡ take n s ++ x ∷ [] = subst (λ z. normal X z ≡ z) p h in
       set_last s n (joined X x y) e ∙ (sym (normal-joined X L (take n s) x y h' b j) ∙ ap (λ z. normal X (z ++ y ∷ [])) (sym p))
 
-  -- or put behind it
+  -- or put after it
   pub push_apart : (s : List (Section T)) (n : ℕ) (x y : Section T) → n + 1 ≡ length s → x ≡ get_or s n x → normal X s ≡ s → is_blank X y ≡ false →
       joins (kind X x) (kind X y) ≡ false → s ++ y ∷ [] ≡ normal X (s ++ y ∷ [])
   push_apart s n x y e r h b j =

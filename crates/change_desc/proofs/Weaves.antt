@@ -1,4 +1,4 @@
--- Pieces put behind what is done.
+-- Pieces put after what is done.
 use Rattle.std.proofs.Common.{◌≡◌, ℕ, zero, suc, ◌+◌, Bool, true, false, cond, ◌&&◌, List, [], ◌∷◌, ◌++◌, refl, ap, ◌∙◌, append_assoc, arith, add_assoc, zero-add, add-zero}
 use Rattle.change_desc.specs.declared.section.Section.{Section}
 use Rattle.change_desc.specs.declared.section.Section.TheVariants.{Keep, Replace}
@@ -6,7 +6,7 @@ use Rattle.change_desc.specs.declared.weave.Weave.{Weave}
 use Rattle.change_desc.specs.Sections.{Texts, counted, is_blank, is_zero, kind, joins, joined, put, normal, old_of, old_size, new_of, new_size}
 use Rattle.change_desc.specs.Algebra.{Piece, whole, part, closed, gather}
 use Rattle.change_desc.specs.Weaving.{Takes}
-use Rattle.change_desc.proofs.Normal.{Laws, counted_laws, normal-front, normal-normal, Together, together, both_keep, both_insert, both_delete}
+use Rattle.change_desc.proofs.Normal.{Laws, counted_laws, normal-prefix, normal-normal, Together, together, both_keep, both_insert, both_delete}
 use Rattle.change_desc.proofs.Merges.{old_size-normal}
 
 old_size-append : (s t : List (Section ℕ)) → old_size (s ++ t) ≡ old_size s + old_size t
@@ -51,11 +51,11 @@ module _ {T C : Type 0} (X : Texts T C) (L : Laws X) where
       cases true h e = omega (arith, new_of-blank x h)
       cases false h e = omega (arith, new_size-put x (normal X s))
 
-old_size-behind : (s t : List (Section ℕ)) → old_size (normal counted (s ++ t)) ≡ old_size s + old_size t
-old_size-behind s t = old_size-normal counted (s ++ t) ∙ old_size-append s t
+old_size-after : (s t : List (Section ℕ)) → old_size (normal counted (s ++ t)) ≡ old_size s + old_size t
+old_size-after s t = old_size-normal counted (s ++ t) ∙ old_size-append s t
 
-new_size-behind : (s t : List (Section ℕ)) → new_size counted (normal counted (s ++ t)) ≡ new_size counted s + new_size counted t
-new_size-behind s t = new_size-normal counted counted_laws (s ++ t) ∙ new_size-append s t
+new_size-after : (s t : List (Section ℕ)) → new_size counted (normal counted (s ++ t)) ≡ new_size counted s + new_size counted t
+new_size-after s t = new_size-normal counted counted_laws (s ++ t) ∙ new_size-append s t
 
 -- the open Replace without what is open
 closed_none : (ps : List (Piece ℕ)) → closed counted (gather counted (part false 0 0 ∷ ps)) ≡ closed counted (gather counted ps)
@@ -79,14 +79,14 @@ takes_whole w v x b e c t = record {
         gather-whole x ps b,
         add-zero w.count,
         add-zero w.len,
-        normal-front counted counted_laws (normal counted front ++ x ∷ []) tail,
+        normal-prefix counted counted_laws (normal counted front ++ x ∷ []) tail,
         append_assoc (normal counted front) (x ∷ []) tail,
-        normal-front counted counted_laws front (x ∷ tail),
+        normal-prefix counted counted_laws front (x ∷ tail),
         append_assoc w.sections.items (Replace w.count w.len ∷ []) (x ∷ tail),
       ) refl;
   is_normal = rw e (normal-normal counted counted_laws (normal counted (w.sections.items ++ Replace w.count w.len ∷ []) ++ x ∷ []));
-  old = omega (arith, ap old_size e, old_size-behind (normal counted (w.sections.items ++ Replace w.count w.len ∷ [])) (x ∷ []), old_size-behind w.sections.items (Replace w.count w.len ∷ []));
-  new = omega (arith, ap (new_size counted) e, new_size-behind (normal counted (w.sections.items ++ Replace w.count w.len ∷ [])) (x ∷ []), new_size-behind w.sections.items (Replace w.count w.len ∷ []));
+  old = omega (arith, ap old_size e, old_size-after (normal counted (w.sections.items ++ Replace w.count w.len ∷ [])) (x ∷ []), old_size-after w.sections.items (Replace w.count w.len ∷ []));
+  new = omega (arith, ap (new_size counted) e, new_size-after (normal counted (w.sections.items ++ Replace w.count w.len ∷ [])) (x ∷ []), new_size-after w.sections.items (Replace w.count w.len ∷ []));
 }
 
 pub takes_start : (w v : Weave) (n u : ℕ) → v.sections.items ≡ normal counted (w.sections.items ++ Replace w.count w.len ∷ []) → v.count ≡ n → v.len ≡ u →
@@ -100,12 +100,12 @@ takes_start w v n u e c t = record {
         t,
         add-zero w.count,
         add-zero w.len,
-        normal-front counted counted_laws (w.sections.items ++ Replace w.count w.len ∷ []) tail,
+        normal-prefix counted counted_laws (w.sections.items ++ Replace w.count w.len ∷ []) tail,
         append_assoc w.sections.items (Replace w.count w.len ∷ []) tail,
       ) refl;
   is_normal = rw e (normal-normal counted counted_laws (w.sections.items ++ Replace w.count w.len ∷ []));
-  old = omega (arith, ap old_size e, old_size-behind w.sections.items (Replace w.count w.len ∷ []));
-  new = omega (arith, ap (new_size counted) e, new_size-behind w.sections.items (Replace w.count w.len ∷ []));
+  old = omega (arith, ap old_size e, old_size-after w.sections.items (Replace w.count w.len ∷ []));
+  new = omega (arith, ap (new_size counted) e, new_size-after w.sections.items (Replace w.count w.len ∷ []));
 }
 
 pub takes_on : (w v : Weave) (n u : ℕ) → normal counted w.sections.items ≡ w.sections.items → v.sections.items ≡ w.sections.items → v.count ≡ w.count + n → v.len ≡ w.len + u →
@@ -121,7 +121,7 @@ pub flushed-is_normal : (s t : List (Section ℕ)) → t ≡ normal counted s �
 flushed-is_normal s t e = rw e (normal-normal counted counted_laws s)
 
 pub flushed-old : (s t : List (Section ℕ)) (n u : ℕ) → t ≡ normal counted (s ++ Replace n u ∷ []) → old_size t ≡ old_size s + n
-flushed-old s t n u e = omega (arith, ap old_size e, old_size-behind s (Replace n u ∷ []))
+flushed-old s t n u e = omega (arith, ap old_size e, old_size-after s (Replace n u ∷ []))
 
 pub flushed-new : (s t : List (Section ℕ)) (n u : ℕ) → t ≡ normal counted (s ++ Replace n u ∷ []) → new_size counted t ≡ new_size counted s + u
-flushed-new s t n u e = omega (arith, ap (new_size counted) e, new_size-behind s (Replace n u ∷ []))
+flushed-new s t n u e = omega (arith, ap (new_size counted) e, new_size-after s (Replace n u ∷ []))

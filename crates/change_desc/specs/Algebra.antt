@@ -10,7 +10,7 @@ pub data Piece (T : Type 0) : Type 0 where
   whole : Section T → Piece T
   part : (starts : Bool) → ℕ → T → Piece T
 
--- the Replace that is still open at the front, and the sections behind it
+-- the Replace that is still open at the head, and the sections after it
 pub record Open (T : Type 0) : Type 0 where
   pub count : ℕ
   pub text : T
@@ -149,7 +149,7 @@ module _ {T C : Type 0} (X : Texts T C) where
 abbrev pub span : {T C : Type 0} → Texts T C → (len from to : ℕ) → T → List (Section T)
 span X len from to t = normal X (Keep from ∷ Replace (to - from) t ∷ Keep (len - to) ∷ [])
 
--- Each change moves over those before it and is put behind them.
+-- Each change moves over those before it and is put after them.
 abbrev pub then_also : {T C : Type 0} → Texts T C → (total change : List (Section T)) → List (Section T)
 then_also X total c = compose X total (map_over X c (lengths X total) false)
 

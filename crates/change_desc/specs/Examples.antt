@@ -13,14 +13,14 @@ use Rattle.change_desc.specs.Algebra.{compose, merge, map_over, of, span, filter
 abbrev pub Sections : Type 0
 Sections = List (Section (List ℕ))
 
--- 'abc' with '!' behind it and its 'a' deleted, in one list of changes: 'bc!'
+-- 'abc' with '!' after it and its 'a' deleted, in one list of changes: 'bc!'
 abbrev pub insert_and_delete : Sections
 insert_and_delete = of spelled 3 (span spelled 3 3 3 (33 ∷ []) ∷ span spelled 3 0 1 ([]) ∷ [])
 
 pub several : apply insert_and_delete (97 ∷ 98 ∷ 99 ∷ []) ≡ (98 ∷ 99 ∷ 33 ∷ [])
 several = refl
 
--- 'ab' with 'XY' between: a position there stays before the text on a negative side and goes behind it on any other
+-- 'ab' with 'XY' between: a position there stays before the text on a negative side and goes after it on any other
 abbrev pub insertion : Sections
 insertion = of spelled 2 (span spelled 2 1 1 (88 ∷ 89 ∷ []) ∷ [])
 

@@ -27,7 +27,7 @@ replaced s = replaced_from 0 0 s
 abbrev pub covering : ChangedRange → ChangedRange → ChangedRange
 covering r q = record { from_a = r.from_a; to_a = q.to_a; from_b = r.from_b; to_b = q.to_b }
 
--- a range in front of others, as one range with the first of them where the two touch
+-- a range before others, as one range with the first of them where the two touch
 abbrev pub with_range : ChangedRange → List ChangedRange → List ChangedRange
 with_range r [] = r ∷ []
 with_range r (q ∷ qs) = cond (eqb r.to_a q.from_a) (covering r q ∷ qs) (r ∷ q ∷ qs)

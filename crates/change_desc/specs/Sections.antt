@@ -71,7 +71,7 @@ module _ {T C : Type 0} (X : Texts T C) where
   joined (Replace m t) (Replace n u) = Replace (m + n) (X.join t u)
   joined x _ = x
 
-  -- puts a section in front, joined to the next where the two join
+  -- puts a section first, joined to the next where the two join
   abbrev pub put : Section T → List (Section T) → List (Section T)
   put x [] = x ∷ []
   put x (y ∷ s) = cond (joins (kind x) (kind y)) (joined x y ∷ s) (x ∷ y ∷ s)

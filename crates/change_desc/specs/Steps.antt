@@ -19,7 +19,7 @@ pub record StopsAt (x : Section ℕ) (p : ℕ) (negative : Bool) (q : ℕ) : Typ
   pub goes : (s : List (Section ℕ)) → moved negative p (cuts counted (x ∷ s)) ≡ Some q
   pub within : q ≤ new_of counted x
 
--- or it goes where the sections behind it say
+-- or it goes where the sections after it say
 pub record GoesOn (x : Section ℕ) (p : ℕ) (negative : Bool) : Type 0 where
   pub goes : (s : List (Section ℕ)) → moved negative p (cuts counted (x ∷ s)) ≡ plus (new_of counted x) (moved negative (p - old_of x) (cuts counted s))
   pub past : old_of x ≤ p
@@ -28,7 +28,7 @@ pub record GoesOn (x : Section ℕ) (p : ℕ) (negative : Bool) : Type 0 where
 pub record DecidesLoss (x : Section ℕ) (p : ℕ) (mode : MapMode) (lost : Bool) : Type 0 where
   pub says : (s : List (Section ℕ)) → is_lost counted mode p (x ∷ s) ≡ lost
 
--- or the sections behind it do
+-- or the sections after it do
 pub record LeavesLoss (x : Section ℕ) (p : ℕ) (mode : MapMode) : Type 0 where
   pub says : (s : List (Section ℕ)) → is_lost counted mode p (x ∷ s) ≡ is_lost counted mode (p - old_of x) s
   pub past : old_of x ≤ p
@@ -45,7 +45,7 @@ abbrev pub listed : Option ChangedRange → List ChangedRange
 listed (Some r) = r ∷ []
 listed None = []
 
--- whatever follows, the section's range, if it has one, stands in front of the ranges behind it
+-- whatever follows, the section's range, if it has one, stands before the ranges after it
 pub record GivesRange (x : Section ℕ) (a b : ℕ) (o : Option ChangedRange) : Type 0 where
   pub goes : (s : List (Section ℕ)) → replaced_from a b (x ∷ s) ≡ listed o ++ replaced_from (a + old_of x) (b + new_of counted x) s
 

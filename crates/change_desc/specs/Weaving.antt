@@ -9,7 +9,7 @@ use Rattle.change_desc.specs.Sections.{counted, new_of, normal, old_size, new_si
 use Rattle.change_desc.specs.Columns.{along_new, along_old, width, Row, last, next, Fate, stays, leaves, follows, Origin, old, in_front, times, mores, spell}
 use Rattle.change_desc.specs.Algebra.{Piece, whole, part, closed, gather, composed, mapped, is_cut_new, is_cut_old}
 
--- what is left of a section in front of a row along the new text
+-- what is left of a section before a row along the new text
 abbrev pub row_new : Part → Row ℕ (Origin (Unit {0})) → Row ℕ (Origin (Unit {0}))
 row_new (Kept n) r = times counted n old r
 row_new (Fresh n t) r = spell counted n (replicate t tt) r
@@ -31,7 +31,7 @@ abbrev pub is_fresh_old : Row ℕ (Fate ℕ) → Bool
 is_fresh_old (last t) = true
 is_fresh_old (next t y s) = is_cut_old y
 
--- what it all comes to once these pieces are put behind what is done: sections, and a Replace that may still grow
+-- what it all comes to once these pieces are put after what is done: sections, and a Replace that may still grow
 abbrev pub woven : Weave → List (Piece ℕ) → List (Section ℕ)
 woven w ps = normal counted (w.sections.items ++ closed counted (gather counted (part false w.count w.len ∷ ps)))
 
@@ -91,7 +91,7 @@ IsPart (Kept n) = Unit {0}
 IsPart (Fresh n t) = 0 < n + t
 IsPart (Opened n) = 0 < n
 
--- parts of the two sets with rows behind them, as far along the text between
+-- parts of the two sets with rows after them, as far along the text between
 pub record Ready (a b : Part) (r : Row ℕ (Origin (Unit {0}))) (s : Row ℕ (Fate ℕ)) : Type 0 where
   pub fresh_new : is_fresh_new r ≡ true
   pub fresh_old : is_fresh_old s ≡ true
@@ -123,7 +123,7 @@ pub record CanStep (a b : Part) : Type 0 where
   pub end_first : a ≡ Kept 0 → left_old b ≡ 0
   pub end_second : b ≡ Kept 0 → left_new a ≡ 0
 
--- a step of the walk: what is done and what is left come to the same, whatever is behind
+-- a step of the walk: what is done and what is left come to the same, whatever is after
 pub record Steps (w v : Weave) (a b c d : Part) : Type 0 where
   pub goes : (r : Row ℕ (Origin (Unit {0}))) (s : Row ℕ (Fate ℕ)) → Ready a b r s → woven v (composed counted (row_new c r) (row_old d s)) ≡ woven w (composed counted (row_new a r) (row_old b s))
   pub is_normal : normal counted v.sections.items ≡ v.sections.items
@@ -151,7 +151,7 @@ pub record Loads (s : List (Section ℕ)) (p q : Part) (i j : ℕ) : Type 0 wher
   pub less : present q + (length s - j) ≡ present p + (length s - i)
   pub lighter : weight q + 2 * (length s - j) ≤ weight p + 2 * (length s - i)
 
--- parts of two sets over one text, with rows behind them, as far along it
+-- parts of two sets over one text, with rows after them, as far along it
 pub record Level (a b : Part) (r s : Row ℕ (Fate ℕ)) : Type 0 where
   pub level : left_old a + width r ≡ left_old b + width s
   pub ended_first : a ≡ Kept 0 → r ≡ last 0

@@ -4,7 +4,7 @@ ghost use Rattle.change_desc.specs.Ranges.{covering, meets, touch_of};
 use crate::touch::Touch;
 
 /// A range that was replaced: where it stood in the old text, from `from_a` to `to_a`, and where what stands for it is in the
-/// new text, from `from_b` to `to_b`. Positions are in characters; an end is the place behind the last character.
+/// new text, from `from_b` to `to_b`. Positions are in characters; an end is the place after the last character.
 #[derive(Clone, Copy, PartialEq, Eq, Debug, Drop)]
 pub struct ChangedRange {
     pub from_a: u32,

@@ -56,8 +56,8 @@ impl Desc {
         Desc { sections }
     }
 
-    /// Puts a section over further characters of the old text behind the others, in normal form: one that does nothing is left
-    /// out, and one that joins the last is made one with it. Where memory is wanting nothing changes.
+    /// Puts a section over further characters of the old text after the others, in normal form: one that does nothing is left
+    /// out, and one that joins the last is made one with it. When out of memory nothing changes.
     pub fn push(&mut self, section: Section<u32>) -> Result<(), AllocError>
         requires old_fits { old_size self.old + old_of section < 2 ^ 32 }
         requires new_fits { new_size counted self.old + new_of counted section < 2 ^ 32 }
@@ -97,7 +97,7 @@ impl Desc {
     }
 
     /// Where a position of the old text goes, unless what the mode tracks there is deleted (Reference Manual,
-    /// ChangeDesc.mapPos). At an insertion a negative side stays before it, any other goes behind it; strictly inside a
+    /// ChangeDesc.mapPos). At an insertion a negative side stays before it, any other goes after it; strictly inside a
     /// replacement a negative side gives its start and any other its end.
     pub fn map_pos(&self, pos: u32, side: i32, mode: MapMode) -> Option<u32>
         requires { pos ≤ old_size self.now }

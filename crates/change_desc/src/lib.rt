@@ -1,6 +1,6 @@
 //! Descriptions of changes: how much of a text is kept and how much is replaced by how much, with each new text known by
-//! its length alone. A description maps positions, is put behind another, is moved over another, and is turned round.
-//! A layer above may rely on each description being in normal form, with both lengths below 2 ^ 32, and on each call
+//! its length alone. A description maps positions, is put after another, is moved over another, and is turned round.
+//! A layer above may rely on each description being in normal form, with both lengths less than 2 ^ 32, and on each call
 //! giving exactly what the definitions of sections, cuts, compose, merge and map say. The definitions stand here once,
 //! also for change sets with whole texts.
 #![tactic(auto)]

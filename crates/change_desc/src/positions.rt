@@ -29,7 +29,7 @@ impl Section<u32> {
         }
     }
 
-    /// Whether a place of its old text loses what the mode tracks, unless the sections behind it say so.
+    /// Whether a place of its old text loses what the mode tracks, unless the sections after it say so.
     pub(crate) fn loses(&self, pos: u32, mode: MapMode) -> Option<bool>
         ensures { MatchOption result (LeavesLoss self.now pos mode) (λ lost. DecidesLoss self.now pos mode lost) }
     {

@@ -62,7 +62,7 @@ pub(crate) fn individual_ranges(
     Ok(ranges)
 }
 
-/// Puts a range behind those that were done and the one that may still grow; what may still grow now.
+/// Puts a range after those that were done and the one that may still grow; what may still grow now.
 fn unite(
     ranges: &mut Vec<ChangedRange>,
     growing: Option<ChangedRange>,

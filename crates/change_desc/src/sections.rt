@@ -6,7 +6,7 @@ use crate::section::Section;
 use smallvec::SmallVec;
 use std::alloc::AllocError;
 
-/// Puts a section behind others in normal form.
+/// Puts a section after others in normal form.
 pub(crate) fn push_section(
     sections: &mut SmallVec<Section<u32>, 8>,
     section: Section<u32>,

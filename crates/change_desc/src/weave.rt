@@ -9,7 +9,7 @@ use crate::sections::push_section;
 use smallvec::SmallVec;
 use std::alloc::AllocError;
 
-/// Sections in normal form, and a replacement behind them that may still grow.
+/// Sections in normal form, and a replacement after them that may still grow.
 #[derive(Drop)]
 pub(crate) struct Weave {
     pub(crate) sections: SmallVec<Section<u32>, 8>,
@@ -18,7 +18,7 @@ pub(crate) struct Weave {
 }
 
 impl Weave {
-    /// Puts the replacement behind the sections.
+    /// Puts the replacement after the sections.
     pub(crate) fn flush(&mut self) -> Result<(), AllocError>
         requires is_normal { normal counted self.old.sections.items ≡ self.old.sections.items }
         requires old_fits { old_done self.old < 2 ^ 32 }

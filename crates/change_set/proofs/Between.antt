@@ -39,7 +39,7 @@ module _ {C : Type 0} where
       section-step m taken (to - taken) first x s f ∙ ap (λ n. text_of_section taken n first x ++ texts_between (drop (old_of x) m) (drop n first) s) t in
       rw (l, e, append_assoc text (text_of_section taken to first x) (texts_between (drop (old_of x) m) (drop to first) s), ← g) (rw w at h)
 
-  -- what is put behind fits where the whole does
+  -- what is put after fits where the whole does
   pub part-fits : (m : List Bool) (taken to : ℕ) (text first all : List C) (x : Section (List C)) (s r : List (Section (List C))) →
       to - taken ≡ unmarked (take (old_of x) m) → taken ≤ to → r ≡ x ∷ s →
       text ++ texts_between m (drop taken first) r ≡ all → length text + length (text_of_section taken to first x) ≤ length all
@@ -53,7 +53,7 @@ pub record Advance (m : List Bool) (n to taken all : ℕ) : Type 0 where
   pub order : taken ≤ to
   pub within : to + unmarked (drop n m) ≡ all
 
--- behind a section of n characters
+-- after a section of n characters
 pub advance : (m : List Bool) (n a b kept taken all : ℕ) → n ≤ length m → a ≡ n → b ≡ n → kept ≡ marked (take a m) → taken + unmarked m ≡ all →
     Advance m n (taken + (b - kept)) taken all
 advance m n a b kept taken all l e f h w =

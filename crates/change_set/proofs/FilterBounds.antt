@@ -63,16 +63,16 @@ new_follows : (n : ℕ) (r : Along) → row_new (times spelled n follows r) ≡ 
 new_follows zero r = omega arith
 new_follows (suc n) r = omega (arith, new_follows n r)
 
-new_front : (t : Chars) (r : Along) → row_new (in_front spelled t r) ≡ length t + row_new r
-new_front t (last u) = length-append t u
-new_front t (next u stays r) = omega (arith, length-append t u)
-new_front t (next u (leaves v) r) = omega (arith, length-append t u)
-new_front t (next u follows r) = omega (arith, length-append t u)
+new_prefix : (t : Chars) (r : Along) → row_new (in_front spelled t r) ≡ length t + row_new r
+new_prefix t (last u) = length-append t u
+new_prefix t (next u stays r) = omega (arith, length-append t u)
+new_prefix t (next u (leaves v) r) = omega (arith, length-append t u)
+new_prefix t (next u follows r) = omega (arith, length-append t u)
 
 new_along : (s : Sets) → row_new (along_old spelled s) ≡ old_size s + length (written s)
 new_along [] = refl
 new_along (Keep n ∷ s) = omega (arith, new_stays n (along_old spelled s), new_along s)
-new_along (Replace zero t ∷ s) = omega (arith, new_front t (along_old spelled s), new_along s, length-append t (written s))
+new_along (Replace zero t ∷ s) = omega (arith, new_prefix t (along_old spelled s), new_along s, length-append t (written s))
 new_along (Replace (suc n) t ∷ s) = omega (arith, new_follows n (along_old spelled s), new_along s, length-append t (written s))
 
 -- each part leads to a text that is no longer than the old and the new one together

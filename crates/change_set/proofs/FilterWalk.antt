@@ -49,7 +49,7 @@ module _ (side : Side) (rs : List (ℕ × ℕ)) (len : ℕ) where
           inr (ap (takes_char side rs len) k ∙ (char_takes to ∙ (ap (takes side) (r.longest l) ∙ (takes-not (is_protected rs len from) ∙ ap not (sym e)))))
       cases (inr l) = inl (omega (arith, r.some))
 
-  -- a run behind the first
+  -- a run after the first
   pub run_on : (from to end : ℕ) (s : Sets) (b : Bool) (text : Chars) → IsRun rs len from to end → b ≡ takes side (is_protected rs len from) → text ≡ [] →
       normal spelled (parted side rs len from (times spelled (end - from) follows (along_old spelled s))) ≡
       normal spelled (run_section b (to - from) text ∷ parted side rs len to (times spelled (end - to) follows (along_old spelled s)))

@@ -6,7 +6,7 @@ use Rattle.change_desc.specs.Sections.{spelled, is_blank, put, normal, old_of, n
 use Rattle.change_desc.specs.Columns.{Row, last, next, Fate, stays, leaves, follows, in_front, times, along_old}
 use Rattle.change_desc.specs.Algebra.{Piece, whole, part, Open, closed, add, gather, is_cut_old, taken_char, taken}
 use Rattle.change_set.specs.Protection.{run_section}
-use Rattle.change_desc.proofs.Normal.{spelled_laws, put-put, in_order-normal, normal-front, normal-back}
+use Rattle.change_desc.proofs.Normal.{spelled_laws, put-put, in_order-normal, normal-prefix, normal-back}
 use Rattle.change_desc.proofs.Merges.{old_size-normal}
 use Rattle.change_desc.proofs.Weaves.{new_size-normal}
 
@@ -27,7 +27,7 @@ module _ (char gap : ℕ → Bool) where
   abbrev pub parts : ℕ → Along → Sets
   parts p r = closed spelled (opened p r)
 
-  -- nothing is open in front
+  -- nothing is open first
   abbrev pub Shut : Open Chars → Type 0
   Shut o = (o.count ≡ 0) × (o.text ≡ [])
 
@@ -120,14 +120,14 @@ module _ (char gap : ℕ → Bool) where
       (opened (p + 1) (times spelled n follows r)).text (opened (p + suc n) r).text (opened (p + 1) (times spelled n follows r)).rest (opened (p + suc n) r).rest
       (ap (λ o. 1 + o.count) h ∙ (ap (λ q. 1 + (n + (opened q r).count)) e ∙ omega arith)) (ap (λ o. o.text) h ∙ ap (λ q. (opened q r).text) e) (ap (λ o. o.rest) h ∙ ap (λ q. (opened q r).rest) e)
 
-  shut-front : (x : Section Chars) (o : Open Chars) → Shut o → normal spelled (x ∷ closed spelled o) ≡ normal spelled (x ∷ o.rest)
-  shut-front x o h = rw (h.0, h.1) refl
+  shut-prefix : (x : Section Chars) (o : Open Chars) → Shut o → normal spelled (x ∷ closed spelled o) ≡ normal spelled (x ∷ o.rest)
+  shut-prefix x o h = rw (h.0, h.1) refl
 
   cut-run : (n p : ℕ) (r : Along) → AllAre true p (suc n) → Shut (opened (p + suc n) r) → normal spelled (parts p (times spelled (suc n) follows r)) ≡ normal spelled (Replace (suc n) [] ∷ parts (p + suc n) r)
   cut-run n p r a h =
       let o : Open Chars = opened (p + suc n) r in
       ap (λ o. normal spelled (closed spelled o)) (cut-rest (suc n) p r a) ∙
-      (rw (h.0, h.1, add-zero (suc n)) refl ∙ sym (shut-front (Replace (suc n) []) o h))
+      (rw (h.0, h.1, add-zero (suc n)) refl ∙ sym (shut-prefix (Replace (suc n) []) o h))
 
   leave_char : (p : ℕ) (t : Chars) (r : Along) → char p ≡ true →
       opened p (next [] (leaves t) r) ≡ record { count = 0; text = []; rest = Replace (1 + (opened (p + 1) r).count) (t ++ (opened (p + 1) r).text) ∷ (opened (p + 1) r).rest }
@@ -145,7 +145,7 @@ module _ (char gap : ℕ → Bool) where
       let k : 1 + (n + 0) ≡ suc n = omega arith in
       ap (λ o. normal spelled (closed spelled o)) (leave_char p t (times spelled n follows r) (first_is true p n a)) ∙
       (ap (λ (q : Open Chars). normal spelled (Replace (1 + q.count) (t ++ q.text) ∷ q.rest)) g ∙
-      (rw (h.0, h.1, k, append-nil t) refl ∙ sym (shut-front (Replace (suc n) t) o h)))
+      (rw (h.0, h.1, k, append-nil t) refl ∙ sym (shut-prefix (Replace (suc n) t) o h)))
 
   -- where nothing is open
   shut_gap : (b : Bool) (g : Chars) (ps : List (Piece Chars)) → Shut (gather spelled ps) → Shut (gather spelled (cond b (whole (Replace 0 g) ∷ []) [] ++ ps))
@@ -173,9 +173,9 @@ module _ (char gap : ℕ → Bool) where
   shut-row p (last g) h = shut_end (gap p) g
   shut-row p (next g y r) h = shut_gap (gap p) g (taken_char spelled (char p) y ∷ taken spelled char gap (p + 1) r) (shut_column (char p) y (taken spelled char gap (p + 1) r) h)
 
-  fresh-front : (t : Chars) (r : Along) → IsFresh r → IsFresh (in_front spelled t r)
-  fresh-front t (last g) h = tt
-  fresh-front t (next g y r) h = h
+  fresh-prefix : (t : Chars) (r : Along) → IsFresh r → IsFresh (in_front spelled t r)
+  fresh-prefix t (last g) h = tt
+  fresh-prefix t (next g y r) h = h
 
   fresh-times : (n : ℕ) (r : Along) → IsFresh r → IsFresh (times spelled n stays r)
   fresh-times zero r h = h
@@ -184,7 +184,7 @@ module _ (char gap : ℕ → Bool) where
   fresh-along : (s : Sets) → IsFresh (along_old spelled s)
   fresh-along [] = tt
   fresh-along (Keep n ∷ s) = fresh-times n (along_old spelled s) (fresh-along s)
-  fresh-along (Replace zero t ∷ s) = fresh-front t (along_old spelled s) (fresh-along s)
+  fresh-along (Replace zero t ∷ s) = fresh-prefix t (along_old spelled s) (fresh-along s)
   fresh-along (Replace (suc n) t ∷ s) = refl
 
   shut-kept : (p n : ℕ) (r : Along) → char p ≡ false → Shut (opened p (times spelled (suc n) follows r))
@@ -247,10 +247,10 @@ module _ (char gap : ℕ → Bool) where
       (insertion_gap (gap p) t g [] ∙
       ap (λ ps. normal spelled (cond (gap p) (Replace 0 t ∷ []) [] ++ closed spelled (gather spelled ps))) (append-nil (cond (gap p) (whole (Replace 0 g) ∷ []) [])))
 
--- one section put behind what is filtered
+-- one section put after what is filtered
 pub filter-push : (old new f g all : Sets) (y : Section Chars) → new ≡ normal spelled (old ++ y ∷ []) → normal spelled f ≡ normal spelled (y ∷ g) → normal spelled (old ++ f) ≡ all → normal spelled (new ++ g) ≡ all
 filter-push old new f g all y e h k =
-    rw (e, normal-front spelled spelled_laws (old ++ y ∷ []) g, append_assoc old (y ∷ []) g) (sym (normal-back spelled spelled_laws old f (y ∷ g) h) ∙ k)
+    rw (e, normal-prefix spelled spelled_laws (old ++ y ∷ []) g, append_assoc old (y ∷ []) g) (sym (normal-back spelled spelled_laws old f (y ∷ g) h) ∙ k)
 
 old_append : (s t : Sets) → old_size (s ++ t) ≡ old_size s + old_size t
 old_append [] t = omega arith

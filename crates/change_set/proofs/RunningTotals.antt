@@ -69,15 +69,15 @@ more-times : (t n : ℕ) (s q : Row ℕ (Fate ℕ)) → More t s q → More t (t
 more-times t zero s q m = m
 more-times t (suc n) s q m = later 0 stays (times counted n stays s) (times counted n stays q) (more-times t n s q m)
 
-more-front : (t : ℕ) (s : Row ℕ (Fate ℕ)) → More t (in_front counted 0 s) (in_front counted t s)
-more-front t (last j) = subst (λ k. More t (last k) (last (t + j))) (sym (zero-add j)) (at_end j)
-more-front t (next j y s) = subst (λ k. More t (next k y s) (next (t + j) y s)) (sym (zero-add j)) (at_gap j y s)
+more-prefix : (t : ℕ) (s : Row ℕ (Fate ℕ)) → More t (in_front counted 0 s) (in_front counted t s)
+more-prefix t (last j) = subst (λ k. More t (last k) (last (t + j))) (sym (zero-add j)) (at_end j)
+more-prefix t (next j y s) = subst (λ k. More t (next k y s) (next (t + j) y s)) (sym (zero-add j)) (at_gap j y s)
 
 abbrev parts : (from gone rest t : ℕ) → List (Section ℕ)
 parts from gone rest t = Keep from ∷ Replace gone t ∷ Keep rest ∷ []
 
 more-parts : (from gone rest t : ℕ) → More t (along_old counted (parts from gone rest 0)) (along_old counted (parts from gone rest t))
-more-parts from zero rest t = more-times t from (in_front counted 0 (along_old counted (Keep rest ∷ []))) (in_front counted t (along_old counted (Keep rest ∷ []))) (more-front t (along_old counted (Keep rest ∷ [])))
+more-parts from zero rest t = more-times t from (in_front counted 0 (along_old counted (Keep rest ∷ []))) (in_front counted t (along_old counted (Keep rest ∷ []))) (more-prefix t (along_old counted (Keep rest ∷ [])))
 more-parts from (suc n) rest t =
     let s : Row ℕ (Fate ℕ) = times counted n follows (along_old counted (Keep rest ∷ [])) in
     more-times t from (next 0 (leaves 0) s) (next 0 (leaves t) s) (subst (λ k. More t (next 0 (leaves 0) s) (next 0 (leaves k) s)) (add-zero t) (at_text 0 0 s))
@@ -87,16 +87,16 @@ times-add : (m n : ℕ) (s : Row ℕ (Fate ℕ)) → times counted (m + n) stays
 times-add zero n s = let e : 0 + n ≡ n = omega arith in rw e refl
 times-add (suc m) n s = let e : suc m + n ≡ suc (m + n) = omega arith in rw e (ap (next 0 stays) (times-add m n s))
 
-front-none : (s : Row ℕ (Fate ℕ)) → in_front counted 0 s ≡ s
-front-none (last j) = ap last (zero-add j)
-front-none (next j y s) = ap (λ k. next k y s) (zero-add j)
+prefix-none : (s : Row ℕ (Fate ℕ)) → in_front counted 0 s ≡ s
+prefix-none (last j) = ap last (zero-add j)
+prefix-none (next j y s) = ap (λ k. next k y s) (zero-add j)
 
 span-row : (from gone rest t : ℕ) → along_old counted (normal counted (parts from gone rest t)) ≡ along_old counted (parts from gone rest t)
 span-row zero zero zero zero = refl
 span-row zero zero (suc r) zero = refl
-span-row (suc f) zero zero zero = ap (λ s. times counted (suc f) stays s) (sym (front-none (last 0)))
+span-row (suc f) zero zero zero = ap (λ s. times counted (suc f) stays s) (sym (prefix-none (last 0)))
 span-row (suc f) zero (suc r) zero =
-    times-add (suc f) (suc r) (last 0) ∙ ap (λ s. times counted (suc f) stays s) (sym (front-none (times counted (suc r) stays (last 0))))
+    times-add (suc f) (suc r) (last 0) ∙ ap (λ s. times counted (suc f) stays s) (sym (prefix-none (times counted (suc r) stays (last 0))))
 span-row zero zero zero (suc t) = refl
 span-row zero zero (suc r) (suc t) = refl
 span-row (suc f) zero zero (suc t) = refl

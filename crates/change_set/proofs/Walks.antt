@@ -4,13 +4,13 @@ use Rattle.std.proofs.lemmas.List.{drop_more, drop_all}
 use Rattle.change_desc.specs.declared.section.Section.{Section}
 use Rattle.change_desc.specs.declared.section.Section.TheVariants.{Keep, Replace}
 use Rattle.change_desc.specs.Sections.{Texts, spelled, counted, is_blank, kind, joins, normal, apply, invert, turned, inverted, measured, lengths, old_of, old_size, new_of, new_size, IsSet}
-use Rattle.change_desc.proofs.Normal.{Laws, spelled_laws, counted_laws, InOrder, in_order, normal-in_order, normal-front, normal-normal}
+use Rattle.change_desc.proofs.Normal.{Laws, spelled_laws, counted_laws, InOrder, in_order, normal-in_order, normal-prefix, normal-normal}
 use Rattle.change_desc.proofs.Merges.{old_size-lengths, new_size-lengths, old_size-normal}
 use Rattle.change_desc.proofs.Weaves.{new_size-normal, new_size-append}
 use Rattle.change_desc.proofs.Lengths.{spelled_sizes, normal-lengths}
 use Rattle.change_desc.proofs.Turns.{is_set-turned}
 
--- the section that comes, and those behind it
+-- the section that comes, and those after it
 pub at_section : {T : Type 0} (s : List (Section T)) (i : ℕ) (x y : Section T) → i < length s → x ≡ get_or s i x → x ≡ y → drop i s ≡ y ∷ drop (i + 1) s
 at_section s i x y l r e = drop_more s i x l ∙ (ap (λ z. z ∷ drop (i + 1) s) (sym r) ∙ ap (λ z. z ∷ drop (i + 1) s) e)
 
@@ -81,7 +81,7 @@ old_size-append (x ∷ s) t = omega (arith, old_size-append s t)
 -- one more section measured
 pub measure-step : (d e : List (Section ℕ)) (x : Section ℕ) (rest all : List (Section ℕ)) → e ≡ normal counted (d ++ x ∷ []) → normal counted (d ++ x ∷ rest) ≡ all → normal counted (e ++ rest) ≡ all
 measure-step d e x rest all h k =
-    rw (h, normal-front counted counted_laws (d ++ x ∷ []) rest, append_assoc d (x ∷ []) rest) k
+    rw (h, normal-prefix counted counted_laws (d ++ x ∷ []) rest, append_assoc d (x ∷ []) rest) k
 
 pub pushed-old : (d e : List (Section ℕ)) (x : Section ℕ) → e ≡ normal counted (d ++ x ∷ []) → old_size e ≡ old_size d + old_of x
 pushed-old d e x h = ap old_size h ∙ (old_size-normal counted (d ++ x ∷ []) ∙ omega (arith, old_size-append d (x ∷ [])))

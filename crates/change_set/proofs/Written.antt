@@ -152,16 +152,16 @@ module _ {C : Type 0} where
   times-texts-follows zero s = refl
   times-texts-follows (suc n) s = times-texts-follows n s
 
-  front-texts : (t : List C) (s : Row (List C) (Fate (List C))) → row_texts (in_front spelled t s) ≡ t ++ row_texts s
-  front-texts t (last u) = refl
-  front-texts t (next u stays s) = append_assoc t u (row_texts s)
-  front-texts t (next u (leaves v) s) = append_assoc t u (v ++ row_texts s)
-  front-texts t (next u follows s) = append_assoc t u (row_texts s)
+  prefix-texts : (t : List C) (s : Row (List C) (Fate (List C))) → row_texts (in_front spelled t s) ≡ t ++ row_texts s
+  prefix-texts t (last u) = refl
+  prefix-texts t (next u stays s) = append_assoc t u (row_texts s)
+  prefix-texts t (next u (leaves v) s) = append_assoc t u (v ++ row_texts s)
+  prefix-texts t (next u follows s) = append_assoc t u (row_texts s)
 
   along-texts : (s : List (Section (List C))) → row_texts (along_old spelled s) ≡ written s
   along-texts [] = refl
   along-texts (Keep n ∷ s) = times-texts-stays n (along_old spelled s) ∙ along-texts s
-  along-texts (Replace zero t ∷ s) = front-texts t (along_old spelled s) ∙ ap (λ r. t ++ r) (along-texts s)
+  along-texts (Replace zero t ∷ s) = prefix-texts t (along_old spelled s) ∙ ap (λ r. t ++ r) (along-texts s)
   along-texts (Replace (suc n) t ∷ s) = ap (λ r. t ++ r) (times-texts-follows n (along_old spelled s) ∙ along-texts s)
 
   pub written-map_over : (b : List (Section (List C))) (a : List (Section ℕ)) (before : Bool) → old_size a ≡ old_size b → written (map_over spelled b a before) ≡ written b
@@ -237,15 +237,15 @@ module _ {C : Type 0} where
   along-follows (suc n) (false ∷ m) [] s h l = absurd (omega arith)
   along-follows (suc n) (false ∷ m) (c ∷ w) s h l = along-follows n m w s (omega arith) (omega arith)
 
-  along-front : (t : List C) (m : List Bool) (w : List C) (s : Row (List C) (Fate (List C))) → texts_along m w (in_front spelled t s) ≡ t ++ texts_along m w s
-  along-front t m w (last u) = refl
-  along-front t [] w (next u y s) = refl
-  along-front t (true ∷ m) w (next u stays s) = append_assoc t u (texts_along m w s)
-  along-front t (true ∷ m) w (next u (leaves v) s) = append_assoc t u (v ++ texts_along m w s)
-  along-front t (true ∷ m) w (next u follows s) = append_assoc t u (texts_along m w s)
-  along-front t (false ∷ m) w (next u stays s) = append_assoc t u (take 1 w ++ texts_along m (drop 1 w) s)
-  along-front t (false ∷ m) w (next u (leaves v) s) = append_assoc t u (v ++ texts_along m (drop 1 w) s)
-  along-front t (false ∷ m) w (next u follows s) = append_assoc t u (texts_along m (drop 1 w) s)
+  along-prefix : (t : List C) (m : List Bool) (w : List C) (s : Row (List C) (Fate (List C))) → texts_along m w (in_front spelled t s) ≡ t ++ texts_along m w s
+  along-prefix t m w (last u) = refl
+  along-prefix t [] w (next u y s) = refl
+  along-prefix t (true ∷ m) w (next u stays s) = append_assoc t u (texts_along m w s)
+  along-prefix t (true ∷ m) w (next u (leaves v) s) = append_assoc t u (v ++ texts_along m w s)
+  along-prefix t (true ∷ m) w (next u follows s) = append_assoc t u (texts_along m w s)
+  along-prefix t (false ∷ m) w (next u stays s) = append_assoc t u (take 1 w ++ texts_along m (drop 1 w) s)
+  along-prefix t (false ∷ m) w (next u (leaves v) s) = append_assoc t u (v ++ texts_along m (drop 1 w) s)
+  along-prefix t (false ∷ m) w (next u follows s) = append_assoc t u (texts_along m (drop 1 w) s)
 
   unmarked-drop : (n : ℕ) (m : List Bool) (w : List C) → unmarked m ≤ length w → unmarked (drop n m) ≤ length (drop (unmarked (take n m)) w)
   unmarked-drop zero m w l = l
@@ -261,7 +261,7 @@ module _ {C : Type 0} where
       along-stays n m w (along_old spelled b) (omega arith) l ∙
       ap (λ u. take (unmarked (take n m)) w ++ u) (along-between (drop n m) (drop (unmarked (take n m)) w) b (omega (arith, length-drop n m)) (unmarked-drop n m w l))
   along-between m w (Replace zero t ∷ b) h l =
-      along-front t m w (along_old spelled b) ∙ ap (λ u. t ++ u) (along-between m w b (omega arith) l)
+      along-prefix t m w (along_old spelled b) ∙ ap (λ u. t ++ u) (along-between m w b (omega arith) l)
   along-between [] w (Replace (suc n) t ∷ b) h l = absurd (omega arith)
   along-between (true ∷ m) w (Replace (suc n) t ∷ b) h l =
       ap (λ u. t ++ u) (along-follows n m w (along_old spelled b) (omega arith) l ∙
@@ -280,16 +280,16 @@ module _ {C : Type 0} where
   marks-mores [] r = refl
   marks-mores (c ∷ t) r = ap (λ u. false ∷ u) (marks-mores t r)
 
-  marks-front : (n : ℕ) (r : Row ℕ (Origin C)) → row_marks (in_front counted n r) ≡ row_marks r
-  marks-front n (last m) = refl
-  marks-front n (next m old r) = refl
-  marks-front n (next m (new k c) r) = refl
-  marks-front n (next m (more c) r) = refl
+  marks-prefix : (n : ℕ) (r : Row ℕ (Origin C)) → row_marks (in_front counted n r) ≡ row_marks r
+  marks-prefix n (last m) = refl
+  marks-prefix n (next m old r) = refl
+  marks-prefix n (next m (new k c) r) = refl
+  marks-prefix n (next m (more c) r) = refl
 
   row_marks-along : (a : List (Section (List C))) → row_marks (along_new spelled a) ≡ kept_marks (inverted (lengths spelled a))
   row_marks-along [] = refl
   row_marks-along (Keep n ∷ a) = marks-times n (along_new spelled a) ∙ ap (λ u. replicate n true ++ u) (row_marks-along a)
-  row_marks-along (Replace n [] ∷ a) = marks-front n (along_new spelled a) ∙ row_marks-along a
+  row_marks-along (Replace n [] ∷ a) = marks-prefix n (along_new spelled a) ∙ row_marks-along a
   row_marks-along (Replace n (c ∷ t) ∷ a) = ap (λ u. false ∷ u) (marks-mores t (along_new spelled a) ∙ ap (λ u. replicate (length t) false ++ u) (row_marks-along a))
 
   fresh-times : (n : ℕ) (r : Row ℕ (Origin C)) → row_fresh (times counted n old r) ≡ row_fresh r
@@ -300,16 +300,16 @@ module _ {C : Type 0} where
   fresh-mores [] r = refl
   fresh-mores (c ∷ t) r = ap (λ u. c ∷ u) (fresh-mores t r)
 
-  fresh-front : (n : ℕ) (r : Row ℕ (Origin C)) → row_fresh (in_front counted n r) ≡ row_fresh r
-  fresh-front n (last m) = refl
-  fresh-front n (next m old r) = refl
-  fresh-front n (next m (new k c) r) = refl
-  fresh-front n (next m (more c) r) = refl
+  fresh-prefix : (n : ℕ) (r : Row ℕ (Origin C)) → row_fresh (in_front counted n r) ≡ row_fresh r
+  fresh-prefix n (last m) = refl
+  fresh-prefix n (next m old r) = refl
+  fresh-prefix n (next m (new k c) r) = refl
+  fresh-prefix n (next m (more c) r) = refl
 
   row_fresh-along : (a : List (Section (List C))) → row_fresh (along_new spelled a) ≡ written a
   row_fresh-along [] = refl
   row_fresh-along (Keep n ∷ a) = fresh-times n (along_new spelled a) ∙ row_fresh-along a
-  row_fresh-along (Replace n [] ∷ a) = fresh-front n (along_new spelled a) ∙ row_fresh-along a
+  row_fresh-along (Replace n [] ∷ a) = fresh-prefix n (along_new spelled a) ∙ row_fresh-along a
   row_fresh-along (Replace n (c ∷ t) ∷ a) = ap (λ u. c ∷ u) (fresh-mores t (along_new spelled a) ∙ ap (λ u. t ++ u) (row_fresh-along a))
 
   pub unmarked-kept_marks : (a : List (Section (List C))) → unmarked (kept_marks (inverted (lengths spelled a))) ≡ length (written a)

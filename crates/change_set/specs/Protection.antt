@@ -40,7 +40,7 @@ pub record IsRun (rs : List (ℕ × ℕ)) (len from to end : ℕ) : Type 0 where
   pub alike : (p : ℕ) → from ≤ p → p < to → is_protected rs len p ≡ is_protected rs len from
   pub longest : to < end → is_protected rs len to ≡ not (is_protected rs len from)
 
--- no range begins or ends behind one place and before another
+-- no range begins or ends after one place and before another
 pub record IsEdge (rs : List (ℕ × ℕ)) (from to end : ℕ) : Type 0 where
   pub some : from < to
   pub within : to ≤ end

@@ -26,7 +26,7 @@ abbrev pub first_fault : (len index : ℕ) → List Change → Option ChangesErr
 first_fault len index [] = None
 first_fault len index (change ∷ changes) = or_else (fault len index change) (first_fault len (suc index) changes)
 
--- the first of the running totals that leads to a text longer than max: the total at the start, and the one behind
+-- the first of the running totals that leads to a text longer than max: the total at the start, and the one after
 -- each set that is put in
 abbrev pub too_long : (max : ℕ) (total : List (Section (List ℕ))) → List (List (Section (List ℕ))) → Option ChangesError
 too_long max total [] = cond (ltb max (new_size spelled total)) (Some (TooLong (new_size spelled total) max)) None

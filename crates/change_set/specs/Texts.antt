@@ -3,7 +3,7 @@ use Rattle.std.specs.Prelude.{ℕ, zero, suc, ◌+◌, ◌-◌, Bool, true, fals
 use Rattle.change_desc.specs.declared.section.Section.{Section}
 use Rattle.change_desc.specs.declared.section.Section.TheVariants.{Keep, Replace}
 
--- the texts that are put in, one behind the other
+-- the texts that are put in, one after the other
 abbrev pub written : {C : Type 0} → List (Section (List C)) → List C
 written [] = []
 written (Keep n ∷ s) = written s

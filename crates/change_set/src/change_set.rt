@@ -44,10 +44,10 @@ impl Model for ChangeSet {
 
 impl ChangeSet {
     /// The set that several changes of one document make, in any order and also where they overlap: each change moves
-    /// over those before it and is put behind them (ChangeSet.of). `len` is the document's length, and no running total
+    /// over those before it and is put after them (ChangeSet.of). `len` is the document's length, and no running total
     /// may lead to a text longer than `max`, the set that keeps all being the first of them. `Err`: the first change
     /// whose range is reversed or ends past the document, or whose set is over another length; else the first running
-    /// total that is too long; or memory was wanting.
+    /// total that is too long; or out of memory.
     pub fn of(
         alloc: Global,
         changes: &[Change],
@@ -76,7 +76,7 @@ impl ChangeSet {
         Ok(total)
     }
 
-    /// The set that keeps a whole document of `len` characters (ChangeSet.empty). `Err`: memory was wanting.
+    /// The set that keeps a whole document of `len` characters (ChangeSet.empty). `Err`: out of memory.
     pub fn empty(alloc: Global, len: u32) -> Result<ChangeSet, AllocError>
         ensures { IfOk result (λ set. set ≡ normal spelled (Keep len ∷ [])) }
     {
@@ -126,7 +126,7 @@ impl ChangeSet {
         self.sections.as_slice()
     }
 
-    /// The new document over an old one (ChangeSet.apply). `Err`: memory was wanting.
+    /// The new document over an old one (ChangeSet.apply). `Err`: out of memory.
     pub fn apply(&self, document: &Text) -> Result<Text, AllocError>
         requires { old_size self.now ≡ length document.now.characters }
         ensures { IfOk result (λ text. text.characters ≡ apply self.now document.now.characters) }
@@ -149,7 +149,7 @@ impl ChangeSet {
         Ok(text)
     }
 
-    /// This set and then the next, as one set (ChangeSet.compose). `Err`: memory was wanting.
+    /// This set and then the next, as one set (ChangeSet.compose). `Err`: out of memory.
     pub fn compose(&self, next: &ChangeSet) -> Result<ChangeSet, AllocError>
         requires { new_size spelled self.now ≡ old_size next.now }
         ensures both { IfOk result (λ both. both ≡ compose spelled self.now next.now) }
@@ -163,7 +163,7 @@ impl ChangeSet {
     }
 
     /// This set over the new document of other changes of the same document (ChangeSet.map). Where texts meet, those of
-    /// the other changes stand first, unless `before` holds. `Err`: memory was wanting.
+    /// the other changes stand first, unless `before` holds. `Err`: out of memory.
     pub fn map(&self, over: &Desc, before: bool) -> Result<ChangeSet, AllocError>
         requires meet { old_size over.now ≡ old_size self.now }
         requires fits { new_size spelled (map_over spelled self.now over.now before) < 2 ^ 32 }
@@ -192,7 +192,7 @@ impl ChangeSet {
         Ok(ChangeSet { sections })
     }
 
-    /// The same changes with each text known by its length alone (ChangeSet.desc). `Err`: memory was wanting.
+    /// The same changes with each text known by its length alone (ChangeSet.desc). `Err`: out of memory.
     pub fn desc(&self) -> Result<Desc, AllocError>
         ensures { IfOk result (λ desc. desc ≡ lengths spelled self.now) }
     {
@@ -207,7 +207,7 @@ impl ChangeSet {
     /// (EditorState.changeFilter). A deleted character inside a range stays in the document; a pure insertion strictly
     /// inside one is dropped; a replacement's text shares the fate of its first deleted character. Ranges are cut to
     /// the document, empty or reversed ones are passed over, and those that overlap or touch count as one. `Err`:
-    /// memory was wanting.
+    /// out of memory.
     pub fn filter(&self, protected: &[(u32, u32)]) -> Result<Filtered, AllocError>
         requires kept_fits { new_size spelled (filter_kept spelled protected.now self.now) < 2 ^ 32 }
         requires dropped_fits { new_size spelled (filter_dropped spelled protected.now self.now) < 2 ^ 32 }
@@ -227,7 +227,7 @@ impl ChangeSet {
         same_sections(self.sections.as_slice(), other.sections.as_slice())
     }
 
-    /// The same set once more. `Err`: memory was wanting.
+    /// The same set once more. `Err`: out of memory.
     pub fn try_copy(&self) -> Result<ChangeSet, AllocError>
         ensures { IfOk result (λ copy. copy ≡ self.now) }
     {
@@ -277,7 +277,7 @@ impl ChangeSet {
         Ok(ChangeSet { sections })
     }
 
-    /// The texts that it puts in, one behind the other.
+    /// The texts that it puts in, one after the other.
     fn own_text(&self) -> Result<Text, AllocError>
         ensures { IfOk result (λ text. text.characters ≡ written self.now) }
     {
@@ -302,7 +302,7 @@ impl ChangeSet {
         lengths.inverted()
     }
 
-    /// The texts of this set and then the next, one behind the other.
+    /// The texts of this set and then the next, one after the other.
     fn composed_text(&self, next: &ChangeSet) -> Result<Text, AllocError>
         requires { new_size spelled self.now ≡ old_size next.now }
         ensures { IfOk result (λ text. text.characters ≡ written (compose spelled self.now next.now)) }

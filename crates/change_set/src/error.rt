@@ -28,7 +28,7 @@ pub enum ChangesError {
         len: u64,
         max: u32,
     },
-    /// Memory was wanting.
+    /// Out of memory.
     #[error("out of memory")]
     NoMemory,
 }

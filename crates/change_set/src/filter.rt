@@ -13,7 +13,7 @@ use line_tree::Text;
 use smallvec::SmallVec;
 use std::alloc::{AllocError, Global};
 
-/// Puts a run of deleted characters behind a part: their deletion with a text, or characters that are kept.
+/// Puts a run of deleted characters after a part: their deletion with a text, or characters that are kept.
 fn push_run(
     part: &mut SmallVec<Section<InsertedText>, 8>,
     is_taken: bool,
@@ -32,7 +32,7 @@ fn push_run(
     }
 }
 
-/// Puts the deleted characters of a section from one place to another behind a part, where its text is already put.
+/// Puts the deleted characters of a section from one place to another after a part, where its text is already put.
 fn push_runs(
     alloc: Global,
     part: &mut SmallVec<Section<InsertedText>, 8>,
@@ -60,7 +60,7 @@ fn push_runs(
     Ok(())
 }
 
-/// Puts a section that deletes characters behind a part: run by run, its text with the first.
+/// Puts a section that deletes characters after a part: run by run, its text with the first.
 fn push_deletion(
     alloc: Global,
     part: &mut SmallVec<Section<InsertedText>, 8>,
@@ -87,7 +87,7 @@ fn push_deletion(
     Ok(())
 }
 
-/// Puts what a part has of a section behind it.
+/// Puts what a part has of a section after it.
 fn push_filtered(
     alloc: Global,
     part: &mut SmallVec<Section<InsertedText>, 8>,

@@ -56,7 +56,7 @@ impl InsertedText {
         self.text.same(&other.text)
     }
 
-    /// The same text once more. `Err`: memory was wanting.
+    /// The same text once more. `Err`: out of memory.
     pub fn try_copy(&self) -> Result<InsertedText, AllocError>
         ensures { IfOk result (λ copy. copy ≡ self.now) }
     {

@@ -5,7 +5,7 @@ ghost use Rattle.change_set.specs.Texts.{marked};
 
 use change_desc::Section;
 
-/// A place in the old text of a description: a section, and how many of its characters are behind.
+/// A place in the old text of a description: a section, and how many of its characters are after.
 #[derive(Clone, Copy, Drop)]
 pub(crate) struct Place {
     pub(crate) index: usize,
@@ -46,7 +46,7 @@ impl Place {
         (place, kept)
     }
 
-    /// The place behind some of the characters that are left of its section.
+    /// The place after some of the characters that are left of its section.
     fn beyond(self, step: u32, left: u32) -> Place
         requires offset { self.offset + left < 2 ^ 32 }
         requires index { self.index + 1 < 2 ^ 64 }

@@ -28,7 +28,7 @@ pub(crate) fn is_inside(ranges: &[(u32, u32)], len: u32, pos: u32) -> bool
     pos > 0 && is_protected(ranges, len, pos - 1) && is_protected(ranges, len, pos)
 }
 
-/// A place that comes first, if it is behind another.
+/// A place that comes first, if it is after another.
 fn earlier(place: u32, from: u32, first: u32) -> u32
     ensures least { result ≤ first }
     ensures taken { from < place → result ≤ place }
@@ -41,7 +41,7 @@ fn earlier(place: u32, from: u32, first: u32) -> u32
     }
 }
 
-/// A place behind another, up to which no range begins or ends.
+/// A place after another, up to which no range begins or ends.
 fn next_edge(ranges: &[(u32, u32)], from: u32, end: u32) -> u32
     requires { from < end }
     ensures { IsEdge ranges.now from result end }

@@ -148,7 +148,7 @@ fn joined(
     }
 }
 
-/// Puts a section behind others in normal form.
+/// Puts a section after others in normal form.
 pub(crate) fn push_section(
     sections: &mut SmallVec<Section<InsertedText>, 8>,
     section: Section<InsertedText>,

@@ -9,7 +9,7 @@ use line_tree::Text;
 use smallvec::SmallVec;
 use std::alloc::{AllocError, Global};
 
-/// The texts that a set puts in, one behind the other.
+/// The texts that a set puts in, one after the other.
 pub(crate) fn written(alloc: Global, sections: &[Section<InsertedText>]) -> Result<Text, AllocError>
     requires { length (written sections.now) < 2 ^ 32 }
     ensures { IfOk result (λ text. text.characters ≡ written sections.now) }
@@ -48,7 +48,7 @@ pub(crate) fn filled(
     Ok(sections)
 }
 
-/// A text with what a section of the second of two sets takes put behind it: characters that the first set puts in, where
+/// A text with what a section of the second of two sets takes put after it: characters that the first set puts in, where
 /// it keeps them, or its own text.
 fn extended(
     text: &Text,

@@ -74,7 +74,7 @@ impl ChangeSet {
     }
 
     /// The changes so far and then the replacement of a range, where the document doesn't get too long. A replacement
-    /// whose own new document has 2 ^ 32 characters or more can't be held: memory is wanting.
+    /// whose own new document has 2 ^ 32 characters or more can't be held: out of memory.
     fn with_span(
         &self,
         from: u32,

@@ -8,7 +8,7 @@ use Rattle.cm_outside.specs.declared.reading.Reading.{Reading}
 use Rattle.cm_outside.specs.declared.reading.Reading.TheVariants.{Line, TooLong, End, Failed, Budget}
 use Rattle.cm_outside.specs.Progress.{Progress, pending, left_of, IsNextLine, Reads, Advances, TakesOf}
 use Rattle.cm_outside.specs.Filling.{IsLineOrTooLong, SameCounts, CutsLine, TakesRest, Fills, FillsFrom}
-use Rattle.cm_outside.proofs.Breaks.{take_front}
+use Rattle.cm_outside.proofs.Breaks.{take_prefix}
 
 take_sum : (m n : ℕ) (xs : List ℕ) → take (m + n) xs ≡ take m xs ++ take n (drop m xs)
 take_sum m n xs = sym (take-append-drop m (take (m + n) xs)) ∙ ap (λ a. a ++ drop m (take (m + n) xs)) (take-take m (m + n) xs (omega arith)) ∙ ap (λ b. take m xs ++ b) (drop-take m n xs)
@@ -78,7 +78,7 @@ pub cut_none : (kept new_kept : List ℕ) (old now new : Progress) (told t : Opt
 cut_none kept new_kept old now new told t s same cut = record {
   part = s.part ++ now.rest;
   one = no_break_append s.part now.rest s.one cut.one;
-  front = cut.kept ∙ ap (λ k. take 1048577 (k ++ now.rest)) s.front ∙ take_front 1048577 s.part now.rest;
+  front = cut.kept ∙ ap (λ k. take 1048577 (k ++ now.rest)) s.front ∙ take_prefix 1048577 s.part now.rest;
   len = omega (arith, s.len, length-append s.part now.rest, ap length cut.none, same.taken);
   limit = same.limit ∙ s.limit;
   later = omega (arith, s.later, same.taken);
@@ -151,7 +151,7 @@ at_break r kept new_kept old now new told t b s same either e is = reads told s.
   reads None h = tt
   reads (Some input) h =
       let cut = when_true _ _ b e either in
-      let front : new_kept.items ≡ take 1048577 (s.part ++ cut.part) = cut.kept ∙ ap (λ k. take 1048577 (k ++ cut.part)) s.front ∙ take_front 1048577 s.part cut.part in
+      let front : new_kept.items ≡ take 1048577 (s.part ++ cut.part) = cut.kept ∙ ap (λ k. take 1048577 (k ++ cut.part)) s.front ∙ take_prefix 1048577 s.part cut.part in
       let bytes : pending old new input ≡ (s.part ++ cut.part) ++ 10 ∷ new.rest = ap (λ n. old.rest ++ take (n - old.taken) input) same.taken ∙ sym h ∙ ap (λ r. s.part ++ r) cut.bytes ∙ sym (append_assoc s.part cut.part (10 ∷ new.rest)) in
       answered r new_kept (s.part ++ cut.part) old new input front is
       (record { start = s.start; one = no_break_append s.part cut.part s.one cut.one; place = inl (record { bytes = bytes; goes_on = same.ended ∙ s.goes_on }) })

@@ -21,7 +21,7 @@ pub record SameCounts (old new : Progress) : Type 0 where
   pub taken : new.taken ≡ old.taken
   pub ended : new.ended ≡ old.ended
 
--- up to a break, which is passed over, what stood ready went to the line, of which only a front is kept
+-- up to a break, which is passed over, what stood ready went to the line, of which only a prefix is kept
 pub record CutsLine (line new_line rest new_rest : List ℕ) : Type 0 where
   pub part : List ℕ
   pub one : HasNoBreak part

@@ -13,7 +13,7 @@ abbrev pub HasNoBreak : List ℕ → Type 0
 HasNoBreak [] = Unit {0}
 HasNoBreak (x ∷ xs) = (x ≢ line_feed) × HasNoBreak xs
 
--- a byte in front of the first line
+-- a byte before the first line
 abbrev pub onto_first : ℕ → List (List ℕ) → List (List ℕ)
 onto_first x [] = (x ∷ []) ∷ []
 onto_first x (line ∷ lines) = (x ∷ line) ∷ lines
@@ -23,7 +23,7 @@ abbrev pub lines_of : List ℕ → List (List ℕ)
 lines_of [] = []
 lines_of (x ∷ xs) = if x == line_feed then [] ∷ lines_of xs else onto_first x (lines_of xs)
 
--- a byte in front of the first whole line
+-- a byte before the first whole line
 abbrev pub onto_whole : ℕ → List (List ℕ) → List (List ℕ)
 onto_whole x [] = []
 onto_whole x (line ∷ lines) = (x ∷ line) ∷ lines

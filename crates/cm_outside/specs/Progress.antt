@@ -1,4 +1,4 @@
--- How far a reader of lines has come, and what one call of it made of the bytes ahead.
+-- How far a reader of lines has come, and what one call of it made of the bytes before.
 use Rattle.std.specs.Prelude.{◌≡◌, ℕ, ◌+◌, ◌-◌, ◌<◌, ◌≤◌, ◌⊎◌, List, [], ◌∷◌, ◌++◌, Bool, true, false, length, take, drop, Option, Some}
 use Rattle.cm_outside.specs.Lines.{line_feed, max_line, HasNoBreak}
 use Rattle.cm_outside.specs.declared.reading.Reading.{Reading}

@@ -3,7 +3,7 @@
 //!
 //! The layer above may rely on this: a line reader answers the lines of exactly the bytes that the source gave, takes
 //! no byte past its limit but one, and answers a failure only where the source's count of faults rose; a whole
-//! piece was written, or a front of it where the sink's count of faults rose.
+//! piece was written, or a prefix of it where the sink's count of faults rose.
 #![tactic(auto)]
 
 mod failed;

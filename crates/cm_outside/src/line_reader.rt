@@ -82,8 +82,8 @@ fn keep(line: &mut Vec<u8>, part: &[u8]) -> Result<(), AllocError>
     Ok(())
 }
 
-/// Reads into a front of the buffer, of at most this many bytes.
-fn read_front<S: Source>(source: &mut S, buffer: &mut [u8], most: u128) -> Result<usize, Failed>
+/// Reads into a prefix of the buffer, of at most this many bytes.
+fn read_prefix<S: Source>(source: &mut S, buffer: &mut [u8], most: u128) -> Result<usize, Failed>
     requires room { 0 < length buffer.old }
     requires most { 0 < most }
     ensures bound { count_of result ≤ length buffer.new }
@@ -114,7 +114,7 @@ fn line_or_too_long(line: Vec<u8>) -> Reading
 
 impl LineReader {
     /// A reader that takes at most `limit` bytes, and one more by which it knows that there are more. The only error
-    /// is want of memory.
+    /// is out of memory.
     pub fn new(alloc: Global, limit: u64) -> Result<LineReader, AllocError>
         ensures { IfOk result (λ r. r ≡ record { limit = limit; taken = 0; ended = false; rest = [] }) }
     {
@@ -180,7 +180,7 @@ impl LineReader {
                 }
             };
         }
-        match read_front(source, &mut self.buffer, self.limit as u128 - self.taken) {
+        match read_prefix(source, &mut self.buffer, self.limit as u128 - self.taken) {
             Err(Failed) => Filled::Failing,
             Ok(0) => {
                 self.ended = true;
@@ -196,7 +196,7 @@ impl LineReader {
 
     /// Reads the next line, with as many reads of the source as that takes. `Failed` comes only where the source's
     /// count of faults rose, `Budget` exactly where one byte more than the limit was taken. After `Budget` it isn't
-    /// to be called again. After `Failed`, and after want of memory, which is the only error, the bytes that were
+    /// to be called again. After `Failed`, and when out of memory, which is the only error, the bytes that were
     /// taken of the line are lost.
     pub fn read_line<S: Source>(&mut self, source: &mut S) -> Result<Reading, AllocError>
         requires within { self.old.taken ≤ self.old.limit }

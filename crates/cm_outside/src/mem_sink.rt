@@ -39,7 +39,7 @@ impl Model for MemSink {
 
 impl MemSink {
     /// An empty sink with room for this many bytes, which is reserved, and whose calls of `write` fail where their
-    /// number, counted from 0, is in `failing`. The only error is want of memory.
+    /// number, counted from 0, is in `failing`. The only error is out of memory.
     pub fn new(alloc: Global, room: usize, failing: Vec<u64>) -> Result<MemSink, AllocError>
         ensures { IfOk result (λ s. s ≡ record {
           held = [];

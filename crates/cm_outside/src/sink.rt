@@ -12,7 +12,7 @@ pub trait Sink {
     /// How often it failed. The count never falls.
     ghost faults: { Self → ℕ };
 
-    /// Takes a front of the piece, and answers how many bytes that is: at least one of a piece that isn't empty.
+    /// Takes a prefix of the piece, and answers how many bytes that is: at least one of a piece that isn't empty.
     /// `Failed` comes only where the count of faults rose, and takes no byte.
     fn write(&mut self, piece: &[u8]) -> Result<usize, Failed>
         ensures bound { count_of result ≤ length piece.now }
@@ -23,7 +23,7 @@ pub trait Sink {
 }
 
 /// Writes all of the bytes, in as many pieces as the sink wants. After `Failed`, which comes only where the sink's
-/// count of faults rose, a front of the bytes was written.
+/// count of faults rose, a prefix of the bytes was written.
 pub fn write_whole<K: Sink>(sink: &mut K, bytes: &[u8]) -> Result<(), Failed>
     ensures bytes { IfSome (K.held sink.old) (λ before. AppendsAll before (K.held sink.new) bytes.now result) }
     ensures cause { HasCause (K.faults sink.old) (K.faults sink.new) result }

@@ -13,7 +13,7 @@ pub trait Source {
     /// How often it failed. The count never falls.
     ghost faults: { Self → ℕ };
 
-    /// Fills a front of the room with the next bytes, and answers how many these are. No byte into a room that isn't
+    /// Fills a prefix of the room with the next bytes, and answers how many these are. No byte into a room that isn't
     /// empty is the end of the input. `Failed` comes only where the count of faults rose, and gives no byte.
     fn read(&mut self, room: &mut [u8]) -> Result<usize, Failed>
         ensures bound { count_of result ≤ length room.new }

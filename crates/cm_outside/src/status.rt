@@ -14,7 +14,7 @@ pub enum Status {
     WriteFault,
     /// A file could not be loaded or saved.
     StoreFault,
-    /// Memory was wanting.
+    /// Out of memory.
     NoMemory,
     /// The input has more bytes than the limit.
     TooMuch,

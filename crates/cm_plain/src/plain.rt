@@ -99,7 +99,7 @@ impl Plain {
         }
     }
 
-    /// The same value once more. `Err`: memory was wanting.
+    /// The same value once more. `Err`: out of memory.
     #[cycle(copy)]
     pub fn try_copy(&self, alloc: Global) -> Result<Plain, AllocError>
         ensures { IfOk result (λ p. p ≡ self.now) }
@@ -140,7 +140,7 @@ impl PlainList {
         same_items(self.items.as_slice(), other.items.as_slice())
     }
 
-    /// The same list once more. `Err`: memory was wanting.
+    /// The same list once more. `Err`: out of memory.
     #[cycle(copy)]
     pub fn try_copy(&self) -> Result<PlainList, AllocError>
         ensures { IfOk result (λ l. l ≡ self.now) }

@@ -19,7 +19,7 @@ impl Model for Str {
 }
 
 impl Str {
-    /// The text of these characters. `Err`: memory was wanting.
+    /// The text of these characters. `Err`: out of memory.
     pub fn of(alloc: Global, characters: &[char]) -> Result<Str, AllocError>
         ensures { IfOk result (λ s. s ≡ characters.now) }
     {
@@ -36,7 +36,7 @@ impl Str {
         }
     }
 
-    /// The text of a string, character by character. `Err`: memory was wanting.
+    /// The text of a string, character by character. `Err`: out of memory.
     pub fn of_text(alloc: Global, text: &str) -> Result<Str, AllocError>
         ensures { IfOk result (λ s. s ≡ chars text.now) }
     {
@@ -73,14 +73,14 @@ impl Str {
         self.characters.as_slice() == other.characters.as_slice()
     }
 
-    /// The same text once more. `Err`: memory was wanting.
+    /// The same text once more. `Err`: out of memory.
     pub fn try_copy(&self) -> Result<Str, AllocError>
         ensures { IfOk result (λ s. s ≡ self.now) }
     {
         Str::of(*self.characters.allocator(), self.characters.as_slice())
     }
 
-    /// The text in UTF-8. `Err`: memory was wanting.
+    /// The text in UTF-8. `Err`: out of memory.
     pub fn text(&self) -> Result<String, AllocError>
         ensures { IfOk result (λ s. string_bytes s ≡ encode_utf8_all self.now) }
     {

@@ -5,11 +5,11 @@ abbrev pub lesser : Option ℕ → ℕ → Option ℕ
 lesser None n = Some n
 lesser (Some m) n = Some (min m n)
 
--- lesser from: the lesser, unless the other number is below a count
+-- lesser from: the lesser, unless the other number is less than a count
 abbrev pub lesser_from : ℕ → Option ℕ → ℕ → Option ℕ
 lesser_from count least n = cond (nat_lt n count) least (lesser least n)
 
--- least from: of the numbers of a list that are not below a count, the least, with one found before
+-- least from: of the numbers of a list that are not less than a count, the least, with one found before
 abbrev pub least_from_with : ℕ → Option ℕ → List ℕ → Option ℕ
 least_from_with count least ns = fold (lesser_from count) least ns
 

@@ -41,7 +41,7 @@ impl Contents {
     }
 
     /// Sets the content of a compartment, in place of what it was set to before.
-    /// (Reference Manual, Compartment.reconfigure.) After want of memory each content is as before.
+    /// (Reference Manual, Compartment.reconfigure.) When out of memory each content is as before.
     pub fn set(&mut self, compartment: u32, node: u32) -> Result<(), AllocError>
         ensures set { OnOk result (content_of self.new compartment ≡ Some node) }
         ensures others { OnOk result ((c : ℕ) → c ≢ compartment → content_of self.new c ≡ content_of self.old c) }
@@ -51,7 +51,7 @@ impl Contents {
         Ok(())
     }
 
-    /// Of the given number, if any, and the nodes that compartments are set to and that are not below a count, the
+    /// Of the given number, if any, and the nodes that compartments are set to and that are not less than a count, the
     /// least. So it finds the least content that is no node of an arena of this many nodes. Takes no memory.
     pub fn least_from(&self, count: usize, least: Option<u32>) -> Option<u32>
         ensures { result ≡ least_from_with count least (content_nodes self.now) }

@@ -2,7 +2,7 @@
 ghost use Rattle.std.specs.Prelude.{◌≡◌};
 ghost use Rattle.compartments.specs.Least.{lesser_from};
 
-/// The lesser of a number found before, if any, and another, unless the other is below a count. Takes no memory.
+/// The lesser of a number found before, if any, and another, unless the other is less than a count. Takes no memory.
 pub fn lesser_from(count: usize, least: Option<u32>, number: u32) -> Option<u32>
     ensures { result ≡ lesser_from count least number }
 {

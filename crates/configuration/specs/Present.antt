@@ -41,11 +41,11 @@ abbrev pub numbers_from : ℕ → ℕ → List ℕ
 numbers_from i zero = []
 numbers_from i (suc count) = i ∷ numbers_from (i + 1) count
 
--- input lists: the inputs of each facet below a count
+-- input lists: the inputs of each facet less than a count
 abbrev pub input_lists : List Node → ℕ → List ℕ → List (List ℕ)
 input_lists nodes facets ns = map (λ (facet : ℕ). inputs_of nodes facet ns) (numbers_from 0 facets)
 
--- field nodes: the node of each field below a count
+-- field nodes: the node of each field less than a count
 abbrev pub field_nodes : List Node → ℕ → List ℕ → List (Option ℕ)
 field_nodes nodes fields ns = map (λ (field : ℕ). node_of_field nodes field ns) (numbers_from 0 fields)
 

@@ -96,7 +96,7 @@ impl Config {
         &self.flat
     }
 
-    /// How many facets were declared: a facet is known where its id is below this. Takes no memory.
+    /// How many facets were declared: a facet is known where its id is less than this. Takes no memory.
     pub fn facet_count(&self) -> usize
         ensures { result ≡ length self.now.inputs }
     {

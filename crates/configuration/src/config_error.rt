@@ -12,7 +12,7 @@ use thiserror::Error;
 /// Why there is no configuration.
 #[derive(Debug, Drop, Error)]
 pub enum ConfigError {
-    /// Memory was wanting.
+    /// Out of memory.
     #[error("out of memory")]
     NoMemory,
     /// An id of the base or of the set contents is no node of the arena: the least one.

@@ -32,7 +32,7 @@ fn note(fields: &mut Vec<Option<ExtId>>, field: Option<u32>, node: ExtId)
     }
 }
 
-/// The inputs of each facet below a count, in the order of some nodes.
+/// The inputs of each facet less than a count, in the order of some nodes.
 pub fn inputs_by_facet(
     alloc: Global,
     nodes: &[Node],
@@ -51,7 +51,7 @@ pub fn inputs_by_facet(
     Ok(inputs)
 }
 
-/// The first node of each field below a count, in the order of some nodes.
+/// The first node of each field less than a count, in the order of some nodes.
 pub fn nodes_by_field(
     alloc: Global,
     nodes: &[Node],

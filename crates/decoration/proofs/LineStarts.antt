@@ -17,17 +17,17 @@ before a b h = grind (arith, nat_tests)
 behind : (a b : ℕ) → b < a → (a == b) ≡ false
 behind a b h = grind (arith, nat_tests)
 
--- lines that start behind a place don't start there
+-- lines that start after a place don't start there
 none_start : (parts : List (List ℕ)) (number from place : ℕ) → place < from → list_any (starts_at place) (numbered number from parts) ≡ false
 none_start [] number from place h = refl
 none_start (part ∷ parts) number from place h =
     rw (behind from place h, none_start parts (number + 1) (from + length part + 1) place (omega arith)) refl
 
--- each line starts at the first one's start or behind
-starts_behind : (parts : List (List ℕ)) (number from i : ℕ) (line : Line) → slice_get (numbered number from parts) i ≡ Some line → from ≤ line.from
-starts_behind [] number from i line h = cc
-starts_behind (part ∷ parts) number from zero line h = let e : record { number = number; from = from; to = from + length part } ≡ line = cc in omega (arith, ap (λ (l : Line). l.from) e)
-starts_behind (part ∷ parts) number from (suc i) line h = omega (arith, starts_behind parts (number + 1) (from + length part + 1) i line h)
+-- each line starts at the first one's start or after
+starts_after : (parts : List (List ℕ)) (number from i : ℕ) (line : Line) → slice_get (numbered number from parts) i ≡ Some line → from ≤ line.from
+starts_after [] number from i line h = cc
+starts_after (part ∷ parts) number from zero line h = let e : record { number = number; from = from; to = from + length part } ≡ line = cc in omega (arith, ap (λ (l : Line). l.from) e)
+starts_after (part ∷ parts) number from (suc i) line h = omega (arith, starts_after parts (number + 1) (from + length part + 1) i line h)
 
 or_false : (b : Bool) → (b || false) ≡ b
 or_false true = refl
@@ -42,7 +42,7 @@ found (part ∷ parts) number from zero place line h s e =
     let from_is = ap (λ (l : Line). l.from) same in
     ap (λ b. (from == place) || b) (none_start parts (number + 1) (from + length part + 1) place (omega (arith, to_is))) ∙ or_false (from == place) ∙ ap (λ n. n == place) from_is
 found (part ∷ parts) number from (suc i) place line h s e =
-    let later = starts_behind parts (number + 1) (from + length part + 1) i line h in
+    let later = starts_after parts (number + 1) (from + length part + 1) i line h in
     ap (λ b. b || list_any (starts_at place) (numbered (number + 1) (from + length part + 1) parts)) (before from place (omega (arith, later)))
     ∙ found parts (number + 1) (from + length part + 1) i place line h s e
 

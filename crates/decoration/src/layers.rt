@@ -55,7 +55,7 @@ impl Layers {
         same_sets(self.sets.as_slice(), other.sets.as_slice())
     }
 
-    /// The same layers once more. `Err`: memory was wanting.
+    /// The same layers once more. `Err`: out of memory.
     pub fn try_copy(&self) -> Result<Layers, AllocError>
         ensures { IfOk result (λ copy. copy ≡ self.now) }
     {

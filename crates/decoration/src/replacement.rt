@@ -23,7 +23,7 @@ impl Replacement {
             && self.text.same(&other.text)
     }
 
-    /// The same replacement once more. `Err`: memory was wanting.
+    /// The same replacement once more. `Err`: out of memory.
     pub fn try_copy(&self) -> Result<Replacement, AllocError>
         ensures { IfOk result (λ copy. copy ≡ self.now) }
     {

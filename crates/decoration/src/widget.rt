@@ -84,7 +84,7 @@ impl Widget {
         self.side == other.side && self.style.same(&other.style) && self.text.same(&other.text)
     }
 
-    /// The same widget once more. `Err`: memory was wanting.
+    /// The same widget once more. `Err`: out of memory.
     pub fn try_copy(&self) -> Result<Widget, AllocError>
         ensures { IfOk result (λ copy. copy ≡ self.now) }
     {

@@ -68,7 +68,7 @@ pub record IsGraph (g : Graph) : Type 0 where
   pub edges : All (IsEdge g.count) g.edges.items
   pub dependents : AreDependents g.count g.edges.items g.dependents.items
 
--- ready: the vertices below a number of which no dependency is left
+-- ready: the vertices less than a number of which no dependency is left
 abbrev pub ready_below : List ℕ → ℕ → List ℕ
 ready_below counts zero = []
 ready_below counts (suc k) = cond (eqb (get_or counts k 0) 0) (ready_below counts k ++ k ∷ []) (ready_below counts k)

@@ -5,7 +5,7 @@ ghost use Rattle.dep_graph.specs.Counting.{IsGraph, dependents_of};
 use crate::dependents::Dependents;
 use crate::edge::Edge;
 
-/// The vertices below a count, what each depends on and what depends on each.
+/// The vertices less than a count, what each depends on and what depends on each.
 #[derive(Drop)]
 pub struct Graph {
     pub count: u32,

@@ -1,6 +1,6 @@
 //! An order of the vertices of a dependency graph, or the circle that stands in its way.
 //!
-//! Vertices are the numbers below a count, an edge says that a vertex depends on another. A layer above may rely on
+//! Vertices are the numbers less than a count, an edge says that a vertex depends on another. A layer above may rely on
 //! this: `order` lists each vertex once and after all that it depends on; where there is no such order it answers the
 //! one circle that the rule names, whose members each depend on the next and the last on the first. The work is linear
 //! in vertices and edges, which is not proved.

@@ -8,7 +8,7 @@ use thiserror::Error;
 /// Why there is no order.
 #[derive(Debug, Drop, Error)]
 pub enum OrderError {
-    /// Memory was wanting.
+    /// Out of memory.
     #[error("out of memory")]
     NoMemory,
     /// Some vertices depend on one another. Each member depends on the next, and the last on the first. The walk to

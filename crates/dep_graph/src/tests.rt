@@ -74,7 +74,7 @@ fn circles_by_the_rule(rt: HostRuntime) -> Result<(), Fail> {
     let alloc = rt.alloc();
     // two that depend on each other
     expect_circle(&rt, ordered(&rt, alloc, 2, &[(0, 1), (1, 0)]), &[0, 1]);
-    // a circle behind the least vertex that can't be ordered
+    // a circle after the least vertex that can't be ordered
     expect_circle(
         &rt,
         ordered(&rt, alloc, 3, &[(0, 1), (1, 2), (2, 1)]),

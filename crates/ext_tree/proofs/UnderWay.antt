@@ -109,11 +109,11 @@ path-again t n path =
     at-end = let e : length path + length (n ∷ []) - 1 ≡ length path = omega arith in rw e (take-append_seam path (n ∷ []))
 
 module _ (t : Tree) (v : Visit) (path : List ℕ) where
-  -- what is ahead when the nodes below are to be entered
-  ahead-entered : (ms : List ℕ) (tail : List Task) → ahead t (path_below t v.node path) (map (enter_below t v) ms ++ tail)
+  -- what is before when the nodes below are to be entered
+  before-entered : (ms : List ℕ) (tail : List Task) → ahead t (path_below t v.node path) (map (enter_below t v) ms ++ tail)
       ≡ flat_map (unfold_at t) (map (below t (occurrence v path)) ms) ++ ahead t (path_below t v.node path) tail
-  ahead-entered [] tail = refl
-  ahead-entered (m ∷ ms) tail = let ih = ahead-entered ms tail in rw ih (sym (append_assoc (unfold_at t (below t (occurrence v path) m)) _ _))
+  before-entered [] tail = refl
+  before-entered (m ∷ ms) tail = let ih = before-entered ms tail in rw ih (sym (append_assoc (unfold_at t (below t (occurrence v path) m)) _ _))
 
   to_leave-entered : (ms : List ℕ) (tail : List Task) → to_leave (map (enter_below t v) ms ++ tail) ≡ to_leave tail
   to_leave-entered [] tail = refl
@@ -193,7 +193,7 @@ module _ (t : Tree) (tree : IsTree t) (os : List Occurrence) (v : Visit) (ts : L
       let again = path-again t v.node path in
       let counted : IsCounted t (meet t met v.node) (vs ++ leaf t v) v = record { slot = first; leaf = λ e. in-end vs (leaf t v) v (rw e (inl refl)) } in
       let rest : ahead t (path_below t v.node path) (entered t v ts) ≡ flat_map (unfold_at t) (followed_by t o) ++ ahead t path ts =
-      ahead-entered t v path (following t v.node) (Leave v ∷ ts) ∙ rw (followed h, again) refl in
+      before-entered t v path (following t v.node) (Leave v ∷ ts) ∙ rw (followed h, again) refl in
       let low : AllByRecursion (λ m. IsLower t v.node path (path_below t v.node path) m) (following t v.node) =
       all-unmap (below t o) (λ c. IsLower t v.node path c.path c.node) (following t v.node) (subst (λ (cs : List Occurrence). AllByRecursion (λ c. IsLower t v.node path c.path c.node) cs) (followed h) (lower t tree o u.can_go_on.0)) in
       let up : IsPath t (meet t met v.node) path v.node = path-more t met (meet t met v.node) vs (vs ++ leaf t v) keeps within path v.node u.can_go_on.1 in
@@ -224,7 +224,7 @@ module _ (t : Tree) (tree : IsTree t) (os : List Occurrence) (v : Visit) (ts : L
   less-entered u h =
       let again = path-again t v.node path in
       let rest : ahead t (path_below t v.node path) (entered t v ts) ≡ flat_map (unfold_at t) (followed_by t (occurrence v path)) ++ ahead t path ts =
-      ahead-entered t v path (following t v.node) (Leave v ∷ ts) ∙ rw (followed h, again) refl in
+      before-entered t v path (following t v.node) (Leave v ∷ ts) ∙ rw (followed h, again) refl in
       rw (rest, opened u, to_leave-entered t v path (following t v.node) (Leave v ∷ ts)) (omega arith)
 
 -- at the end all is met
@@ -232,15 +232,15 @@ pub ends : (t : Tree) (os : List Occurrence) (path met : List ℕ) (vs : List Vi
 ends t os path met vs memo u = (sym u.refusal_same, sym (ap flat (append-nil vs)) ∙ u.flat_same, u.met_same)
 
 -- the roots are to be entered
-roots-ahead : (t : Tree) (roots : List ℕ) → ahead t [] (map (enter_at precedence.Default) roots) ≡ unfolding_of t roots
-roots-ahead t [] = refl
-roots-ahead t (n ∷ roots) = ap (λ (os : List Occurrence). unfold_at t (root_at n) ++ os) (roots-ahead t roots)
+roots-before : (t : Tree) (roots : List ℕ) → ahead t [] (map (enter_at precedence.Default) roots) ≡ unfolding_of t roots
+roots-before t [] = refl
+roots-before t (n ∷ roots) = ap (λ (os : List Occurrence). unfold_at t (root_at n) ++ os) (roots-before t roots)
 
 roots-can : (t : Tree) (roots : List ℕ) (done : List Visit) → AllByRecursion (IsOlder (length t.nodes)) roots → CanGoOn t [] [] done [] (map (enter_at precedence.Default) roots)
 roots-can t [] done h = tt
 roots-can t (n ∷ roots) done h = (h.0, tt, roots-can t roots (visit n precedence.Default ∷ done) h.1)
 
--- at the start all is ahead
+-- at the start all is before
 pub starts : (t : Tree) (roots : List ℕ) (memo : Visit → Bool) → AllByRecursion (IsOlder (length t.nodes)) roots → ((v : Visit) → memo v ≡ false)
     → IsUnderWay t (unfolding_of t roots) (map (enter_at precedence.Default) roots) [] [] [] memo
 starts t roots memo within none = record {
@@ -249,7 +249,7 @@ starts t roots memo within none = record {
   counted = tt;
   walked = λ v e. absurd (true≢false (sym e ∙ none v));
   can_go_on = roots-can t roots [] within;
-  refusal_same = ap (refusal_after t []) (roots-ahead t roots);
-  met_same = ap (met_after t []) (roots-ahead t roots);
-  flat_same = ap (λ (ps : List Occurrence). flat (leaves t ps)) (roots-ahead t roots);
+  refusal_same = ap (refusal_after t []) (roots-before t roots);
+  met_same = ap (met_after t []) (roots-before t roots);
+  flat_same = ap (λ (ps : List Occurrence). flat (leaves t ps)) (roots-before t roots);
 }

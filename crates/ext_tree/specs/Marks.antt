@@ -38,6 +38,6 @@ pub record AreFirsts (t : Tree) (met : List ℕ) (firsts : List (Option ℕ)) : 
 pub record AreTaken (taken : List ℕ) (marks : List Bool) : Type 0 where
   pub marked : (n : ℕ) → n < length marks → get_or marks n false ≡ list_any (eqb n) taken
 
--- within: a leaf's node is below a number
+-- within: a leaf's node is less than a number
 abbrev pub IsWithin : ℕ → Visit → Type 0
 IsWithin room v = v.node < room

@@ -14,7 +14,7 @@ pub data Refusal : Type 0 where
   Loop : List ℕ → Refusal
   Duplicate : ℕ → ℕ → ℕ → Refusal
 
--- refusal of an error: none where memory was wanting
+-- refusal of an error: none when out of memory
 abbrev pub refusal_of : ExtError → Option Refusal
 refusal_of error.NoMemory = None
 refusal_of (error.UnknownExt id) = Some (Unknown id)

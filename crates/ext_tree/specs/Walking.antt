@@ -71,13 +71,13 @@ CanGoOn t met vs done path (Leave v ∷ ts) = IsCounted t met vs v × AreBelowDo
 abbrev pub occurrence : Visit → List ℕ → Occurrence
 occurrence v path = record { node = v.node; path = path; precedence = v.precedence }
 
--- ahead: what these tasks have still to meet
+-- before: what these tasks have still to meet
 abbrev pub ahead : Tree → List ℕ → List Task → List Occurrence
 ahead t path [] = []
 ahead t path (Enter v ∷ ts) = unfold_at t (occurrence v path) ++ ahead t path ts
 ahead t path (Leave v ∷ ts) = ahead t (path_after t v.node path) ts
 
--- a walk that is under way: what it has met, and what is ahead, give what the whole unfolding gives
+-- a walk that is under way: what it has met, and what is before, give what the whole unfolding gives
 pub record IsUnderWay (t : Tree) (os : List Occurrence) (tasks : List Task) (path met : List ℕ) (vs : List Visit) (memo : Visit → Bool) : Type 0 where
   pub done : List Visit
   pub closed : IsClosed t done

@@ -52,7 +52,7 @@ impl Arena {
         &self.nodes
     }
 
-    /// How many nodes there are: a node is known where its id is below this. Takes no memory.
+    /// How many nodes there are: a node is known where its id is less than this. Takes no memory.
     pub fn len(&self) -> usize
         ensures { result ≡ length self.now }
     {
@@ -129,7 +129,7 @@ impl Arena {
         })
     }
 
-    /// Adds an input of a facet. (Reference Manual, Facet.of.) Its only error is want of memory.
+    /// Adds an input of a facet. (Reference Manual, Facet.of.) Its only error is out of memory.
     pub fn input(&mut self, facet: u32) -> Result<ExtId, ExtError>
         requires { length self.old < 2 ^ 32 }
         ensures made { IfOk result (λ id. IsMade self.old self.new id (Input facet)) }
@@ -139,7 +139,7 @@ impl Arena {
         self.add(Node::Input(facet))
     }
 
-    /// Adds a field. (Reference Manual, StateField.) Its only error is want of memory.
+    /// Adds a field. (Reference Manual, StateField.) Its only error is out of memory.
     pub fn field(&mut self, field: u32) -> Result<ExtId, ExtError>
         requires { length self.old < 2 ^ 32 }
         ensures made { IfOk result (λ id. IsMade self.old self.new id (Field field)) }
@@ -149,7 +149,7 @@ impl Arena {
         self.add(Node::Field(field))
     }
 
-    /// Adds the init of a field. (Reference Manual, StateField.init.) Its only error is want of memory.
+    /// Adds the init of a field. (Reference Manual, StateField.init.) Its only error is out of memory.
     pub fn init(&mut self, field: u32) -> Result<ExtId, ExtError>
         requires { length self.old < 2 ^ 32 }
         ensures made { IfOk result (λ id. IsMade self.old self.new id (Init field)) }

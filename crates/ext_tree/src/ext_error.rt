@@ -10,7 +10,7 @@ use thiserror::Error;
 /// Why extensions are refused.
 #[derive(Debug, Drop, Error)]
 pub enum ExtError {
-    /// Memory was wanting.
+    /// Out of memory.
     #[error("out of memory")]
     NoMemory,
     /// An id of the call is no node of the arena: the least one.

@@ -35,7 +35,7 @@ impl Links {
         }
     }
 
-    /// Adds the next facet, which enables these nodes. After want of memory the links are as before.
+    /// Adds the next facet, which enables these nodes. When out of memory the links are as before.
     pub fn add_facet(&mut self, nodes: ExtIds) -> Result<(), AllocError>
         ensures added { OnOk result (self.new ≡ record { enabled = self.old.enabled ++ nodes ∷ []; provided = self.old.provided }) }
         ensures same { OnErr result (self.new ≡ self.old) }
@@ -44,7 +44,7 @@ impl Links {
         Ok(())
     }
 
-    /// Adds the next field, which provides these nodes. After want of memory the links are as before.
+    /// Adds the next field, which provides these nodes. When out of memory the links are as before.
     pub fn add_field(&mut self, nodes: ExtIds) -> Result<(), AllocError>
         ensures added { OnOk result (self.new ≡ record { enabled = self.old.enabled; provided = self.old.provided ++ nodes ∷ [] }) }
         ensures same { OnErr result (self.new ≡ self.old) }

@@ -15,7 +15,7 @@ pub struct MetSlots {
 }
 
 impl MetSlots {
-    /// None was met, with a place for each compartment below a number.
+    /// None was met, with a place for each compartment less than a number.
     pub fn new(alloc: Global, tree: &Tree, compartments: usize) -> Result<Self, AllocError>
         requires { HasRoom tree.now compartments }
         ensures nodes { IfOk result (λ met. met.nodes.items ≡ []) }

@@ -38,7 +38,7 @@ fn lower(counts: &mut Vec<usize>, compartment: Option<u32>)
 }
 
 impl OpenSlots {
-    /// No slots, with a count for each compartment below a number.
+    /// No slots, with a count for each compartment less than a number.
     pub fn new(alloc: Global, tree: &Tree, compartments: usize) -> Result<Self, AllocError>
         requires { HasRoom tree.now compartments }
         ensures path { IfOk result (λ slots. slots.path.items ≡ []) }

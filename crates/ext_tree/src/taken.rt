@@ -16,7 +16,7 @@ pub struct Taken {
 }
 
 impl Taken {
-    /// No nodes, with a mark for each node below a number.
+    /// No nodes, with a mark for each node less than a number.
     pub fn new(alloc: Global, nodes: usize) -> Result<Self, AllocError>
         ensures none { IfOk result (λ taken. taken.nodes.items ≡ []) }
         ensures marks { IfOk result (λ taken. AreTaken taken.nodes.items taken.marks.items) }

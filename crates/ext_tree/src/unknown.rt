@@ -5,7 +5,7 @@ ghost use Rattle.compartments.specs.Least.{least_from};
 use crate::node::ExtId;
 use compartments::lesser_from;
 
-/// Of the ids that are not below a count, the least.
+/// Of the ids that are not less than a count, the least.
 pub fn least_unknown(count: usize, ids: &[ExtId]) -> Option<ExtId>
     ensures { result ≡ least_from count ids.now }
 {

@@ -39,12 +39,12 @@ over-new over e before =
     (ap (new_size counted) (map_over-lengths spelled spelled_sizes e.changes over false) ∙
     (new_size-map_over own over false ∙ sym (new_size-map_over own over before)))
 
-pub behind-old : (over : List (Section ℕ)) (e : Event) → old_size e.changes ≡ old_size over → old_size (behind over e) ≡ new_size spelled e.changes
-behind-old over e h =
+pub after-old : (over : List (Section ℕ)) (e : Event) → old_size e.changes ≡ old_size over → old_size (behind over e) ≡ new_size spelled e.changes
+after-old over e h =
     old_size-map_over counted over (lengths spelled e.changes) true (old_size-lengths spelled e.changes ∙ h) ∙ new_size-lengths spelled e.changes
 
-pub behind-new : (over : List (Section ℕ)) (e : Event) → new_size counted (behind over e) ≡ new_size spelled (changes_over over e)
-behind-new over e =
+pub after-new : (over : List (Section ℕ)) (e : Event) → new_size counted (behind over e) ≡ new_size spelled (changes_over over e)
+after-new over e =
     let own : List (Section ℕ) = lengths spelled e.changes in
     new_size-map_over over own true ∙
     (merged_len-swap (along_old counted own) (along_old counted over) ∙ (sym (new_size-map_over own over false) ∙ sym (over-new over e false)))
@@ -64,8 +64,8 @@ pub events_over-leads : (over : List (Section ℕ)) (es : List Event) → LeadOn
 events_over-leads over [] h = tt
 events_over-leads over (e ∷ es) h =
     cases (is_too_long over e) refl
-    (subst (λ n. LeadOn n (events_over (behind over e) es)) (behind-new over e)
-    (events_over-leads (behind over e) es (subst (λ n. LeadOn n es) (sym (behind-old over e h.0)) h.3)))
+    (subst (λ n. LeadOn n (events_over (behind over e) es)) (after-new over e)
+    (events_over-leads (behind over e) es (subst (λ n. LeadOn n es) (sym (after-old over e h.0)) h.3)))
   where
     cases : (b : Bool) → is_too_long over e ≡ b → LeadOn (new_size spelled (changes_over over e)) (events_over (behind over e) es) →
         LeadOn (new_size counted over) (cond b [] (put_kept (moved_event over e) (events_over (behind over e) es)))
@@ -73,7 +73,7 @@ events_over-leads over (e ∷ es) h =
     cases false k l =
         put-leads (new_size counted over) (moved_event over e) (events_over (behind over e) es) (over-old over e h.0)
         (ltb-false max_len (new_size spelled (changes_over over e)) k)
-        (subst (λ n. LieIn n (moved_event over e).selection.ranges) (behind-new over e) (moved-inside (behind over e) e.selection)) l
+        (subst (λ n. LieIn n (moved_event over e).selection.ranges) (after-new over e) (moved-inside (behind over e) e.selection)) l
 
 -- where the newest stays, some event is left
 pub stays-some : (over : List (Section ℕ)) (es : List Event) → newest_stays over es ≡ true → events_over over es ≢ []
@@ -104,24 +104,24 @@ module _ (over : List (Section ℕ)) (e : Event) (own : List (Section ℕ)) (o :
   pub changes-fit : (n : ℕ) → ((before : Bool) → n ≡ new_size counted (map_over counted own over before)) → n ≤ max_len → new_size spelled (changes_over over e) < 2 ^ 32
   changes-fit n k l = omega (arith, measured n k)
 
-  behind-is : map_over counted over own true ≡ behind over e
-  behind-is = ap (λ s. map_over counted over s true) o
+  after-is : map_over counted over own true ≡ behind over e
+  after-is = ap (λ s. map_over counted over s true) o
 
-  pub behind-fits : (n : ℕ) → ((before : Bool) → n ≡ new_size counted (map_over counted own over before)) → n ≤ max_len → new_size counted (map_over counted over own true) < 2 ^ 32
-  behind-fits n k l = omega (arith, measured n k, ap (new_size counted) behind-is, behind-new over e)
+  pub after-fits : (n : ℕ) → ((before : Bool) → n ≡ new_size counted (map_over counted own over before)) → n ≤ max_len → new_size counted (map_over counted over own true) < 2 ^ 32
+  after-fits n k l = omega (arith, measured n k, ap (new_size counted) after-is, after-new over e)
 
   pub selection-inside : (b : List (Section ℕ)) → b ≡ map_over counted over own true → LieIn (new_size spelled e.changes) e.selection.ranges → LieIn (old_size b) e.selection.ranges
-  selection-inside b p l = subst (λ n. LieIn n e.selection.ranges) (sym (ap old_size (p ∙ behind-is) ∙ behind-old over e h)) l
+  selection-inside b p l = subst (λ n. LieIn n e.selection.ranges) (sym (ap old_size (p ∙ after-is) ∙ after-old over e h)) l
 
   pub is_moved : (n : ℕ) (m : Moved) → ((before : Bool) → n ≡ new_size counted (map_over counted own over before)) → n ≤ max_len → m.event.changes ≡ changes_over over e →
       m.behind ≡ map_over counted over own true → m.event.selection ≡ moved_selection m.behind e.selection → IsMoved over e m
   is_moved n m k l c b s = record {
     fits = le-ltb max_len (new_size spelled (changes_over over e)) (subst (λ k. k ≤ max_len) (measured n k) l);
-    event = same m.event (moved_event over e) c (s ∙ ap (λ x. moved_selection x e.selection) (b ∙ behind-is));
-    behind_it = b ∙ behind-is;
+    event = same m.event (moved_event over e) c (s ∙ ap (λ x. moved_selection x e.selection) (b ∙ after-is));
+    after_it = b ∙ after-is;
   }
 
--- moving on behind one more event
+-- moving on after one more event
 pub over-end : (all done : List Event) (over : List (Section ℕ)) (e : Event) (es : List Event) → done ++ events_over over (e ∷ es) ≡ all → is_too_long over e ≡ true → done ++ [] ≡ all
 over-end all done over e es h k = subst (λ b. done ++ cond b [] (put_kept (moved_event over e) (events_over (behind over e) es)) ≡ all) k h
 
@@ -137,7 +137,7 @@ pub over-next : (all done next : List Event) (over : List (Section ℕ)) (e : Ev
 over-next all done next over e es m h i n =
     let k : done ++ put_kept (moved_event over e) (events_over (behind over e) es) ≡ all =
     subst (λ b. done ++ cond b [] (put_kept (moved_event over e) (events_over (behind over e) es)) ≡ all) i.fits h in
-    rw (n, i.event, i.behind_it, append_assoc, ← put-append (moved_event over e) (events_over (behind over e) es)) k
+    rw (n, i.event, i.after_it, append_assoc, ← put-append (moved_event over e) (events_over (behind over e) es)) k
 
 pub next-leads : (over : List (Section ℕ)) (e : Event) (es : List Event) (m : Moved) → LeadOn (old_size over) (e ∷ es) → IsMoved over e m → LeadOn (old_size m.behind) es
-next-leads over e es m h i = subst (λ n. LeadOn n es) (sym (ap old_size i.behind_it ∙ behind-old over e h.0)) h.3
+next-leads over e es m h i = subst (λ n. LeadOn n es) (sym (ap old_size i.after_it ∙ after-old over e h.0)) h.3

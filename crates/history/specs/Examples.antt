@@ -39,7 +39,7 @@ change changes document time = record {
 abbrev pub insert : (at : ℕ) → (text document : List ℕ) → Sections
 insert at text document = span spelled (length document) at at text
 
--- 'a' and then 'b' behind it, 100 milliseconds later
+-- 'a' and then 'b' after it, 100 milliseconds later
 abbrev pub first : StepInput
 first = change (insert 0 (97 ∷ []) []) [] (pos 0)
 
@@ -94,8 +94,8 @@ isolated_before = refl
 pub isolated_fully : depth (step (step empty first) (isolated Full)) ≡ (2, 0)
 isolated_fully = refl
 
-pub isolated_behind : depth (step (step empty first) (isolated After)) ≡ (1, 0)
-isolated_behind = refl
+pub isolated_after : depth (step (step empty first) (isolated After)) ≡ (1, 0)
+isolated_after = refl
 
 pub isolated_first : depth (step (step empty (record first { isolate = Some After })) second) ≡ (2, 0)
 isolated_first = refl

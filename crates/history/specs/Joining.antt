@@ -26,16 +26,16 @@ abbrev pub is_joinable : Option (List ℕ) → Bool
 is_joinable None = true
 is_joinable (Some event) = is_below event input_type || is_below event deletion
 
--- Isolation: the group is closed before the change, or behind it.
+-- Isolation: the group is closed before the change, or after it.
 abbrev pub closes_before : Option Isolation → Bool
 closes_before (Some Before) = true
 closes_before (Some Full) = true
 closes_before _ = false
 
-abbrev pub closes_behind : Option Isolation → Bool
-closes_behind (Some After) = true
-closes_behind (Some Full) = true
-closes_behind _ = false
+abbrev pub closes_after : Option Isolation → Bool
+closes_after (Some After) = true
+closes_after (Some Full) = true
+closes_after _ = false
 
 -- the new time less the last one is less than the delay, which is more than 0
 abbrev pub is_within : (last now delay : ℤ) → Bool

@@ -19,12 +19,12 @@ old_text i = i.document.characters
 abbrev pub new_text : StepInput → List ℕ
 new_text i = apply i.changes i.document.characters
 
--- what the newest event that can be undone gives on the new text, behind a change that was recorded: the old text, or what
+-- what the newest event that can be undone gives on the new text, after a change that was recorded: the old text, or what
 -- the event that the change joined gave on the old text
 abbrev pub before_group : HistoryView → StepInput → Option (List ℕ)
 before_group h i = cond (joins h i) (given_by h.done (old_text i)) (Some (old_text i))
 
--- Restores: behind a step that started from one history and led to another, the newest event gives the old text on the new
+-- Restores: after a step that started from one history and led to another, the newest event gives the old text on the new
 -- one. Of what can be undone that needs a depth of at least 1.
 pub record Restores (start : HistoryView) (i : StepInput) (end : HistoryView) : Type 0 where
   pub recorded : case_of start i ≡ Recorded → pos 1 ≤ℤ i.min_depth → given_by end.done (new_text i) ≡ before_group start i

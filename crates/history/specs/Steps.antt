@@ -13,7 +13,7 @@ use Rattle.history.specs.declared.event.Event.{Event}
 use Rattle.history.specs.declared.group.Group.TheVariants.{Closed, Open}
 use Rattle.history.specs.declared.step_input.StepInput.{StepInput}
 use Rattle.history.specs.Histories.{HistoryView, empty, leads_from}
-use Rattle.history.specs.Joining.{closes_behind, joins}
+use Rattle.history.specs.Joining.{closes_after, joins}
 use Rattle.history.specs.Moving.{events_over, newest_stays}
 
 -- the step starts in this document and leads to a document that isn't too long, and the selection lies in the former
@@ -54,7 +54,7 @@ abbrev pub rest : List Event → List Event
 rest [] = []
 rest (e ∷ es) = es
 
--- the way back put behind the changes of the newest event, which keeps its selection
+-- the way back put after the changes of the newest event, which keeps its selection
 abbrev pub joined_to : Event → List Event → List Event
 joined_to w [] = w ∷ []
 joined_to w (e ∷ es) = record { changes = compose spelled w.changes e.changes; selection = e.selection } ∷ es
@@ -65,7 +65,7 @@ recorded h i =
     record {
       done = cond (joins h i) (joined_to (way_back i) h.done) (way_back i ∷ h.done);
       undone = [];
-      group = cond (closes_behind i.isolate) Closed (Open i.time);
+      group = cond (closes_after i.isolate) Closed (Open i.time);
     }
 
 -- Unrecorded: all events are moved, and the newest group stays as open as it was if it stays.

@@ -39,7 +39,7 @@ impl Event {
         })
     }
 
-    /// The event over changes of its start document that are not recorded, with these changes as they stand behind it, unless
+    /// The event over changes of its start document that are not recorded, with these changes as they stand after it, unless
     /// it would lead to a document that is too long.
     pub(crate) fn over(&self, over: &Desc) -> Result<Option<Moved>, AllocError>
         requires starts { old_size self.now.changes ≡ old_size over.now }

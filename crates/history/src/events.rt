@@ -54,7 +54,7 @@ pub(crate) fn newest(events: &[Event]) -> Result<Option<Restore>, AllocError>
     }
 }
 
-/// Puts copies of events behind others.
+/// Puts copies of events after others.
 fn extend(events: &mut Vec<Event>, others: &[Event]) -> Result<(), AllocError>
     ensures { OnOk result (events.new.items ≡ events.old.items ++ others.now) }
 {
@@ -74,7 +74,7 @@ pub(crate) fn copied(alloc: Global, events: &[Event]) -> Result<Vec<Event>, Allo
     Ok(copies)
 }
 
-/// An event with others behind it.
+/// An event with others after it.
 pub(crate) fn in_front(
     alloc: Global,
     event: Event,
@@ -88,7 +88,7 @@ pub(crate) fn in_front(
     Ok(events)
 }
 
-/// The way back put behind the changes of the newest event, which keeps its selection.
+/// The way back put after the changes of the newest event, which keeps its selection.
 pub(crate) fn joined_to(
     alloc: Global,
     way_back: Event,
@@ -132,7 +132,7 @@ pub(crate) fn events_over(
     Ok(all)
 }
 
-/// Puts an event behind others, unless it has been left without changes.
+/// Puts an event after others, unless it has been left without changes.
 fn push_kept(events: &mut Vec<Event>, event: Event) -> Result<(), AllocError>
     ensures { OnOk result (events.new.items ≡ events.old.items ++ put_kept event []) }
 {

@@ -3,7 +3,7 @@ ghost use Rattle.line_tree.specs.Text.{max_len};
 ghost use Rattle.change_desc.specs.Sections.{is_zero, new_size, old_size, spelled};
 ghost use Rattle.selection.specs.Selections.{LieIn};
 ghost use Rattle.history.specs.Histories.{HistoryView, empty, leads_from};
-ghost use Rattle.history.specs.Joining.{closes_behind, joins};
+ghost use Rattle.history.specs.Joining.{closes_after, joins};
 ghost use Rattle.history.specs.Reading.{newest};
 ghost use Rattle.history.specs.Restoring.{Restores};
 ghost use Rattle.history.specs.Steps.{IsStep, case_of, cut_to, in_case, is_newest, joined_to, kept_count, start_of, step, way_back};
@@ -68,7 +68,7 @@ impl History {
         starts_at(&self.done, len) && starts_at(&self.undone, len)
     }
 
-    /// What an undo sends, or nothing where no event can be undone (Reference Manual, undo). `Err`: memory was wanting.
+    /// What an undo sends, or nothing where no event can be undone (Reference Manual, undo). `Err`: out of memory.
     pub fn undo_spec(&self) -> Result<Option<Restore>, AllocError>
         ensures value { IfOk result (λ spec. spec ≡ newest self.now.done) }
         ensures none { IfOk result (λ spec. IsTrue (is_none spec) ↔ (self.now.done ≡ [])) }
@@ -76,7 +76,7 @@ impl History {
         newest(&self.done)
     }
 
-    /// What a redo sends, or nothing where no event can be done again (Reference Manual, redo). `Err`: memory was wanting.
+    /// What a redo sends, or nothing where no event can be done again (Reference Manual, redo). `Err`: out of memory.
     pub fn redo_spec(&self) -> Result<Option<Restore>, AllocError>
         ensures value { IfOk result (λ spec. spec ≡ newest self.now.undone) }
         ensures none { IfOk result (λ spec. IsTrue (is_none spec) ↔ (self.now.undone ≡ [])) }
@@ -93,7 +93,7 @@ impl History {
             && same_events(&self.undone, &other.undone)
     }
 
-    /// The same history once more. `Err`: memory was wanting.
+    /// The same history once more. `Err`: out of memory.
     pub fn try_copy(&self) -> Result<History, AllocError>
         ensures { IfOk result (λ copy. copy ≡ self.now) }
     {
@@ -104,7 +104,7 @@ impl History {
         })
     }
 
-    /// The history behind a step of its document (Reference Manual, history). A history that doesn't lead from the start document
+    /// The history after a step of its document (Reference Manual, history). A history that doesn't lead from the start document
     /// counts as empty. Changes that come from an undo or a redo move the newest event to the other list; others that are
     /// not recorded move all events; those that are recorded join the newest group or make a new one. `Err`: memory was
     /// wanting.
@@ -150,7 +150,7 @@ impl History {
         Case::Recorded
     }
 
-    /// The history behind a step from the document that it leads from.
+    /// The history after a step from the document that it leads from.
     fn next(&self, input: &StepInput) -> Result<History, AllocError>
         requires step { IsStep input.now }
         requires leads { IsTrue (leads_from (length input.now.document.characters) self.now) }
@@ -247,17 +247,17 @@ impl History {
     {
         let alloc = self.allocator();
         let _ = &self.done;
-        let done = self.done_behind(input)?;
+        let done = self.done_after(input)?;
         let undone = Vec::new(alloc);
         Ok(History {
             done,
             undone,
-            group: group_behind(input),
+            group: group_after(input),
         })
     }
 
-    /// What can be undone behind recorded changes.
-    fn done_behind(&self, input: &StepInput) -> Result<Vec<Event>, AllocError>
+    /// What can be undone after recorded changes.
+    fn done_after(&self, input: &StepInput) -> Result<Vec<Event>, AllocError>
         requires step { IsStep input.now }
         requires leads { IsTrue (leads_from (length input.now.document.characters) self.now) }
         ensures { IfOk result (λ done. done.items ≡ cond (joins self.now input.now) (joined_to (way_back input.now) self.now.done) (way_back input.now ∷ self.now.done)) }
@@ -308,11 +308,11 @@ impl History {
     }
 }
 
-/// Whether the group of recorded changes is open behind them.
-fn group_behind(input: &StepInput) -> Group
-    ensures { result ≡ cond (closes_behind input.now.isolate) Group.Closed (Group.Open input.now.time) }
+/// Whether the group of recorded changes is open after them.
+fn group_after(input: &StepInput) -> Group
+    ensures { result ≡ cond (closes_after input.now.isolate) Group.Closed (Group.Open input.now.time) }
 {
-    if Isolation::is_behind(input.isolate) {
+    if Isolation::is_after(input.isolate) {
         Group::Closed
     } else {
         Group::Open { last: input.time }

@@ -1,12 +1,12 @@
 ghost use Rattle.std.specs.Prelude.{◌≡◌};
-ghost use Rattle.history.specs.Joining.{closes_before, closes_behind};
+ghost use Rattle.history.specs.Joining.{closes_before, closes_after};
 
 /// Where a change closes its group (Reference Manual, isolateHistory).
 #[derive(Clone, Copy, PartialEq, Eq, Debug, Drop)]
 pub enum Isolation {
     /// Before it: it starts a group.
     Before,
-    /// Behind it: it ends a group.
+    /// After it: it ends a group.
     After,
     /// On both sides.
     Full,
@@ -23,9 +23,9 @@ impl Isolation {
         }
     }
 
-    /// Whether the change's group is closed behind it.
-    pub(crate) fn is_behind(isolation: Option<Isolation>) -> bool
-        ensures { result ≡ closes_behind isolation }
+    /// Whether the change's group is closed after it.
+    pub(crate) fn is_after(isolation: Option<Isolation>) -> bool
+        ensures { result ≡ closes_after isolation }
     {
         match isolation {
             Some(Isolation::After) | Some(Isolation::Full) => true,

@@ -1,6 +1,6 @@
 //! The history of a document: which changes can be undone and done again, each with the selection to restore (Reference
 //! Manual, history). A layer above may rely on `step` giving exactly the history that the definitions name, on the newest
-//! event behind a recorded or moved step leading back to the text before it, and on all events of a history leading on from
+//! event after a recorded or moved step leading back to the text before it, and on all events of a history leading on from
 //! one document, with their selections inside. Reading and comparing take no memory.
 #![tactic(auto)]
 

@@ -6,6 +6,6 @@ use selection::Selection;
 pub struct Restore {
     /// The changes of the document.
     pub changes: ChangeSet,
-    /// The selection to be set in the document behind them.
+    /// The selection to be set in the document after them.
     pub selection: Selection,
 }

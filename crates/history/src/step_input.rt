@@ -48,7 +48,7 @@ pub struct StepInput {
     pub from_history: Option<i64>,
 }
 
-/// Whether a time lies less than the delay, which is over 0, behind the last one.
+/// Whether a time lies less than the delay, which is over 0, after the last one.
 fn is_within(last: i64, now: i64, delay: i64) -> bool
     ensures { result ≡ is_within last now delay }
 {

@@ -124,7 +124,7 @@ fn apply_twist(alloc: Global, input: &mut StepInput, twist: Twist) -> Result<(),
     Ok(())
 }
 
-/// The document and its history behind a step.
+/// The document and its history after a step.
 fn behind(rt: &impl Abort, history: &History, input: &StepInput) -> Result<Scene, Fail> {
     assert!(rt; input.changes.len() == input.document.len());
     assert!(rt; input.document.len() <= MAX_LEN && input.changes.new_len() <= MAX_LEN);
@@ -136,7 +136,7 @@ fn behind(rt: &impl Abort, history: &History, input: &StepInput) -> Result<Scene
     })
 }
 
-/// The document and its history behind an act.
+/// The document and its history after an act.
 fn acted(
     rt: &impl Abort,
     alloc: Global,
@@ -158,7 +158,7 @@ fn start(alloc: Global) -> Result<Scene, AllocError> {
     })
 }
 
-/// The document and its history behind some acts from nothing, 100 milliseconds apart.
+/// The document and its history after some acts from nothing, 100 milliseconds apart.
 fn played(rt: &impl Abort, alloc: Global, acts: &[(Act, Twist)]) -> Result<Scene, Fail> {
     let mut scene = start(alloc)?;
     let mut time: i64 = 0;
@@ -271,7 +271,7 @@ fn a_deletion_leaves_an_event_where_it_is_recorded(rt: HostRuntime) -> Result<()
     lead_to(&rt, rt.alloc(), &acts, (0, 1), &[])
 }
 
-/// Two characters typed, and two others put in front of them that are not recorded.
+/// Two characters typed, and two others put before them that are not recorded.
 const MOVED: [(Act, Twist); 4] = [
     (Act::Insert(0, 'a'), Twist::None),
     (Act::Insert(1, 'b'), Twist::None),

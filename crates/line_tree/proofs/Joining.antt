@@ -39,7 +39,7 @@ joined_push [] last line = refl
 joined_push (d ∷ ds) last line =
     joined_more d (ds ++ last ∷ []) line ∙ ap (λ r. d ++ (10 ∷ r)) (joined_push ds last line) ∙ sym (append_assoc d (10 ∷ joined (ds ++ last ∷ [])) (10 ∷ line)) ∙ ap (λ r. r ++ (10 ∷ line)) (sym (joined_more d ds last))
 
--- a line more behind some
+-- a line more after some
 pub joined_next : (lines : List (List ℕ)) (line : List ℕ) → 0 < length lines → joined (lines ++ line ∷ []) ≡ joined lines ++ (10 ∷ line)
 joined_next [] line h = absurd (omega arith)
 joined_next (x ∷ []) line h = refl
@@ -66,7 +66,7 @@ added done last new_last len run is no_break l =
     let text : joined (done ++ new_last ∷ []) ≡ joined (done ++ last ∷ []) ++ run = ap (λ x. joined (done ++ x ∷ [])) l ∙ joined_last done last run in
     (is.lines, rw l (no_break_run last run is.one no_break), omega (arith, is.count, ap length text, length-append (joined (done ++ last ∷ [])) run), text)
 
--- a line more of those that are joined: the first, or one behind others
+-- a line more of those that are joined: the first, or one after others
 pub one_more : (lines : List (List ℕ)) (i : ℕ) (line chars : List ℕ) → i < length lines → line ≡ get_or lines i line → 0 < i → chars ≡ joined (take i lines) ++ 10 ∷ [] → chars ++ line ≡ joined (take (i + 1) lines)
 one_more lines i line chars h is some e =
     ap (λ x. x ++ line) e ∙ append_assoc (joined (take i lines)) (10 ∷ []) line

@@ -38,10 +38,10 @@ length-numbered (line ∷ lines) number from = omega (arith, length-numbered lin
 pub length-lines : (lines : List (List ℕ)) (text : List ℕ) → 0 < length lines → AreLines lines → joined lines ≡ text → length (lines_of text) ≡ length lines
 length-lines lines text some h e = ap (λ t. length (lines_of t)) (sym e) ∙ ap (λ ls. length (numbered 1 0 ls)) (parts-joined lines some h) ∙ length-numbered lines 1 0
 
--- where the line behind some lines starts
-abbrev pub start_behind : List (List ℕ) → ℕ
-start_behind [] = 0
-start_behind (line ∷ lines) = length line + 1 + start_behind lines
+-- where the line after some lines starts
+abbrev pub start_after : List (List ℕ) → ℕ
+start_after [] = 0
+start_after (line ∷ lines) = length line + 1 + start_after lines
 
 abbrev pub line_of : ℕ → ℕ → ℕ → Line
 line_of number from to = record { number = number; from = from; to = to }
@@ -50,14 +50,14 @@ line_same : (a b c x y z : ℕ) → a ≡ x → b ≡ y → c ≡ z → Some (li
 line_same a b c x y z p q r = rw (p, q, r) refl
 
 get-numbered : (lines : List (List ℕ)) (i number from : ℕ) (d : List ℕ) → i < length lines
-    → slice_get (numbered number from lines) i ≡ Some (line_of (number + i) (from + start_behind (take i lines)) (from + start_behind (take i lines) + length (get_or lines i d)))
+    → slice_get (numbered number from lines) i ≡ Some (line_of (number + i) (from + start_after (take i lines)) (from + start_after (take i lines) + length (get_or lines i d)))
 get-numbered [] i number from d h = absurd (omega arith)
 get-numbered (line ∷ lines) zero number from d h = line_same _ _ _ _ _ _ (omega arith) (omega arith) (omega arith)
 get-numbered (line ∷ lines) (suc i) number from d h =
     get-numbered lines i (number + 1) (from + length line + 1) d (omega arith) ∙ line_same _ _ _ _ _ _ (omega arith) (omega arith) (omega arith)
 
 -- a line ends within the text
-within : (lines : List (List ℕ)) (i : ℕ) (d : List ℕ) → i < length lines → start_behind (take i lines) + length (get_or lines i d) ≤ length (joined lines)
+within : (lines : List (List ℕ)) (i : ℕ) (d : List ℕ) → i < length lines → start_after (take i lines) + length (get_or lines i d) ≤ length (joined lines)
 within [] i d h = absurd (omega arith)
 within (line ∷ []) zero d h = omega arith
 within (line ∷ next ∷ lines) zero d h = omega (arith, length-append line (10 ∷ joined (next ∷ lines)))
@@ -66,7 +66,7 @@ within (line ∷ next ∷ lines) (suc i) d h =
     omega (arith, length-append line (10 ∷ joined (next ∷ lines)), within (next ∷ lines) i d (omega arith))
 
 -- the last one at its end
-at_end : (lines : List (List ℕ)) (i : ℕ) (d : List ℕ) → i + 1 ≡ length lines → start_behind (take i lines) + length (get_or lines i d) ≡ length (joined lines)
+at_end : (lines : List (List ℕ)) (i : ℕ) (d : List ℕ) → i + 1 ≡ length lines → start_after (take i lines) + length (get_or lines i d) ≡ length (joined lines)
 at_end [] i d h = absurd (omega arith)
 at_end (line ∷ []) zero d h = omega arith
 at_end (line ∷ next ∷ lines) zero d h = absurd (omega arith)
@@ -74,22 +74,22 @@ at_end (line ∷ []) (suc i) d h = absurd (omega arith)
 at_end (line ∷ next ∷ lines) (suc i) d h =
     omega (arith, length-append line (10 ∷ joined (next ∷ lines)), at_end (next ∷ lines) i d (omega arith))
 
-start-more : (lines : List (List ℕ)) (i : ℕ) (d : List ℕ) → i < length lines → start_behind (take (i + 1) lines) ≡ start_behind (take i lines) + length (get_or lines i d) + 1
+start-more : (lines : List (List ℕ)) (i : ℕ) (d : List ℕ) → i < length lines → start_after (take (i + 1) lines) ≡ start_after (take i lines) + length (get_or lines i d) + 1
 start-more [] i d h = absurd (omega arith)
 start-more (line ∷ lines) zero d h = omega arith
 start-more (line ∷ lines) (suc i) d h = let e : suc i + 1 ≡ suc (i + 1) = omega arith in rw e (omega (arith, start-more lines i d (omega arith)))
 
 -- what holds of the line at an index
 pub record IsLineAt (lines : List (List ℕ)) (text : List ℕ) (i : ℕ) (line : List ℕ) : Type 0 where
-  pub is : IsLineOf text (line_of (i + 1) (start_behind (take i lines)) (start_behind (take i lines) + length line))
-  pub ends : start_behind (take i lines) + length line ≤ length text
-  pub last : i + 1 ≡ length lines → start_behind (take i lines) + length line ≡ length text
-  pub next : start_behind (take (i + 1) lines) ≡ start_behind (take i lines) + length line + 1
-  pub more : i + 1 < length lines → start_behind (take i lines) + length line + 1 ≤ length text
+  pub is : IsLineOf text (line_of (i + 1) (start_after (take i lines)) (start_after (take i lines) + length line))
+  pub ends : start_after (take i lines) + length line ≤ length text
+  pub last : i + 1 ≡ length lines → start_after (take i lines) + length line ≡ length text
+  pub next : start_after (take (i + 1) lines) ≡ start_after (take i lines) + length line + 1
+  pub more : i + 1 < length lines → start_after (take i lines) + length line + 1 ≤ length text
 
 pub line_at_index : (lines : List (List ℕ)) (text : List ℕ) (i : ℕ) (line : List ℕ) → 0 < length lines → AreLines lines → joined lines ≡ text → i < length lines → line ≡ get_or lines i line → IsLineAt lines text i line
 line_at_index lines text i line some h e inside is =
-    let start : ℕ = start_behind (take i lines) in
+    let start : ℕ = start_after (take i lines) in
     let same : length line ≡ length (get_or lines i line) = ap length is in
     let less : i + 1 - 1 ≡ i = omega arith in
     let fits = within lines i line inside in
@@ -113,7 +113,7 @@ pub count : (kept lines : List (List ℕ)) (text : List ℕ) → lines ≡ kept 
 count kept lines text e some h whole = length-lines kept text some h whole ∙ ap length (sym e)
 
 -- a line that ends before the text is not the last
-pub goes_on : {lines : List (List ℕ)} {text : List ℕ} {i : ℕ} {line : List ℕ} → IsLineAt lines text i line → i < length lines → start_behind (take i lines) + length line < length text → i + 1 < length lines
+pub goes_on : {lines : List (List ℕ)} {text : List ℕ} {i : ℕ} {line : List ℕ} → IsLineAt lines text i line → i < length lines → start_after (take i lines) + length line < length text → i + 1 < length lines
 goes_on {lines} {text} {i} {line} k inside short = by_place (ltb (i + 1) (length lines)) refl where
   by_place : (b : Bool) → ltb (i + 1) (length lines) ≡ b → i + 1 < length lines
   by_place true e = ltb-true _ _ e

@@ -3,7 +3,7 @@ use Rattle.std.specs.Prelude.{◌≡◌, ℕ, ◌+◌, ◌-◌, List, [], ◌∷
 use Rattle.line_tree.specs.Text.{line_feed}
 use Rattle.line_tree.specs.declared.line.Line.{Line}
 
--- a character in front of the first line
+-- a character before the first line
 abbrev pub onto_first : ℕ → List (List ℕ) → List (List ℕ)
 onto_first c [] = (c ∷ []) ∷ []
 onto_first c (line ∷ lines) = (c ∷ line) ∷ lines

@@ -16,7 +16,7 @@ line_feed = 10
 abbrev pub carriage_return : ℕ
 carriage_return = 13
 
--- CR, and CR with LF, become LF: behind a CR an LF is passed over
+-- CR, and CR with LF, become LF: after a CR an LF is passed over
 abbrev pub cut_after : Bool → List ℕ → List ℕ
 cut_after was_cr [] = []
 cut_after was_cr (c ∷ cs) =

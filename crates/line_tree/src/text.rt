@@ -68,7 +68,7 @@ fn finished(builder: Builder) -> Result<Text, AllocError>
 }
 
 impl Text {
-    /// The text of some characters, cut into lines at CRLF, CR and LF (Text.of). `Err`: memory was wanting.
+    /// The text of some characters, cut into lines at CRLF, CR and LF (Text.of). `Err`: out of memory.
     pub fn of(alloc: Global, characters: &[char]) -> Result<Text, AllocError>
         requires { length (cut characters.now) < 2 ^ 32 }
         ensures { IfOk result (λ t. t.characters ≡ cut characters.now) }
@@ -89,7 +89,7 @@ impl Text {
         finished(builder)
     }
 
-    /// The text without characters, which has one line (Text.empty). `Err`: memory was wanting.
+    /// The text without characters, which has one line (Text.empty). `Err`: out of memory.
     pub fn empty(alloc: Global) -> Result<Text, AllocError>
         ensures { IfOk result (λ t. t.characters ≡ []) }
     {
@@ -131,7 +131,7 @@ impl Text {
         unreachable!()
     }
 
-    /// The line that a place stands in; the place behind a line's last character is in that line (Text.lineAt).
+    /// The line that a place stands in; the place after a line's last character is in that line (Text.lineAt).
     pub fn line_at(&self, pos: u32) -> Line
         requires { pos ≤ length self.now.characters }
         ensures line { IsLineOf self.now.characters result }
@@ -154,7 +154,7 @@ impl Text {
         unreachable!()
     }
 
-    /// The characters, with LF between lines. `Err`: memory was wanting.
+    /// The characters, with LF between lines. `Err`: out of memory.
     pub fn chars(&self) -> Result<Vec<char>, AllocError>
         ensures { IfOk result (λ v. v.items ≡ self.now.characters) }
     {
@@ -168,7 +168,7 @@ impl Text {
         Ok(chars)
     }
 
-    /// The text with another in place of the characters from `from` to `to` (Text.replace). `Err`: memory was wanting.
+    /// The text with another in place of the characters from `from` to `to` (Text.replace). `Err`: out of memory.
     pub fn replace(&self, from: u32, to: u32, inserted: &Text) -> Result<Text, AllocError>
         requires order { from ≤ to }
         requires within { to ≤ length self.now.characters }
@@ -183,7 +183,7 @@ impl Text {
         finished(builder)
     }
 
-    /// The characters of this text, then those of the other (Text.append). `Err`: memory was wanting.
+    /// The characters of this text, then those of the other (Text.append). `Err`: out of memory.
     pub fn append(&self, other: &Text) -> Result<Text, AllocError>
         requires { length self.now.characters + length other.now.characters < 2 ^ 32 }
         ensures { IfOk result (λ t. t.characters ≡ self.now.characters ++ other.now.characters) }
@@ -194,7 +194,7 @@ impl Text {
         finished(builder)
     }
 
-    /// The characters from one place to another as a text of their own (Text.slice). `Err`: memory was wanting.
+    /// The characters from one place to another as a text of their own (Text.slice). `Err`: out of memory.
     pub fn slice(&self, from: u32, to: u32) -> Result<Text, AllocError>
         requires order { from ≤ to }
         requires within { to ≤ length self.now.characters }
@@ -214,7 +214,7 @@ impl Text {
         same_lines(self.lines.as_slice(), other.lines.as_slice())
     }
 
-    /// The same text once more. `Err`: memory was wanting.
+    /// The same text once more. `Err`: out of memory.
     pub fn try_copy(&self) -> Result<Text, AllocError>
         ensures { IfOk result (λ t. t ≡ self.now) }
     {

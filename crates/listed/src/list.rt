@@ -48,7 +48,7 @@ impl<T> Listed<T> {
         self.items
     }
 
-    /// Adds an item at the end. After want of memory the list is as before.
+    /// Adds an item at the end. When out of memory the list is as before.
     pub fn push(&mut self, item: T) -> Result<(), AllocError>
     where
         T: Drop,

@@ -15,12 +15,12 @@ module _ {T : Type 0} (rules : RangeRules T) where
   abbrev pub before : Ranged T → Ranged T → Bool
   before a b = nat_lt a.from b.from || (a.from == b.from && int_lt (rules.start_side a.value) (rules.start_side b.value))
 
-  -- whether a range belongs before the one that stands ahead of it
+  -- whether a range belongs before the one that stands before it
   abbrev pub precedes : Ranged T → Option (Ranged T) → Bool
   precedes r None = false
   precedes r (Some q) = before r q
 
-  -- the first fault of ranges of which the first has this index and stands behind `last`
+  -- the first fault of ranges of which the first has this index and stands after `last`
   abbrev pub fault_from : ℕ → Option (Ranged T) → List (Ranged T) → Option RangeError
   fault_from index last [] = None
   fault_from index last (r ∷ rs) =

@@ -10,14 +10,14 @@ use Rattle.range_set.specs.Order.{before}
 abbrev ahead : ℕ → ℤ → ℕ → ℤ → Bool
 ahead a s b t = nat_lt a b || (a == b && int_lt s t)
 
-ahead-one_way : (a b : ℕ) (s t : ℤ) → ahead a s b t ≡ true → ahead b t a s ≡ false
-ahead-one_way a b s t h = grind (arith, ints, nat_tests)
+before-one_way : (a b : ℕ) (s t : ℤ) → ahead a s b t ≡ true → ahead b t a s ≡ false
+before-one_way a b s t h = grind (arith, ints, nat_tests)
 
-ahead-chain : (a b c : ℕ) (s t u : ℤ) → ahead a s b t ≡ false → ahead b t c u ≡ false → ahead a s c u ≡ false
-ahead-chain a b c s t u h k = grind (arith, ints, nat_tests)
+before-chain : (a b c : ℕ) (s t u : ℤ) → ahead a s b t ≡ false → ahead b t c u ≡ false → ahead a s c u ≡ false
+before-chain a b c s t u h k = grind (arith, ints, nat_tests)
 
 pub before-order : {T : Type 0} (rules : RangeRules T) → IsStrictWeakOrder (before rules)
 before-order rules = record {
-  one_way = λ x y e. ahead-one_way x.from y.from (rules.start_side x.value) (rules.start_side y.value) e;
-  chain = λ x y z e h. ahead-chain x.from y.from z.from (rules.start_side x.value) (rules.start_side y.value) (rules.start_side z.value) e h;
+  one_way = λ x y e. before-one_way x.from y.from (rules.start_side x.value) (rules.start_side y.value) e;
+  chain = λ x y z e h. before-chain x.from y.from z.from (rules.start_side x.value) (rules.start_side y.value) (rules.start_side z.value) e h;
 }

@@ -10,10 +10,10 @@ pub enum RangeError {
     /// The range ends before it starts.
     #[error("range {index} ends before it starts")]
     Reversed { index: usize },
-    /// The range belongs before the one ahead of it.
+    /// The range belongs before the one before it.
     #[error("range {index} belongs before the one ahead of it")]
     NotSorted { index: usize },
-    /// Memory was wanting.
+    /// Out of memory.
     #[error("out of memory")]
     NoMemory,
 }

@@ -45,7 +45,7 @@ impl<T: RangeValue> RangeSet<T> {
     }
 
     /// The set of these ranges, which stand in order (RangeSet.of). `Err`: the first range that ends before it starts or
-    /// belongs before the one ahead of it, the former where it does both; or memory was wanting.
+    /// belongs before the one before it, the former where it does both; or out of memory.
     pub fn of(ranges: Vec<Ranged<T>>) -> Result<RangeSet<T>, RangeError>
         ensures set { IfOk result (λ s. s ≡ ranges.items) }
         ensures in_order { IfOk result (λ s. first_fault T.rules ranges.items ≡ None) }
@@ -85,7 +85,7 @@ impl<T: RangeValue> RangeSet<T> {
         same_ranges(self.ranges.as_slice(), other.ranges.as_slice())
     }
 
-    /// The same set once more. `Err`: memory was wanting.
+    /// The same set once more. `Err`: out of memory.
     pub fn try_copy(&self) -> Result<RangeSet<T>, AllocError>
         ensures { IfOk result (λ s. s ≡ self.now) }
     {
@@ -94,7 +94,7 @@ impl<T: RangeValue> RangeSet<T> {
     }
 
     /// The ranges that `keep` allows and those of `add`, the old ones first where they tie (RangeSet.update). `Err`: the
-    /// first range of `add` that ends before it starts or belongs before the one ahead of it; or memory was wanting.
+    /// first range of `add` that ends before it starts or belongs before the one before it; or out of memory.
     pub fn update<F: Fn(&Ranged<T>) -> bool>(
         &self,
         mut add: Vec<Ranged<T>>,
@@ -128,7 +128,7 @@ impl<T: RangeValue> RangeSet<T> {
     }
 
     /// The set over the new document of some changes (RangeSet.map): each range is moved or dropped, and what stays is
-    /// sorted anew. `Err`: memory was wanting.
+    /// sorted anew. `Err`: out of memory.
     pub fn map(&self, changes: &Desc) -> Result<RangeSet<T>, AllocError>
         requires { EndWithin (old_size changes.now) self.now }
         ensures { IfOk result (λ s. s ≡ map_ranges T.rules changes.now self.now) }

@@ -29,7 +29,7 @@ pub trait RangeValue: Drop {
     fn same(&self, other: &Self) -> bool
         ensures { IsTrue result ↔ (self.now ≡ other.now) };
 
-    /// The same value once more. `Err`: memory was wanting.
+    /// The same value once more. `Err`: out of memory.
     fn try_copy(&self, alloc: Global) -> Result<Self, AllocError>
         ensures { IfOk result (λ copy. copy ≡ self.now) };
 }

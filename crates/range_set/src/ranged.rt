@@ -40,7 +40,7 @@ impl<T: RangeValue> Ranged<T> {
             || (self.from == other.from && self.value.start_side() < other.value.start_side())
     }
 
-    /// Whether it belongs before the range that stands ahead of it, if there is one.
+    /// Whether it belongs before the range that stands before it, if there is one.
     pub(crate) fn precedes(&self, last: Option<&Ranged<T>>) -> bool
         ensures { result ≡ precedes T.rules self.now (option_copied last.entry) }
     {
@@ -57,7 +57,7 @@ impl<T: RangeValue> Ranged<T> {
         self.from == other.from && self.to == other.to && self.value.same(&other.value)
     }
 
-    /// The same range once more. `Err`: memory was wanting.
+    /// The same range once more. `Err`: out of memory.
     pub(crate) fn try_copy(&self, alloc: Global) -> Result<Ranged<T>, AllocError>
         ensures { IfOk result (λ copy. copy ≡ self.now) }
     {
@@ -85,7 +85,7 @@ impl<T: RangeValue> Ranged<T> {
         ends_unless_turned(from, to, start_side, end_side)
     }
 
-    /// The range where changes move it, unless they drop it. `Err`: memory was wanting.
+    /// The range where changes move it, unless they drop it. `Err`: out of memory.
     pub(crate) fn moved(
         &self,
         alloc: Global,

@@ -1,4 +1,4 @@
--- A refusal goes through what is read behind it.
+-- A refusal goes through what is read after it.
 use Rattle.std.proofs.Common.{Result, ap}
 use Rattle.script.specs.declared.refusal.Refusal.{Refusal}
 use Rattle.script.specs.declared.refusal.LineError.{LineError}

@@ -10,17 +10,17 @@ use Rattle.script.specs.declared.refusal.LineError.TheVariants as errors
 use Rattle.script.specs.Reading.{◌>>=◌, Fails, each}
 
 -- what was read before, and what is still read
-abbrev pub with_front : {A : Type 0} → List A → Result (List A) Refusal → Result (List A) Refusal
-with_front front read = read >>= λ xs. Ok (front ++ xs)
+abbrev pub with_prefix : {A : Type 0} → List A → Result (List A) Refusal → Result (List A) Refusal
+with_prefix front read = read >>= λ xs. Ok (front ++ xs)
 
 abbrev pub onto : {A : Type 0} → Result A Refusal → Result (List A) Refusal → Result (List A) Refusal
 onto first others = first >>= λ x. others >>= λ xs. Ok (x ∷ xs)
 
-regroup : {A : Type 0} (front : List A) (x : A) (others : Result (List A) Refusal) → with_front front (others >>= λ xs. Ok (x ∷ xs)) ≡ with_front (front ++ x ∷ []) others
+regroup : {A : Type 0} (front : List A) (x : A) (others : Result (List A) Refusal) → with_prefix front (others >>= λ xs. Ok (x ∷ xs)) ≡ with_prefix (front ++ x ∷ []) others
 regroup front x (Ok xs) = ap Ok (sym (append_assoc front (x ∷ []) xs))
 regroup front x (Err r) = refl
 
--- the item at the index, and those behind it
+-- the item at the index, and those after it
 at_item : {A : Type 0} (read : Data → Result A Refusal) (values : List Value) (i : ℕ) (value : Value) → i < length values → value ≡ get_or values i value
     → each read (items_view (drop i values)) ≡ onto (read (view value)) (each read (items_view (drop (i + 1) values)))
 unfolding each
@@ -28,24 +28,24 @@ at_item read values i value h is = ap (λ vs. each read (items_view vs)) (drop_m
 
 -- one more item was read
 pub goes_on : {A : Type 0} (read : Data → Result A Refusal) (front : List A) (x : A) (values : List Value) (i : ℕ) (value : Value) (total : Result (List A) Refusal) → i < length values → value ≡ get_or values i value
-    → read (view value) ≡ Ok x → with_front front (each read (items_view (drop i values))) ≡ total → with_front (front ++ x ∷ []) (each read (items_view (drop (i + 1) values))) ≡ total
+    → read (view value) ≡ Ok x → with_prefix front (each read (items_view (drop i values))) ≡ total → with_prefix (front ++ x ∷ []) (each read (items_view (drop (i + 1) values))) ≡ total
 goes_on read front x values i value total h is e so_far =
     let others = each read (items_view (drop (i + 1) values)) in
-    sym (regroup front x others) ∙ ap (λ f. with_front front (onto f others)) (sym e) ∙ ap (with_front front) (sym (at_item read values i value h is)) ∙ so_far
+    sym (regroup front x others) ∙ ap (λ f. with_prefix front (onto f others)) (sym e) ∙ ap (with_prefix front) (sym (at_item read values i value h is)) ∙ so_far
 
-failed : {A : Type 0} (e : LineError) (front : List A) (first : Result A Refusal) (others total : Result (List A) Refusal) → Fails e first → with_front front (onto first others) ≡ total → Fails e total
+failed : {A : Type 0} (e : LineError) (front : List A) (first : Result A Refusal) (others total : Result (List A) Refusal) → Fails e first → with_prefix front (onto first others) ≡ total → Fails e total
 failed errors.NoMemory front first others total fails so_far = tt
-failed (errors.Refused r) front first others total fails so_far = sym so_far ∙ ap (λ f. with_front front (onto f others)) fails
+failed (errors.Refused r) front first others total fails so_far = sym so_far ∙ ap (λ f. with_prefix front (onto f others)) fails
 
 -- the item is refused
 pub ends : {A : Type 0} (read : Data → Result A Refusal) (e : LineError) (front : List A) (values : List Value) (i : ℕ) (value : Value) (total : Result (List A) Refusal) → i < length values → value ≡ get_or values i value
-    → Fails e (read (view value)) → with_front front (each read (items_view (drop i values))) ≡ total → Fails e total
+    → Fails e (read (view value)) → with_prefix front (each read (items_view (drop i values))) ≡ total → Fails e total
 ends read e front values i value total h is fails so_far =
-    failed e front (read (view value)) (each read (items_view (drop (i + 1) values))) total fails (ap (with_front front) (sym (at_item read values i value h is)) ∙ so_far)
+    failed e front (read (view value)) (each read (items_view (drop (i + 1) values))) total fails (ap (with_prefix front) (sym (at_item read values i value h is)) ∙ so_far)
 
 -- all items were read
-pub is_done : {A : Type 0} (read : Data → Result A Refusal) (front : List A) (values : List Value) (i : ℕ) (total : Result (List A) Refusal) → length values ≤ i → with_front front (each read (items_view (drop i values))) ≡ total → total ≡ Ok front
+pub is_done : {A : Type 0} (read : Data → Result A Refusal) (front : List A) (values : List Value) (i : ℕ) (total : Result (List A) Refusal) → length values ≤ i → with_prefix front (each read (items_view (drop i values))) ≡ total → total ≡ Ok front
 unfolding each
 is_done read front values i total h so_far =
     let none : each read (items_view (drop i values)) ≡ Ok [] = ap (λ vs. each read (items_view vs)) (drop_all i values h) in
-    sym so_far ∙ ap (with_front front) none ∙ ap Ok (append-nil front)
+    sym so_far ∙ ap (with_prefix front) none ∙ ap Ok (append-nil front)

@@ -32,7 +32,7 @@ joined_all : (ps : List Plain) → joined ps no_data ≡ data_of (map datum_of p
 joined_all [] = refl
 joined_all (p ∷ ps) = ap (datum (datum_of p)) (joined_all ps)
 
--- the item at the index, and those behind it
+-- the item at the index, and those after it
 at_item : (values : List Value) (i : ℕ) (value : Value) → i < length values → value ≡ get_or values i value
     → values_of (items_view (drop i values)) ≡ with_first (value_of (view value)) (values_of (items_view (drop (i + 1) values)))
 at_item values i value h is = ap (λ vs. values_of (items_view vs)) (drop_more values i value h ∙ ap (λ v. v ∷ drop (i + 1) values) (sym is))

@@ -1,5 +1,5 @@
 -- Reading the members of a JSON value: the answer, or the refusal that names the member nearest to the fault. Fields are
--- read in the table's order, the inner ones of a field before the next outer one, and behind them come the members that
+-- read in the table's order, the inner ones of a field before the next outer one, and after them come the members that
 -- the table doesn't have.
 use Rattle.std.specs.Prelude.{◌≡◌, ℕ, ◌^◌, ℤ, pos, negsuc, int_le, ◌&&◌, List, [], ◌∷◌, Bool, false, ◌||◌, nat_lt, Option, Some, None, Result, Ok, Err, if◌then◌else◌, option_map, option_and_then, ⊤}
 use Rattle.std.specs.Str.{chars, bytes_eq}
@@ -16,12 +16,12 @@ abbrev pub ◌>>=◌ : {A B : Type 0} → Result A Refusal → (A → Result B R
 (Ok x) >>= f = f x
 (Err e) >>= f = Err e
 
--- the error is the refusal that reading gives, or want of memory
+-- the error is the refusal that reading gives, or out of memory
 abbrev pub Fails : {Y : Type 0} → LineError → Result Y Refusal → Type 0
 Fails errors.NoMemory read = Unit {0}
 Fails (errors.Refused r) read = read ≡ Err r
 
--- what a function returned, seen by `see`, is what reading gives, unless memory was wanting
+-- what a function returned, seen by `see`, is what reading gives, unless out of memory
 abbrev pub Gives : {X Y : Type 0} → (X → Y) → Result X LineError → Result Y Refusal → Type 0
 Gives see (Ok x) read = read ≡ Ok (see x)
 Gives see (Err e) read = Fails e read

@@ -14,7 +14,7 @@ use Rattle.script.specs.Reading.{or_bad}
 abbrev pub unless_deep : plain.Data → Option plain.Datum
 unless_deep ds = if nat_le (plain.depth (plain.list ds)) plain.max_depth then Some (plain.list ds) else None
 
--- an item, if it is a value, ahead of the others, if they are
+-- an item, if it is a value, before the others, if they are
 abbrev pub with_first : Option plain.Datum → Option plain.Data → Option plain.Data
 with_first None others = None
 with_first (Some d) others = option_map (plain.datum d) others

@@ -2,7 +2,7 @@
 //!
 //! The layer above may rely on this: `command_of` gives the command of a value, or the first refusal in the order of
 //! the table of fields, and `reply_text` gives the compact JSON text of a reply and a line feed. Both are exact, but
-//! for want of memory.
+//! for out of memory.
 #![tactic(auto)]
 
 mod annotation_reading;

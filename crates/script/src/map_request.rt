@@ -75,7 +75,7 @@ impl Model for MapRequest {
 }
 
 impl MapRequest {
-    /// The request with these parts. `Err`: memory was wanting.
+    /// The request with these parts. `Err`: out of memory.
     pub fn new(alloc: Global, parts: MapParts) -> Result<MapRequest, AllocError>
         ensures { IfOk result (λ r. r ≡ parts) }
     {

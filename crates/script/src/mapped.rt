@@ -42,7 +42,7 @@ impl Model for Mapped {
 }
 
 impl Mapped {
-    /// The answer with these parts. `Err`: memory was wanting.
+    /// The answer with these parts. `Err`: out of memory.
     pub fn new(alloc: Global, parts: MappedParts) -> Result<Mapped, AllocError>
         ensures { IfOk result (λ m. m ≡ parts) }
     {

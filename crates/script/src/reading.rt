@@ -82,7 +82,7 @@ fn read_members(alloc: Global, members: &Map<String, Value>) -> Result<Command, 
 /// The command that a value is: an object with one member, whose name is a command's and whose value is its argument.
 /// A value is refused by the first of these that holds: it is no object with one member, the name is no command's,
 /// or a field is missing, of a wrong kind, out of its range or not in the command's table. The only other error is
-/// want of memory.
+/// out of memory.
 #[tactic(auto, unfolding(crate::specs::Command::command_of))]
 pub fn command_of(alloc: Global, value: &Value) -> Result<Command, LineError>
     ensures { Gives (λ x. x) result (command_of (view value.now)) }

@@ -38,7 +38,7 @@ pub enum Refusal {
         want: u32,
         have: u32,
     },
-    /// The changed text would have `len` characters, which is more than `max`. Of the texts behind each change of a
+    /// The changed text would have `len` characters, which is more than `max`. Of the texts after each change of a
     /// list, this is the first one that is too long.
     TooLong {
         len: u64,
@@ -62,7 +62,7 @@ pub enum Refusal {
 /// Why a line is not carried out.
 #[derive(Debug, Drop, Error)]
 pub enum LineError {
-    /// Memory was wanting.
+    /// Out of memory.
     #[error("out of memory")]
     NoMemory,
     /// The line is refused.

@@ -228,7 +228,7 @@ fn value_text(alloc: Global, reply: &Reply) -> Result<String, AllocError>
 }
 
 /// The line that answers: the compact JSON text of the reply, with members in byte order of their names, and LF. The
-/// only error is want of memory.
+/// only error is out of memory.
 pub fn reply_text(alloc: Global, reply: &Reply) -> Result<String, AllocError>
     ensures { IfOk result (λ s. string_bytes s ≡ reply_text reply.now) }
 {

@@ -23,7 +23,7 @@ not_true true h = cc
 ends_apart : (ha lb : ℕ) (c : Bool) → (ltb lb ha || (eqb lb ha && c)) ≡ false → ha ≤ lb
 ends_apart ha lb c h = grind (arith, nat_tests)
 
--- each range begins behind the end of those before it
+-- each range begins after the end of those before it
 none_below : (a : Marked) (i main l : ℕ) (r : Range) (rs : List Range) → low a.range ≤ low r → are_apart (r ∷ rs) ≡ true → NoneBelow begins_before a (marked_from i main (r ∷ rs))
 none_below a i main l r [] h p = (not_less (low r) (low a.range) h, tt)
   where

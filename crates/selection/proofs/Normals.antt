@@ -43,9 +43,9 @@ meets-joined a b c h =
     rw (empty_ends a, empty_ends (joined_range b c), low-joined b c, high-joined b c)
     (meets_by_ends (low a) (high a) (low b) (high b) (max (high b) (high c)) (low_high b) (omega arith) (rw (← empty_ends a, ← empty_ends b) h))
 
-front_apart : (a : Range) (m : Marked) (ms : List Marked) → meet a m.range ≡ false → are_apart (map range_of (joined_from m ms)) ≡ true → are_apart (a ∷ map range_of (joined_from m ms)) ≡ true
-front_apart a m [] h p = rw h refl
-front_apart a m (k ∷ ms) h p = cases (meet m.range k.range) p (front_apart a (joined m k) ms (meets-joined a m.range k.range h))
+prefix_apart : (a : Range) (m : Marked) (ms : List Marked) → meet a m.range ≡ false → are_apart (map range_of (joined_from m ms)) ≡ true → are_apart (a ∷ map range_of (joined_from m ms)) ≡ true
+prefix_apart a m [] h p = rw h refl
+prefix_apart a m (k ∷ ms) h p = cases (meet m.range k.range) p (prefix_apart a (joined m k) ms (meets-joined a m.range k.range h))
   where
     cases : (b : Bool) → are_apart (map range_of (cond b (joined_from (joined m k) ms) (m ∷ joined_from k ms))) ≡ true →
         (are_apart (map range_of (joined_from (joined m k) ms)) ≡ true → are_apart (a ∷ map range_of (joined_from (joined m k) ms)) ≡ true) →
@@ -60,7 +60,7 @@ joined_apart m (k ∷ ms) = cases (meet m.range k.range) refl (joined_apart (joi
     cases : (b : Bool) → meet m.range k.range ≡ b → are_apart (map range_of (joined_from (joined m k) ms)) ≡ true → are_apart (map range_of (joined_from k ms)) ≡ true →
         are_apart (map range_of (cond b (joined_from (joined m k) ms) (m ∷ joined_from k ms))) ≡ true
     cases true e p q = p
-    cases false e p q = front_apart m.range k ms e q
+    cases false e p q = prefix_apart m.range k ms e q
 
 all_apart : (ms : List Marked) → are_apart (map range_of (all_joined ms)) ≡ true
 all_apart [] = refl

@@ -48,7 +48,7 @@ place_in changes p negative = or_zero (map_pos counted changes p negative Simple
 abbrev pub uncrossed : (from to : ℕ) → (backward : Bool) → Range
 uncrossed from to backward = cond (ltb to from) (cursor to) (ordered_range from to backward)
 
--- Mapped range: a cursor stays before what is inserted at its place; another range's start goes behind it and its end stays
+-- Mapped range: a cursor stays before what is inserted at its place; another range's start goes after it and its end stays
 -- before it, so that it doesn't grow; where the ends cross it is a cursor at the mapped end. Its direction is kept.
 abbrev pub moved_range : List (Section ℕ) → Range → Range
 moved_range changes r =

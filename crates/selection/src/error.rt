@@ -13,7 +13,7 @@ pub enum SelectionError {
     /// The main range is to be the one with index `main`, counted from 0, and there are `count` ranges.
     #[error("the main range {main} is none of {count} ranges")]
     BadMain { main: usize, count: usize },
-    /// Memory was wanting.
+    /// Out of memory.
     #[error("out of memory")]
     NoMemory,
 }

@@ -2,7 +2,7 @@
 use Rattle.std.proofs.Common.{◌≡◌, ℕ, min, ◌-◌, ◌+◌, ◌<◌, ◌≤◌, ◌⊎◌, inl, inr, Bool, true, false, List, [], ◌∷◌, ◌++◌, length, take, drop, Option, Some, None, IfSome, refl, sym, ap, subst, ◌∙◌, append_assoc, arith}
 use Rattle.std.proofs.lemmas.List.{drop-drop, drop-take, take-take, take-append-drop, length-drop, append-nil, take_at, drop_at, take_min, take-append-le}
 use Rattle.cm_outside.specs.Lines.{lines_of, whole_lines}
-use Rattle.cm_outside.specs.Sink.{Appends, AppendsFront}
+use Rattle.cm_outside.specs.Sink.{Appends, AppendsPrefix}
 use Rattle.cm_outside.specs.Progress.{Progress, pending, left_of, EndsAtBreak, EndsAtEnd, IsNextLine, TakesOf, Reads}
 use Rattle.cm_outside.specs.declared.reading.Reading.TheVariants.{End, Failed, Budget}
 use Rattle.cm_outside.proofs.LineLaws.{lines_at_break, whole_at_break, lines_at_end, no_whole_line}
@@ -145,16 +145,16 @@ begins (Some input) held p taken rest going = record { done = []; cuts = cuts_no
   none (Some before) = ap Some (sym (append-nil before))
 
 -- the replies begin with those to the lines before, and to the next
-front_of_all : (input : List ℕ) (done more : List (List ℕ)) → lines_of input ≡ done ++ more → transcript fresh (lines_of input) ≡ transcript fresh done ++ transcript (after_all fresh done) more
-front_of_all input done more e = ap (transcript fresh) e ∙ transcript_append fresh done more
+prefix_of_all : (input : List ℕ) (done more : List (List ℕ)) → lines_of input ≡ done ++ more → transcript fresh (lines_of input) ≡ transcript fresh done ++ transcript (after_all fresh done) more
+prefix_of_all input done more e = ap (transcript fresh) e ∙ transcript_append fresh done more
 
--- a sink with the replies so far has a front of all
+-- a sink with the replies so far has a prefix of all
 pub stops : (told held left held_now : Option (List ℕ)) (s : PlainSession) (p : Progress) → IfSome told (λ input. Going input left held held_now s p)
-    → IfSome told (λ input. IfSome held (λ before. AppendsFront before held_now (transcript fresh (lines_of input))))
+    → IfSome told (λ input. IfSome held (λ before. AppendsPrefix before held_now (transcript fresh (lines_of input))))
 stops None held left held_now s p g = tt
 stops (Some input) None left held_now s p g = tt
 stops (Some input) (Some before) left held_now s p g =
-    let all = front_of_all input g.done (lines_of (p.rest ++ drop p.taken input)) g.cuts.lines in
+    let all = prefix_of_all input g.done (lines_of (p.rest ++ drop p.taken input)) g.cuts.lines in
     record {
       len = length (transcript fresh g.done);
       front = g.wrote ∙ ap (λ t. Some (before ++ t)) (sym (ap (take (length (transcript fresh g.done))) all ∙ take_at (transcript fresh g.done) (transcript (after_all fresh g.done) (lines_of (p.rest ++ drop p.taken input))) (length (transcript fresh g.done)) refl));
@@ -200,15 +200,15 @@ goes_on (Some input) held left left_now held_now held_new s t r p q g later take
 
 -- a write failed within the reply to a line
 write_stops : (input before : List ℕ) (left left_now held_now held_new : Option (List ℕ)) (s : PlainSession) (line : List ℕ) (p q : Progress) → Going input left (Some before) held_now s p → p.taken ≤ q.taken
-    → TakesOf p q (drop p.taken input) left_now → IsNextLine line p q (drop p.taken input) → IfSome held_now (λ b. AppendsFront b held_new (reply line s)) → AppendsFront before held_new (transcript fresh (lines_of input))
+    → TakesOf p q (drop p.taken input) left_now → IsNextLine line p q (drop p.taken input) → IfSome held_now (λ b. AppendsPrefix b held_new (reply line s)) → AppendsPrefix before held_new (transcript fresh (lines_of input))
 write_stops input before left left_now held_now held_new s line p q g later takes next front =
     let replies = transcript fresh g.done in
     let more = lines_of (q.rest ++ drop q.taken input) in
     let cuts = next_line input left left_now p q g.done line g.cuts later takes next in
-    let f : AppendsFront (before ++ replies) held_new (reply line s) = subst (λ o. IfSome o (λ b. AppendsFront b held_new (reply line s))) g.wrote front in
+    let f : AppendsPrefix (before ++ replies) held_new (reply line s) = subst (λ o. IfSome o (λ b. AppendsPrefix b held_new (reply line s))) g.wrote front in
     let n = min f.len (length (reply line s)) in
     let all : transcript fresh (lines_of input) ≡ replies ++ (reply line s ++ transcript (after line s) more) =
-    front_of_all input g.done (line ∷ more) (cuts.lines ∙ append_assoc g.done (line ∷ []) more) ∙ ap (λ o. replies ++ transcript o (line ∷ more)) (sym g.state) ∙ ap (λ x. replies ++ x) (transcript_next s line more) in
+    prefix_of_all input g.done (line ∷ more) (cuts.lines ∙ append_assoc g.done (line ∷ []) more) ∙ ap (λ o. replies ++ transcript o (line ∷ more)) (sym g.state) ∙ ap (λ x. replies ++ x) (transcript_next s line more) in
     let cut : take (length replies + n) (transcript fresh (lines_of input)) ≡ replies ++ take f.len (reply line s) =
     ap (take (length replies + n)) all ∙ take_past replies (reply line s ++ transcript (after line s) more) n
     ∙ ap (λ x. replies ++ x) (take-append-le n (reply line s) (transcript (after line s) more) (omega arith) ∙ take_min f.len (reply line s)) in
@@ -222,7 +222,7 @@ line_stops input before left left_now held_now held_new s t line p q statuses.Re
 line_stops input before left left_now held_now held_new s t line p q statuses.WriteFault limit taken g later takes next a = write_stops input before left left_now held_now held_new s line p q g later takes next a
 line_stops input before left left_now held_now held_new s t line p q statuses.StoreFault limit taken g later takes next a = absurd a
 line_stops input before left left_now held_now held_new s t line p q statuses.NoMemory limit taken g later takes next a =
-    subst (λ o. AppendsFront before o (transcript fresh (lines_of input))) (sym a) (stops (Some input) (Some before) left held_now s p g)
+    subst (λ o. AppendsPrefix before o (transcript fresh (lines_of input))) (sym a) (stops (Some input) (Some before) left held_now s p g)
 line_stops input before left left_now held_now held_new s t line p q statuses.TooMuch limit taken g later takes next a = absurd a
 line_stops input before left left_now held_now held_new s t line p q statuses.BadFile limit taken g later takes next a = absurd a
 

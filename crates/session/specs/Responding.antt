@@ -7,7 +7,7 @@ use Rattle.cm_outside.specs.declared.status.Status.TheVariants.{Ok, Usage, ReadF
 use Rattle.cm_outside.specs.declared.reading.Reading.{Reading}
 use Rattle.cm_outside.specs.declared.reading.Reading.TheVariants as readings
 use Rattle.cm_outside.specs.Lines.{max_line}
-use Rattle.cm_outside.specs.Sink.{Appends, AppendsFront}
+use Rattle.cm_outside.specs.Sink.{Appends, AppendsPrefix}
 use Rattle.session.specs.State.{PlainSession}
 use Rattle.session.specs.Transcript.{after, reply}
 
@@ -17,7 +17,7 @@ RespondsTo line s t h i (result.Ok x) = (t ≡ after line s) × IfSome h (λ bef
 RespondsTo line s t h i (result.Err Ok) = ⊥
 RespondsTo line s t h i (result.Err Usage) = ⊥
 RespondsTo line s t h i (result.Err ReadFault) = ⊥
-RespondsTo line s t h i (result.Err WriteFault) = IfSome h (λ before. AppendsFront before i (reply line s))
+RespondsTo line s t h i (result.Err WriteFault) = IfSome h (λ before. AppendsPrefix before i (reply line s))
 RespondsTo line s t h i (result.Err StoreFault) = ⊥
 RespondsTo line s t h i (result.Err NoMemory) = i ≡ h
 RespondsTo line s t h i (result.Err TooMuch) = ⊥
@@ -30,7 +30,7 @@ Responds readings.End s t h i r = (r ≡ result.Err Ok) × (i ≡ h)
 Responds readings.Failed s t h i r = (r ≡ result.Err ReadFault) × (i ≡ h)
 Responds readings.Budget s t h i r = (r ≡ result.Err TooMuch) × (i ≡ h)
 
--- a line is not answered for want of memory or a failed write alone
+-- a line is not answered for out of memory or a failed write alone
 abbrev pub IsStop : Status → Type 0
 IsStop WriteFault = Unit {0}
 IsStop NoMemory = Unit {0}

@@ -4,7 +4,7 @@ use Rattle.std.specs.Prelude.{◌≡◌, [], ◌∷◌, Bool, false, codes, ℕ,
 use Rattle.cm_outside.specs.declared.status.Status.{Status}
 use Rattle.cm_outside.specs.declared.status.Status.TheVariants.{Ok, Usage, ReadFault, WriteFault, StoreFault, NoMemory, TooMuch, BadFile}
 use Rattle.cm_outside.specs.Lines.{lines_of, whole_lines}
-use Rattle.cm_outside.specs.Sink.{Appends, AppendsFront}
+use Rattle.cm_outside.specs.Sink.{Appends, AppendsPrefix}
 use Rattle.session.specs.State.{fresh}
 use Rattle.session.specs.Transcript.{transcript}
 
@@ -16,9 +16,9 @@ Wrote Ok limit taken input before now = (taken ≡ length input) × Appends befo
 Wrote ReadFault limit taken input before now = Appends before now (transcript fresh (whole_lines (take taken input)))
 -- the replies to the lines whose line feed is among the first `limit` bytes, of an input that has more
 Wrote TooMuch limit taken input before now = (limit < length input) × Appends before now (transcript fresh (whole_lines (take limit input)))
--- a front of the replies to all lines
-Wrote WriteFault limit taken input before now = AppendsFront before now (transcript fresh (lines_of input))
-Wrote NoMemory limit taken input before now = AppendsFront before now (transcript fresh (lines_of input))
+-- a prefix of the replies to all lines
+Wrote WriteFault limit taken input before now = AppendsPrefix before now (transcript fresh (lines_of input))
+Wrote NoMemory limit taken input before now = AppendsPrefix before now (transcript fresh (lines_of input))
 -- no other status is answered
 Wrote Usage limit taken input before now = ⊥
 Wrote StoreFault limit taken input before now = ⊥

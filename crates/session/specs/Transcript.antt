@@ -22,7 +22,7 @@ unfoldable pub outcome : List ℕ → Option PlainState → Result Outcome Refus
 outcome line state = if nat_lt max_line (length line) then Err LineTooLong
     else (if is_utf8 line then of_data (read line) state else Err NotUtf8)
 
--- the session behind a line
+-- the session after a line
 unfoldable pub after : List ℕ → PlainSession → PlainSession
 after line s = behind s (outcome line s.state)
 
@@ -35,7 +35,7 @@ unfoldable pub transcript : PlainSession → List (List ℕ) → List ℕ
 transcript s [] = []
 transcript s (line ∷ lines) = reply line s ++ transcript (after line s) lines
 
--- the session behind some lines
+-- the session after some lines
 unfoldable pub after_all : PlainSession → List (List ℕ) → PlainSession
 after_all s [] = s
 after_all s (line ∷ lines) = after_all (after line s) lines

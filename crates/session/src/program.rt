@@ -39,7 +39,7 @@ fn respond<K: Sink>(session: &mut Session, reading: &Reading, sink: &mut K) -> R
 /// bytes are taken, and one more by which the run knows that there are more.
 ///
 /// `Ok`: the input was read to its end. `ReadFault`, `WriteFault`: the count of faults of the source, of the sink
-/// rose. `TooMuch`: one byte more than the limit was taken. `NoMemory`: memory was wanting. No other status comes.
+/// rose. `TooMuch`: one byte more than the limit was taken. `NoMemory`: out of memory. No other status comes.
 pub fn replay<S: Source, K: Sink>(alloc: Global, limit: u64, source: &mut S, sink: &mut K) -> Status
     requires { limit ≤ byte_limit }
     // The headline: what was written, and why the run ended so.
@@ -50,7 +50,7 @@ pub fn replay<S: Source, K: Sink>(alloc: Global, limit: u64, source: &mut S, sin
     ensures gave { IfSome (S.left source.old) (λ input.
         Gave (S.given source.new - S.given source.old) input (S.left source.new)) }
 
-    // Without a fault and within the limit the input is read to its end, or memory was wanting.
+    // Without a fault and within the limit the input is read to its end, or out of memory.
     ensures complete { ¬ (Rose (S.faults source.old) (S.faults source.new)) → ¬ (Rose (K.faults sink.old) (K.faults sink.new))
         → IfSome (S.left source.old) (λ input. length input ≤ limit → (result ≡ Status.Ok) ⊎ (result ≡ Status.NoMemory)) }
     ensures later { (S.given source.old ≤ S.given source.new) × (S.faults source.old ≤ S.faults source.new)
@@ -94,7 +94,7 @@ pub fn run<S: Source, K: Sink>(alloc: Global, words: &[Str], source: &mut S, sin
     ensures gave { is_replay words.now ≡ true → IfSome (S.left source.old) (λ input.
         Gave (S.given source.new - S.given source.old) input (S.left source.new)) }
 
-    // Without a fault and within the limit the input is read to its end, or memory was wanting.
+    // Without a fault and within the limit the input is read to its end, or out of memory.
     ensures complete { is_replay words.now ≡ true → ¬ (Rose (S.faults source.old) (S.faults source.new))
         → ¬ (Rose (K.faults sink.old) (K.faults sink.new)) → IfSome (S.left source.old) (λ input.
         length input ≤ byte_limit → (result ≡ Status.Ok) ⊎ (result ≡ Status.NoMemory)) }

@@ -33,8 +33,8 @@ impl Session {
         Session { alloc, state: None }
     }
 
-    /// Does what a line, without its LF, asks for, and gives the reply with its LF. The only error is want of memory.
-    /// A refused line changes nothing, and neither does want of memory.
+    /// Does what a line, without its LF, asks for, and gives the reply with its LF. The only error is out of memory.
+    /// A refused line changes nothing, and neither does out of memory.
     #[tactic(auto, unfolding(crate::specs::Transcript::after, crate::specs::Transcript::reply))]
     pub fn line(&mut self, line: &[u8]) -> Result<String, AllocError>
         ensures reply { IfOk result (λ r. string_bytes r ≡ reply line.now self.old) }

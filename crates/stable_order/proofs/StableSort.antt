@@ -9,12 +9,12 @@ use Rattle.std.specs.List.Sorted.{IsSortedBy, IsStableBy, ties}
 use Rattle.stable_order.specs.StableSort.{insert_by, stable_sort}
 
 module _ {X : Type 0} (lt : X → X → Bool) where
-  -- no element is below z
+  -- no element is less than z
   abbrev pub NoneBelow : X → List X → Type 0
   NoneBelow z [] = Unit {0}
   NoneBelow z (x ∷ xs) = (lt x z ≡ false) × NoneBelow z xs
 
-  -- no element is below an earlier one
+  -- no element is less than an earlier one
   abbrev pub Rises : List X → Type 0
   Rises [] = Unit {0}
   Rises (x ∷ xs) = NoneBelow x xs × Rises xs
@@ -96,7 +96,7 @@ module _ {X : Type 0} (lt : X → X → Bool) (o : IsStrictWeakOrder lt) where
   filter-stable_sort w (x ∷ xs) =
       filter-insert w x (stable_sort lt xs) ∙ ap (λ l. cond (ties lt w x) (x ∷ l) l) (filter-stable_sort w xs)
 
-  -- what stands at the front of a filtered part is not below z
+  -- what stands at the head of a filtered part is not less than z
   not_below-found : (z : X) (p : X → Bool) (ys : List X) (x : X) (rest : List X) → NoneBelow lt z ys → filter p ys ≡ x ∷ rest → lt x z ≡ false
   not_below-found z p [] x rest h e = cc
   not_below-found z p (y ∷ ys) x rest h e = not_below-tested z p y ys x rest h (λ e'. not_below-found z p ys x rest h.1 e') (p y) e
@@ -106,8 +106,8 @@ module _ {X : Type 0} (lt : X → X → Bool) (o : IsStrictWeakOrder lt) where
       not_below-tested z p y ys x rest h r true e = let same : y ≡ x = cc in ap (λ v. lt v z) (sym same) ∙ h.0
       not_below-tested z p y ys x rest h r false e = r e
 
-  filter_front : (x : X) (xs : List X) → filter (ties lt x) (x ∷ xs) ≡ x ∷ filter (ties lt x) xs
-  filter_front x xs = ap (λ b. cond b (x ∷ filter (ties lt x) xs) (filter (ties lt x) xs)) (ties_itself x)
+  filter_prefix : (x : X) (xs : List X) → filter (ties lt x) (x ∷ xs) ≡ x ∷ filter (ties lt x) xs
+  filter_prefix x xs = ap (λ b. cond b (x ∷ filter (ties lt x) xs) (filter (ties lt x) xs)) (ties_itself x)
 
   tails_same : (x : X) (f g : List X) (b : Bool) → cond b (x ∷ f) f ≡ cond b (x ∷ g) g → f ≡ g
   tails_same x f g true e = cc
@@ -118,25 +118,25 @@ module _ {X : Type 0} (lt : X → X → Bool) (o : IsStrictWeakOrder lt) where
   both_not false true e h = cc
   both_not true b e h = cc
 
-  fronts_tie : (x y : X) (xs ys : List X) → Rises lt (x ∷ xs) → Rises lt (y ∷ ys) → ((w : X) → filter (ties lt w) (x ∷ xs) ≡ filter (ties lt w) (y ∷ ys)) → ties lt x y ≡ true
-  fronts_tie x y xs ys h k same =
-      let one = not_below-found y (ties lt x) (y ∷ ys) x (filter (ties lt x) xs) (not_below_itself y (lt y y) refl, k.0) (sym (same x) ∙ filter_front x xs) in
-      let two = not_below-found x (ties lt y) (x ∷ xs) y (filter (ties lt y) ys) (not_below_itself x (lt x x) refl, h.0) (same y ∙ filter_front y ys) in
+  prefixes_tie : (x y : X) (xs ys : List X) → Rises lt (x ∷ xs) → Rises lt (y ∷ ys) → ((w : X) → filter (ties lt w) (x ∷ xs) ≡ filter (ties lt w) (y ∷ ys)) → ties lt x y ≡ true
+  prefixes_tie x y xs ys h k same =
+      let one = not_below-found y (ties lt x) (y ∷ ys) x (filter (ties lt x) xs) (not_below_itself y (lt y y) refl, k.0) (sym (same x) ∙ filter_prefix x xs) in
+      let two = not_below-found x (ties lt y) (x ∷ xs) y (filter (ties lt y) ys) (not_below_itself x (lt x x) refl, h.0) (same y ∙ filter_prefix y ys) in
       both_not _ _ one two
 
-  fronts_same : (x y : X) (xs ys : List X) → ties lt x y ≡ true → filter (ties lt x) (x ∷ xs) ≡ filter (ties lt x) (y ∷ ys) → x ≡ y
-  fronts_same x y xs ys t e =
+  prefixes_same : (x y : X) (xs ys : List X) → ties lt x y ≡ true → filter (ties lt x) (x ∷ xs) ≡ filter (ties lt x) (y ∷ ys) → x ≡ y
+  prefixes_same x y xs ys t e =
       let f : x ∷ filter (ties lt x) xs ≡ y ∷ filter (ties lt x) ys =
-      sym (filter_front x xs) ∙ e ∙ ap (λ b. cond b (y ∷ filter (ties lt x) ys) (filter (ties lt x) ys)) t in
+      sym (filter_prefix x xs) ∙ e ∙ ap (λ b. cond b (y ∷ filter (ties lt x) ys) (filter (ties lt x) ys)) t in
       cc
 
   -- two lists that rise, with the same elements at each tie in the same order, are one list
   pub same_from_ties : (xs ys : List X) → Rises lt xs → Rises lt ys → ((w : X) → filter (ties lt w) xs ≡ filter (ties lt w) ys) → xs ≡ ys
   same_from_ties [] [] h k same = refl
-  same_from_ties [] (y ∷ ys) h k same = let e = same y ∙ filter_front y ys in cc
-  same_from_ties (x ∷ xs) [] h k same = let e = sym (same x) ∙ filter_front x xs in cc
+  same_from_ties [] (y ∷ ys) h k same = let e = same y ∙ filter_prefix y ys in cc
+  same_from_ties (x ∷ xs) [] h k same = let e = sym (same x) ∙ filter_prefix x xs in cc
   same_from_ties (x ∷ xs) (y ∷ ys) h k same =
-      let e = fronts_same x y xs ys (fronts_tie x y xs ys h k same) (same x) in
+      let e = prefixes_same x y xs ys (prefixes_tie x y xs ys h k same) (same x) in
       let tails = same_from_ties xs ys h.1 k.1
       (λ w. tails_same y _ _ (ties lt w y) (ap (λ v. cond (ties lt w v) (v ∷ filter (ties lt w) xs) (filter (ties lt w) xs)) (sym e) ∙ same w)) in
       ap (λ v. v ∷ xs) e ∙ ap (λ l. y ∷ l) tails
@@ -150,7 +150,7 @@ module _ {X : Type 0} (lt : X → X → Bool) (o : IsStrictWeakOrder lt) where
   pub stable_sort-risen : (xs : List X) → Rises lt xs → stable_sort lt xs ≡ xs
   stable_sort-risen xs h = same_from_ties (stable_sort lt xs) xs (Rises-stable_sort xs) h (λ w. filter-stable_sort w xs)
 
-  -- no element of ys is below one of xs
+  -- no element of ys is less than one of xs
   abbrev pub NoneBelowAny : List X → List X → Type 0
   NoneBelowAny [] ys = Unit {0}
   NoneBelowAny (x ∷ xs) ys = NoneBelow lt x ys × NoneBelowAny xs ys
@@ -181,7 +181,7 @@ module _ {X : Type 0} (lt : X → X → Bool) (o : IsStrictWeakOrder lt) where
   NoneBelowAny-left [] ys b = tt
   NoneBelowAny-left (x ∷ xs) ys b = NoneBelowAny-insert x (stable_sort lt xs) ys b.0 (NoneBelowAny-left xs ys b.1)
 
-  -- the parts of a list may be sorted by themselves where no later part is below an earlier one
+  -- the parts of a list may be sorted by themselves where no later part is less than an earlier one
   pub stable_sort-append : (xs ys : List X) → NoneBelowAny xs ys → stable_sort lt (xs ++ ys) ≡ stable_sort lt xs ++ stable_sort lt ys
   stable_sort-append xs ys b =
       same_from_ties (stable_sort lt (xs ++ ys)) (stable_sort lt xs ++ stable_sort lt ys) (Rises-stable_sort (xs ++ ys))

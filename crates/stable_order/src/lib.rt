@@ -1,6 +1,6 @@
 //! The stable sort of a list by an order.
 //!
-//! `stable_sort` is a definition that layers above cite: each element stands ahead of those that it is below, and
+//! `stable_sort` is a definition that layers above cite: each element stands before those that it is below, and
 //! elements of which neither is below the other keep their order. `sort_stably` gives exactly that list, and lemmas
 //! on it say how a sort meets appended and sorted lists.
 #![tactic(auto)]

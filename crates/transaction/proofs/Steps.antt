@@ -13,7 +13,7 @@ use Rattle.transaction.specs.Specs.{seen}
 use Rattle.transaction.specs.Merging.{Changes, IsDraft, ValueMap, joined, merged, next_draft, next_total, or_before, or_empty, own_changes, spec_draft, start_len, with_spec}
 use Rattle.transaction.specs.Refusals.{changes_refusal, changes_refused, given_refusal, selections_refusal, spec_changes_refusal, specs_refusal, too_long, unknown_effect}
 use Rattle.transaction.specs.Made.{IsMade}
-use Rattle.transaction.specs.Steps.{Advances, Follows, Progress, changes_seen, joined_behind, seen_before}
+use Rattle.transaction.specs.Steps.{Advances, Follows, Progress, changes_seen, joined_after, seen_before}
 use Rattle.transaction.proofs.Meetings.{not_long}
 
 or_some : {A : Type 0} (o p : Option A) (a : A) → o ≡ Some a → or_before o p ≡ Some a
@@ -60,7 +60,7 @@ module _ {V : Type 0} (len max : ℕ) (before : Option Changes) (s : Spec V) whe
       too_long max (next_total before m.sequential m.draft.changes) ≡ Some e → spec_changes_refusal len max before s ≡ Some e
   refused_by_length start m e f h k = made-accepted start m f h ∙ (ap (too_long max) (sym (made-total start m f h)) ∙ k)
 
--- a spec behind a draft that it follows
+-- a spec after a draft that it follows
 pub follows-sequential : {V : Type 0} (len max : ℕ) (kinds : List (Option ℕ)) (map_value : ValueMap V) (a next d : Draft V) → IsDraft len (seen a) →
     old_size next.changes ≡ new_size spelled a.changes → new_size spelled next.changes ≤ max → seen d ≡ joined kinds map_value true (seen a) (seen next) → IsDraft (old_size a.changes) (seen d) →
     Follows len max kinds map_value (Some a) true next d
@@ -71,12 +71,12 @@ follows-sequential len max kinds map_value a next d h e l v i = record {
 }
 
 module _ {V : Type 0} (len max : ℕ) (kinds : List (Option ℕ)) (map_value : ValueMap V) where
-  behind-spec : (before : Option (Draft V)) (s : Spec V) →
-      joined_behind kinds map_value (seen_before before) s.sequential (spec_draft (own_changes len (changes_seen before) s) s) ≡ with_spec kinds map_value len (seen_before before) s
-  behind-spec None s = refl
-  behind-spec (Some a) s = refl
+  after-spec : (before : Option (Draft V)) (s : Spec V) →
+      joined_after kinds map_value (seen_before before) s.sequential (spec_draft (own_changes len (changes_seen before) s) s) ≡ with_spec kinds map_value len (seen_before before) s
+  after-spec None s = refl
+  after-spec (Some a) s = refl
 
-  follows-changes : (before : Option (Draft V)) (sequential : Bool) (next d : Draft V) → seen d ≡ joined_behind kinds map_value (seen_before before) sequential (seen next) →
+  follows-changes : (before : Option (Draft V)) (sequential : Bool) (next d : Draft V) → seen d ≡ joined_after kinds map_value (seen_before before) sequential (seen next) →
       d.changes ≡ next_total (changes_seen before) sequential next.changes
   follows-changes None sequential next d e = ap (λ v. v.changes) e
   follows-changes (Some a) true next d e = ap (λ v. v.changes) e
@@ -93,10 +93,10 @@ module _ {V : Type 0} (len max : ℕ) (kinds : List (Option ℕ)) (map_value : V
         refusal = e ∙ ap (or_before old) (h.refusal ∙ ap (λ c. given_refusal (new_size spelled c) s.selection) own);
         value = λ none.
             k.value ∙
-            (ap (λ b. joined_behind kinds map_value (seen_before before) b (seen m.draft)) h.sequential ∙
-            (ap (joined_behind kinds map_value (seen_before before) s.sequential)
+            (ap (λ b. joined_after kinds map_value (seen_before before) b (seen m.draft)) h.sequential ∙
+            (ap (joined_after kinds map_value (seen_before before) s.sequential)
             (h.value (none_right old m.refusal (sym e ∙ none)) ∙ ap (λ c. spec_draft c s) (sym h.changes ∙ own)) ∙
-            behind-spec before s));
+            after-spec before s));
         is_draft = k.is_draft;
       }
 

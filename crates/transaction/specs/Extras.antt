@@ -22,7 +22,7 @@ pub record IsMoved {V : Type 0} (kinds : List (Option ℕ)) (map_value : ValueMa
   pub filter : m.filter ≡ e.filter
   pub inside : SelectionIn (new_size counted over) m.selection
 
--- one behind the other
+-- one after the other
 pub record IsThen {V : Type 0} (a b r : Extras V) : Type 0 where
   pub selection : r.selection ≡ or_before b.selection a.selection
   pub effects : r.effects.items ≡ a.effects.items ++ b.effects.items

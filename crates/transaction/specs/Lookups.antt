@@ -16,7 +16,7 @@ abbrev pub annotation_of : (kind : List ℕ) → List Annotation → Option Plai
 annotation_of kind [] = None
 annotation_of kind (a ∷ rest) = cond (same_text kind a.kind) (Some a.value) (annotation_of kind rest)
 
--- An event is another one or below it: the other one stands at its front, and it ends there or a full stop follows.
+-- An event is another one or below it: the other one stands at its prefix, and it ends there or a full stop follows.
 abbrev pub ends_or_stops : List ℕ → Bool
 ends_or_stops [] = true
 ends_or_stops (c ∷ cs) = eqb c 46

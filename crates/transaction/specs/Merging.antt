@@ -36,7 +36,7 @@ next_total None sequential own = own
 next_total (Some total) true own = compose spelled total own
 next_total (Some total) false own = then_also spelled total own
 
--- the changes of all specs of a list, put behind some
+-- the changes of all specs of a list, put after some
 abbrev pub with_changes : {V : Type 0} → (len : ℕ) → Option Changes → Spec V → Option Changes
 with_changes len before s = Some (next_total before s.sequential (own_changes len before s))
 
@@ -89,7 +89,7 @@ module _ {V : Type 0} (kinds : List (Option ℕ)) (map_value : ValueMap V) where
   abbrev pub moved_effects : List (Section ℕ) → List (Effect V) → List (Effect V)
   moved_effects changes es = filter_map (moved_effect changes) es
 
-  -- Merge with a sequential spec, which starts behind the draft: the draft's selection and effects are mapped over it.
+  -- Merge with a sequential spec, which starts after the draft: the draft's selection and effects are mapped over it.
   abbrev pub followed : DraftView V → DraftView V → DraftView V
   followed a b =
       let over = lengths spelled b.changes in

@@ -21,14 +21,14 @@ abbrev pub IsBefore : {V : Type 0} → ℕ → Option (Draft V) → Type 0
 IsBefore len None = Unit {0}
 IsBefore len (Some d) = IsDraft len (seen d)
 
-abbrev pub joined_behind : {V : Type 0} → (kinds : List (Option ℕ)) → ValueMap V → Option (DraftView V) → (sequential : Bool) → DraftView V → DraftView V
-joined_behind kinds map_value None sequential b = b
-joined_behind kinds map_value (Some a) sequential b = joined kinds map_value sequential a b
+abbrev pub joined_after : {V : Type 0} → (kinds : List (Option ℕ)) → ValueMap V → Option (DraftView V) → (sequential : Bool) → DraftView V → DraftView V
+joined_after kinds map_value None sequential b = b
+joined_after kinds map_value (Some a) sequential b = joined kinds map_value sequential a b
 
--- a draft behind what was done before
+-- a draft after what was done before
 pub record Follows {V : Type 0} (len max : ℕ) (kinds : List (Option ℕ)) (map_value : ValueMap V) (before : Option (Draft V)) (sequential : Bool) (next d : Draft V) : Type 0 where
   pub accepted : too_long max (next_total (changes_seen before) sequential next.changes) ≡ None
-  pub value : seen d ≡ joined_behind kinds map_value (seen_before before) sequential (seen next)
+  pub value : seen d ≡ joined_after kinds map_value (seen_before before) sequential (seen next)
   pub is_draft : IsDraft len (seen d)
 
 -- one more spec: the changes always go on, and the draft does as long as no selection was refused

@@ -14,7 +14,7 @@ pub struct Annotation {
 /// The name of the annotation that holds a user event (Reference Manual, Transaction.userEvent).
 pub const USER_EVENT: [char; 9] = ['u', 's', 'e', 'r', 'E', 'v', 'e', 'n', 't'];
 
-/// The annotations with a user event behind them.
+/// The annotations with a user event after them.
 pub(crate) fn with_event(
     alloc: Global,
     mut annotations: Vec<Annotation>,

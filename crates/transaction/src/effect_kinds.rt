@@ -35,7 +35,7 @@ pub trait EffectMaps<V> {
     /// The value after changes, or none where it is dropped, by the map's number.
     ghost map_value: { Self → ℕ → V → List (Section ℕ) → Option V };
 
-    /// What the map of this number makes of a value over changes. `None`: the effect is dropped. `Err`: memory was wanting.
+    /// What the map of this number makes of a value over changes. `None`: the effect is dropped. `Err`: out of memory.
     fn map(&self, number: u32, value: V, changes: &Desc) -> Result<Option<V>, AllocError>
         ensures { IfOk result (λ answer. answer ≡ map_value self.now number value changes.now) };
 }

@@ -49,7 +49,7 @@ pub enum TransactionError {
     UnknownEffect {
         id: u32,
     },
-    /// Memory was wanting.
+    /// Out of memory.
     #[error("out of memory")]
     NoMemory,
 }

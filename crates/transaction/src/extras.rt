@@ -67,7 +67,7 @@ impl<V: Drop> Extras<V> {
         })
     }
 
-    /// These and those behind them: the later selection counts, and one without filters stands for both.
+    /// These and those after them: the later selection counts, and one without filters stands for both.
     pub(crate) fn and_then(self, next: Extras<V>) -> Result<Extras<V>, AllocError>
         ensures { IfOk result (λ both. IsThen self next both) }
     {

@@ -27,7 +27,7 @@ fn start_len<V>(before: &Option<Draft<V>>, sequential: bool, len: u32) -> u32
     }
 }
 
-/// A spec's draft behind what was done before.
+/// A spec's draft after what was done before.
 fn behind<V: Drop, M: EffectMaps<V>>(
     alloc: Global,
     before: Option<Draft<V>>,
@@ -70,7 +70,7 @@ fn earlier(
     }
 }
 
-/// One more spec behind what was done before. Where its selection is refused and none before it was, the refusal is kept.
+/// One more spec after what was done before. Where its selection is refused and none before it was, the refusal is kept.
 fn advance<V: Drop, M: EffectMaps<V>>(
     alloc: Global,
     before: Option<Draft<V>>,

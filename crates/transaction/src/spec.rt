@@ -36,7 +36,7 @@ pub struct Spec<V> {
     /// They refer to the document after the spec's own changes.
     pub effects: Listed<Effect<V>>,
     pub annotations: Listed<Annotation>,
-    /// The event's name, which becomes an annotation `userEvent` behind the others.
+    /// The event's name, which becomes an annotation `userEvent` after the others.
     pub user_event: Option<Str>,
     /// Whether its start document is the one after the specs before it, in place of the start document of all.
     pub sequential: bool,

@@ -3,7 +3,7 @@ use Rattle.change_desc.specs.Sections.{spelled, normal, old_size}
 use Rattle.change_set.specs.Protection.{whole_part}
 use Rattle.change_set.proofs.filter.filtered.Given as goal
 
--- what is put behind, and what is left, are the whole
+-- what is put after, and what is left, are the whole
 abbrev pub invariant-loop-section : goal.invariant-loop-section
 invariant-loop-section l =
     record {

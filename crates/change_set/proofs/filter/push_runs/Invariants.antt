@@ -4,7 +4,7 @@ use Rattle.change_desc.specs.Sections.{spelled, normal}
 use Rattle.change_set.specs.Protection.{inner_part}
 use Rattle.change_set.proofs.filter.push_runs.Given as goal
 
--- what is put behind, and what is left, are the whole
+-- what is put after, and what is left, are the whole
 abbrev pub invariant-runs : goal.invariant-runs
 invariant-runs l =
     record {

@@ -1,5 +1,5 @@
 use Rattle.std.proofs.Common.{sym, arith}
-use Rattle.history.proofs.Moved.{behind-fits, changes-fit, is_moved, own-old, selection-inside, too-long}
+use Rattle.history.proofs.Moved.{after-fits, changes-fit, is_moved, own-old, selection-inside, too-long}
 use Rattle.history.proofs.event.Event.over.Goals as goal
 
 pub mapped_len-len-requires : goal.mapped_len-len-requires
@@ -20,14 +20,14 @@ map-requires-2-clause-meet c = own-old c.args.over.now c.args.self.now c.in_ok-o
 
 pub map-requires-2-clause-fits : goal.map-requires-2-clause-fits
 map-requires-2-clause-fits c =
-    behind-fits c.args.over.now c.args.self.now c.in_ok-own.own c.in_ok-own.ensures c.requires.starts c.mapped_len-len.result c.mapped_len-len.ensures
+    after-fits c.args.over.now c.args.self.now c.in_ok-own.own c.in_ok-own.ensures c.requires.starts c.mapped_len-len.result c.mapped_len-len.ensures
     (omega (arith, c.if-len-from.false, c.from.ensures))
 
 pub map-requires-3 : goal.map-requires-3
 map-requires-3 c =
-    selection-inside c.args.over.now c.args.self.now c.in_ok-own.own c.in_ok-own.ensures c.requires.starts c.in_ok-behind.behind c.in_ok-behind.ensures c.requires.inside
+    selection-inside c.args.over.now c.args.self.now c.in_ok-own.own c.in_ok-own.ensures c.requires.starts c.in_ok-after.behind c.in_ok-after.ensures c.requires.inside
 
 pub returns : goal.returns
 returns c =
     is_moved c.args.over.now c.args.self.now c.in_ok-own.own c.in_ok-own.ensures c.requires.starts c.mapped_len-len.result _ c.mapped_len-len.ensures
-    (omega (arith, c.if-len-from.false, c.from.ensures)) c.in_ok-changes.ensures.mapped c.in_ok-behind.ensures c.in_ok-selection.ensures.selection
+    (omega (arith, c.if-len-from.false, c.from.ensures)) c.in_ok-changes.ensures.mapped c.in_ok-after.ensures c.in_ok-selection.ensures.selection

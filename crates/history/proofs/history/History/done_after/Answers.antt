@@ -1,7 +1,7 @@
 use Rattle.std.proofs.Common.{ap, ◌∙◌}
 use Rattle.history.specs.Histories.{HistoryView}
 use Rattle.history.proofs.Keeping.{way_back-meets}
-use Rattle.history.proofs.history.History.done_behind.Goals as goal
+use Rattle.history.proofs.history.History.done_after.Goals as goal
 
 pub joined_to-requires : goal.joined_to-requires
 joined_to-requires c =
