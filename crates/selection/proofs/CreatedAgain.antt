@@ -5,6 +5,7 @@ use Rattle.selection.specs.declared.range.Range.{Range}
 use Rattle.selection.specs.declared.marked.Marked.{Marked}
 use Rattle.selection.specs.Ranges.{low, high, is_empty, meet}
 use Rattle.selection.specs.Selections.{IsSelection, SelectionView, all_joined, are_apart, begins_before, joined_from, main_of, marked_from, normal_form, range_of, selection_of}
+use Rattle.selection.proofs.Normals.{ranges-marked}
 use Rattle.selection.proofs.SelectionOrder.{begins_before-order}
 use Rattle.stable_order.proofs.StableSort.{NoneBelow, Rises, stable_sort-risen}
 
@@ -59,9 +60,6 @@ all_apart : (i main : ℕ) (rs : List Range) → are_apart rs ≡ true → all_j
 all_apart i main [] p = refl
 all_apart i main (r ∷ rs) p = joined_apart i main r rs p
 
-ranges-marked : (i main : ℕ) (rs : List Range) → map range_of (marked_from i main rs) ≡ rs
-ranges-marked i main [] = refl
-ranges-marked i main (r ∷ rs) = ap (λ s. r ∷ s) (ranges-marked (suc i) main rs)
 
 main-marked : (i k : ℕ) (rs : List Range) → k < length rs → main_of (marked_from i (i + k) rs) ≡ k
 main-marked i k [] l = absurd (omega arith)

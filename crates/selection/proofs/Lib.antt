@@ -3,3 +3,4 @@ pub mod Normals
 pub mod Moves
 pub mod CreatedAgain
 pub mod Alone
+pub mod Covered

@@ -13,4 +13,4 @@ mod tests;
 
 pub use crate::error::SelectionError;
 pub use crate::range::Range;
-pub use crate::selection::{Selection, created_again, first_outside};
+pub use crate::selection::{Selection, first_outside};
