@@ -4,3 +4,4 @@ pub mod Moves
 pub mod CreatedAgain
 pub mod Alone
 pub mod Covered
+pub mod Apart

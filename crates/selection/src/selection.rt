@@ -1,12 +1,12 @@
-ghost use Rattle.std.specs.Prelude.{IfErr, IfOk, IsTrue, MatchOption, [], length, map, slice_get, ℕ, ◌<◌, ◌≡◌, ◌≢◌, ◌∷◌, ◌↔◌};
+ghost use Rattle.std.specs.Prelude.{IfErr, IfOk, IsTrue, MatchOption, [], length, map, slice_get, true, ℕ, ◌<◌, ◌≡◌, ◌≢◌, ◌∷◌, ◌↔◌};
 ghost use Rattle.change_desc.specs.Sections.{counted, new_size, old_size};
 ghost use Rattle.selection.specs.Ranges.{moved_range};
-ghost use Rattle.selection.specs.Selections.{IsSelection, LieIn, SelectionView, first_outside, is_covered, is_covered_at, moved_selection, normal_form, selection_refusal, single_of};
+ghost use Rattle.selection.specs.Selections.{IsSelection, LieIn, SelectionView, are_apart, first_outside, is_covered, is_covered_at, moved_selection, normal_form, selection_refusal, single_of};
 
 use crate::error::SelectionError;
 use crate::marked::{join_all, main_of, ranges_of, with_main};
 use crate::range::Range;
-use change_desc::Desc;
+use change_desc::{Desc, PositionWalker};
 use stable_order::sort_stably;
 use std::alloc::{AllocError, Global};
 use std::marker::Model;
@@ -162,14 +162,17 @@ fn same_ranges(left: &[Range], right: &[Range]) -> bool
     true
 }
 
-/// The ranges after changes to their document.
+/// The ranges, which stand in order, after changes to their document. Both of their ends are mapped in one pass over the
+/// changes.
 fn moved_ranges(alloc: Global, ranges: &[Range], changes: &Desc) -> Result<Vec<Range>, AllocError>
-    requires { LieIn (old_size changes.now) ranges.now }
+    requires inside { LieIn (old_size changes.now) ranges.now }
+    requires apart { are_apart ranges.now ≡ true }
     ensures { IfOk result (λ moved. moved.items ≡ map (moved_range changes.now) ranges.now) }
 {
     let mut moved = Vec::new(alloc);
+    let mut walker = PositionWalker::new(changes);
     for range in ranges {
-        moved.push(range.map(changes))?;
+        moved.push(range.map(&mut walker))?;
     }
     Ok(moved)
 }
