@@ -7,3 +7,4 @@ pub mod Examples
 pub mod Steps
 pub mod Weaving
 pub mod Laws
+pub mod Walker

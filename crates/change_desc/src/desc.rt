@@ -24,7 +24,7 @@ use std::marker::Model;
 /// take no memory.
 #[derive(Drop)]
 pub struct Desc {
-    sections: SmallVec<Section<u32>, 8>,
+    pub(crate) sections: SmallVec<Section<u32>, 8>,
 }
 
 impl Model for Desc {

@@ -86,7 +86,7 @@ start-long len max changes n h l e =
     (long-now max (normal spelled (Keep len ∷ [])) (as_sets len changes) (omega (arith, keep-new len)) ∙ ap (λ k. Some (TooLong k max)) (keep-new len ∙ sym e))
 
 pub set-old : (len : ℕ) (x : Change) → IsOver len x → old_size (as_set len x) ≡ len
-set-old len (Span from to insert) h = spelled-old len from to insert.characters h.0 h.1
+set-old len (Span from to insert) h = spelled-old len from to insert h.0 h.1
 set-old len (Set s) h = h
 
 pub walk-start : (len max : ℕ) (total : Sections) (changes : List Change) → first_fault len 0 changes ≡ None → total ≡ normal spelled (Keep len ∷ []) → len ≤ max → Walks len max 0 total changes

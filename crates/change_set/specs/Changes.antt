@@ -8,7 +8,7 @@ use Rattle.change_set.specs.declared.change.Change.TheVariants.{Span, Set}
 
 -- a change as a set over a document of this length: a range replaced by a text, or the set as it stands
 abbrev pub as_set : (len : ℕ) → Change → List (Section (List ℕ))
-as_set len (Span from to insert) = span spelled len from to insert.characters
+as_set len (Span from to insert) = span spelled len from to insert
 as_set len (Set changes) = changes
 
 -- each change of a list as a set

@@ -108,7 +108,7 @@ impl ChangeSet {
         ensures refused { IfErr result (λ error. error ≢ ChangesError.NoMemory → IsTooLong max (then_also spelled self.now (as_set (old_size self.now) change.now)) error) }
     {
         match change {
-            Change::Span { from, to, insert } => self.with_span(*from, *to, insert, max),
+            Change::Span { from, to, insert } => self.with_span(*from, *to, insert.text(), max),
             Change::Set(set) => self.with_set(set, max),
         }
     }

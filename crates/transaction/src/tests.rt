@@ -10,7 +10,7 @@ use crate::error::TransactionError;
 use crate::merging::{merge, resolve};
 use crate::spec::{SelectionSpec, Spec};
 use change_desc::Desc;
-use change_set::Change;
+use change_set::{Change, InsertedText};
 use cm_plain::{Plain, Str};
 use line_tree::Text;
 use listed::Listed;
@@ -37,7 +37,7 @@ fn spec_of(alloc: Global, at: u32, insert: Text) -> Result<Spec<u8>, AllocError>
     changes.push(Change::Span {
         from: at,
         to: at,
-        insert,
+        insert: InsertedText::of(insert),
     })?;
     Ok(Spec {
         changes: Listed::new(changes),

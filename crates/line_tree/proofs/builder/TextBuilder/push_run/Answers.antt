@@ -1,6 +1,6 @@
 use Rattle.std.proofs.Common.{ℕ, List, ◌∙◌, ap, ◌++◌}
 use Rattle.line_tree.proofs.Joining.{IsBuilder, added}
-use Rattle.line_tree.proofs.builder.Builder.push_run.Goals as goal
+use Rattle.line_tree.proofs.builder.TextBuilder.push_run.Goals as goal
 
 pub invariant_of-self-2 : goal.invariant_of-self-2
 invariant_of-self-2 c =

@@ -2,7 +2,7 @@ use Rattle.std.proofs.Common.{length, ◌∙◌, ap, ◌∷◌, [], arith}
 use Rattle.std.proofs.lemmas.List.{length-append}
 use Rattle.line_tree.specs.Joined.{joined}
 use Rattle.line_tree.proofs.Joining.{are_lines_push}
-use Rattle.line_tree.proofs.builder.Builder.finish.Goals as goal
+use Rattle.line_tree.proofs.builder.TextBuilder.finished_lines.Goals as goal
 
 pub returns : goal.returns
 returns c =
