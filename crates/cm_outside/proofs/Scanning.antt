@@ -1,12 +1,12 @@
 -- Reading one line: what was scanned so far.
-use Rattle.std.proofs.Common.{◌≡◌, ℕ, ◌-◌, ◌+◌, ◌<◌, ◌≤◌, inl, inr, Bool, true, false, List, [], ◌∷◌, ◌++◌, length, take, drop, Option, Some, None, IfSome, Vec, MatchBool, refl, sym, ap, subst, ◌∙◌, append_assoc, arith}
+use Rattle.std.proofs.Common.{◌≡◌, ℕ, ◌-◌, ◌+◌, ◌<◌, ◌≤◌, ◌⊎◌, inl, inr, Bool, true, false, List, [], ◌∷◌, ◌++◌, length, take, drop, Option, Some, None, IfSome, Vec, MatchBool, refl, sym, ap, subst, ◌∙◌, append_assoc, arith}
 use Rattle.std.specs.declared.alloc.Global.{Global}
 use Rattle.std.proofs.lemmas.List.{drop-drop, drop-take, take-take, take-append-drop, length-take, length-drop, length-append, append-nil, take_all, nil_from_length}
 use Rattle.cm_outside.specs.Lines.{HasNoBreak}
 use Rattle.cm_outside.specs.declared.line_reader.Filled.TheVariants.{More, Ended, Failing, Past}
 use Rattle.cm_outside.specs.declared.reading.Reading.{Reading}
 use Rattle.cm_outside.specs.declared.reading.Reading.TheVariants.{Line, TooLong, End, Failed, Budget}
-use Rattle.cm_outside.specs.Progress.{Progress, pending, left_of, IsNextLine, Reads, Advances, TakesOf}
+use Rattle.cm_outside.specs.Progress.{Progress, pending, left_of, IsNextLine, Reads, Advances, TakesOf, LastRead, ReadsLate, read_room}
 use Rattle.cm_outside.specs.Filling.{IsLineOrTooLong, SameCounts, CutsLine, TakesRest, Fills, FillsFrom}
 use Rattle.cm_outside.proofs.Breaks.{take_prefix}
 
@@ -130,9 +130,9 @@ when_false P Q false e q = q
 
 -- all that stood ready was scanned
 pub rest_scanned : (kept new_kept : List ℕ) (old now new : Progress) (told t : Option (List ℕ)) (b : Bool) → Scanned kept old now told t → SameCounts now new
-    → MatchBool b (CutsLine kept new_kept now.rest new.rest) (TakesRest kept new_kept now.rest new.rest) → b ≡ false → Scanned new_kept old new told t × (new.rest ≡ [])
+    → MatchBool b (CutsLine kept new_kept now.rest new.rest) (TakesRest kept new_kept now.rest new.rest) → b ≡ false → Scanned new_kept old new told t × (new.rest ≡ []) × HasNoBreak now.rest
 rest_scanned kept new_kept old now new told t b s same cut e =
-    let c = when_false _ _ b e cut in (cut_none kept new_kept old now new told t s same c, c.none)
+    let c = when_false _ _ b e cut in (cut_none kept new_kept old now new told t s same c, c.none, c.one)
 
 answered : (r : Reading) (kept : Vec ℕ Global) (line : List ℕ) (old new : Progress) (input : List ℕ) → kept.items ≡ take 1048577 line → IsLineOrTooLong r kept → IsNextLine line old new input → Reads r old new input
 answered (Line bytes) kept line old new input front is next =
@@ -215,3 +215,46 @@ end_advances TooLong kept old now new told t s empty fills limit some = omega (a
 end_advances End kept old now new told t s empty fills limit some = tt
 end_advances Failed kept old now new told t s empty fills limit some = tt
 end_advances Budget kept old now new told t s empty fills limit some = tt
+
+-- ---- when a read is made
+
+-- nothing was read yet, and what stood ready first stands so still; or no break stood ready first
+abbrev pub Ready : {S : Type 0} → Progress → Progress → S → S → Type 0
+Ready old now source source_now = ((now.rest ≡ old.rest) × (source_now ≡ source)) ⊎ HasNoBreak old.rest
+
+pub late_nothing : (old : Progress) (told : Option (List ℕ)) → IfSome told (LastRead old old)
+late_nothing old None = tt
+late_nothing old (Some input) = record { before = 0; none = λ h. absurd (omega arith); within = omega arith }
+
+-- before the next read
+pub late_before : {S : Type 0} (old now new : Progress) (source source_now : S) (told : Option (List ℕ)) → SameCounts now new → Ready old now source source_now → IfSome told (LastRead old now) → ReadsLate old new source source_now told
+late_before old now new source source_now told same ready last = record { ready = at ready; last = within told last } where
+  at : Ready old now source source_now → ¬ HasNoBreak old.rest → source_now ≡ source
+  at (inl h) broken = h.1
+  at (inr h) broken = absurd (broken h)
+
+  within : (o : Option (List ℕ)) → IfSome o (LastRead old now) → IfSome o (LastRead old new)
+  within None h = tt
+  within (Some input) h = record { before = h.before; none = h.none; within = omega (arith, h.within, same.taken) }
+
+-- all that stood ready has no break, so a read is made
+pub first_without : {S : Type 0} (old now : Progress) (source source_now : S) → Ready old now source source_now → HasNoBreak now.rest → HasNoBreak old.rest
+first_without old now source source_now (inl h) one = subst HasNoBreak h.0 one
+first_without old now source source_now (inr h) one = h
+
+pub last_read : (kept : List ℕ) (old now new : Progress) (told t : Option (List ℕ)) → Scanned kept old now told t → now.rest ≡ [] → new.taken ≤ now.taken + read_room → IfSome told (LastRead old new)
+last_read kept old now new told t s empty once = at told s.bytes where
+  at : (o : Option (List ℕ)) → IfSome o (λ i. s.part ++ now.rest ≡ pending old now i) → IfSome o (LastRead old new)
+  at None h = tt
+  at (Some input) h = record {
+    before = now.taken - old.taken;
+    none = λ _. subst HasNoBreak (sym (append-nil s.part) ∙ ap (λ r. s.part ++ r) (sym empty) ∙ h) s.one;
+    within = omega (arith, once, s.later);
+  }
+
+pub late_after : {S : Type 0} (kept : List ℕ) (old first now new : Progress) (source source_now source_new : S) (told t : Option (List ℕ)) → Scanned kept old now told t × (now.rest ≡ []) × HasNoBreak first.rest
+    → Ready old first source source_now → new.taken ≤ now.taken + read_room → ReadsLate old new source source_new told
+late_after kept old first now new source source_now source_new told t s ready once = record {
+  ready = λ broken. absurd (broken (first_without old first source source_now ready s.2));
+  last = last_read kept old now new told t s.0 s.1 once;
+}

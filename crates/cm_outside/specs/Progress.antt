@@ -1,5 +1,5 @@
 -- How far a reader of lines has come, and what one call of it made of the bytes before.
-use Rattle.std.specs.Prelude.{◌≡◌, ℕ, ◌+◌, ◌-◌, ◌<◌, ◌≤◌, ◌⊎◌, List, [], ◌∷◌, ◌++◌, Bool, true, false, length, take, drop, Option, Some}
+use Rattle.std.specs.Prelude.{◌≡◌, ℕ, ◌+◌, ◌-◌, ◌<◌, ◌≤◌, ◌⊎◌, List, [], ◌∷◌, ◌++◌, Bool, true, false, length, take, drop, Option, Some, IfSome}
 use Rattle.cm_outside.specs.Lines.{line_feed, max_line, HasNoBreak}
 use Rattle.cm_outside.specs.declared.reading.Reading.{Reading}
 use Rattle.cm_outside.specs.declared.reading.Reading.TheVariants.{Line, TooLong, End, Failed, Budget}
@@ -65,3 +65,19 @@ KeepsLimit _ new = new.taken ≤ new.limit
 pub record TakesOf (old new : Progress) (input : List ℕ) (now : Option (List ℕ)) : Type 0 where
   pub fits : new.taken - old.taken ≤ length input
   pub left : now ≡ Some (left_of old new input)
+
+-- how many bytes a reader asks for at once, at most
+abbrev pub read_room : ℕ
+read_room = 8192
+
+-- so many bytes were taken before the last read: none, or some without a break, also with those that stood ready
+pub record LastRead (old new : Progress) (input : List ℕ) : Type 0 where
+  pub before : ℕ
+  pub none : 0 < before → HasNoBreak (old.rest ++ take before input)
+  pub within : new.taken - old.taken ≤ before + read_room
+
+-- A read is made only where no whole line is left among the bytes taken. Where one stands ready the source stays as it
+-- is; and all that was taken before the last read, which takes at most `read_room` bytes, has no break.
+pub record ReadsLate {S : Type 0} (old new : Progress) (source source_now : S) (left : Option (List ℕ)) : Type 0 where
+  pub ready : ¬ HasNoBreak old.rest → source_now ≡ source
+  pub last : IfSome left (LastRead old new)

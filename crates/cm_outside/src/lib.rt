@@ -10,6 +10,7 @@ mod failed;
 mod line_reader;
 mod mem_sink;
 mod mem_source;
+mod piece;
 mod reading;
 mod sink;
 mod source;
@@ -19,10 +20,8 @@ pub use failed::Failed;
 pub use line_reader::LineReader;
 pub use mem_sink::MemSink;
 pub use mem_source::MemSource;
+pub use piece::Piece;
 pub use reading::{MAX_LINE, Reading};
 pub use sink::{Sink, write_whole};
 pub use source::Source;
 pub use status::Status;
-
-#[cfg(test)]
-mod tests;

@@ -1,17 +1,18 @@
-ghost use Rattle.std.specs.Prelude.{◌≡◌, Ok, ◌+◌, ◌-◌, ◌≤◌, ◌<◌, ◌++◌, [], ◌∷◌, true, false, take, drop, length, vec_len, IfOk, IfSome, OnOk, OnErr, MatchOption, MatchBool, position, ◌==◌};
+ghost use Rattle.std.specs.Prelude.{◌≡◌, Ok, ◌+◌, ◌-◌, ◌≤◌, ◌<◌, ◌++◌, [], ◌∷◌, true, false, take, drop, length, vec_len, IfOk, IfSome, OnOk, OnErr, MatchOption, MatchBool};
 ghost use Rattle.cm_outside.specs.Faults.{Rose, HasCause};
 ghost use Rattle.cm_outside.specs.Lines.{line_feed, max_line, HasNoBreak};
 ghost use Rattle.cm_outside.specs.Source.{Gives, count_of};
-ghost use Rattle.cm_outside.specs.Progress.{Reads, Advances, TakesOf, KeepsLimit};
+ghost use Rattle.cm_outside.specs.Progress.{Reads, Advances, TakesOf, KeepsLimit, ReadsLate, read_room};
 ghost use Rattle.cm_outside.specs.Filling.{SameCounts, CutsLine, TakesRest, Fills, FillsFrom, IsLineOrTooLong};
 
 use crate::failed::Failed;
 use crate::reading::{MAX_LINE, Reading};
 use crate::source::Source;
+use memchr::memchr;
 use std::alloc::{AllocError, Global};
 use std::marker::Model;
 
-/// How many bytes are asked for at once.
+/// How many bytes are asked for at once, at most.
 const ROOM: usize = 8_192;
 
 /// What a read found, where nothing stood ready.
@@ -39,8 +40,8 @@ pub struct LineReader {
 }
 
 impl Model for LineReader {
-    ghost use Rattle.std.specs.Prelude.{◌≡◌, ◌-◌, ◌≤◌, ◌<◌, take, drop, length};
-    ghost use Rattle.cm_outside.specs.Progress.{Progress};
+    ghost use Rattle.std.specs.Prelude.{◌≡◌, ◌-◌, ◌≤◌, take, drop, length};
+    ghost use Rattle.cm_outside.specs.Progress.{Progress, read_room};
 
     ghost Value = { Progress };
 
@@ -51,13 +52,7 @@ impl Model for LineReader {
       rest = take (r.to - r.from) (drop r.from r.buffer.items);
     } };
 
-    ghost invariant = { λ r. (r.from ≤ r.to) × (r.to ≤ length r.buffer.items) × (0 < length r.buffer.items) };
-}
-
-fn first_break(part: &[u8]) -> Option<usize>
-    ensures { result ≡ position (λ byte. byte == line_feed) part.now }
-{
-    part.iter().position(|byte| *byte == b'\n')
+    ghost invariant = { λ r. (r.from ≤ r.to) × (r.to ≤ length r.buffer.items) × (length r.buffer.items ≡ read_room) };
 }
 
 /// The place of the first LF.
@@ -67,7 +62,7 @@ fn break_in(part: &[u8]) -> Option<usize>
         × HasNoBreak (take at part.now)
         × (part.now ≡ take at part.now ++ line_feed ∷ drop (at + 1) part.now)) }
 {
-    first_break(part)
+    memchr(b'\n', part)
 }
 
 /// Adds a part to a line, of which only the bytes up to one more than `MAX_LINE` are kept.
@@ -159,6 +154,7 @@ impl LineReader {
         ensures limit { self.new.limit ≡ self.old.limit }
         ensures counted { S.given source.new + self.old.taken ≡ S.given source.old + self.new.taken }
         ensures fills { Fills result self.old self.new }
+        ensures once { self.new.taken ≤ self.old.taken + read_room }
         ensures left { IfSome (S.left source.old) (λ input. TakesOf self.old self.new input (S.left source.new)) }
         ensures told { IfSome (S.left source.old) (FillsFrom result self.old self.new) }
         ensures later { S.faults source.old ≤ S.faults source.new }
@@ -194,7 +190,8 @@ impl LineReader {
         }
     }
 
-    /// Reads the next line, with as many reads of the source as that takes. `Failed` comes only where the source's
+    /// Reads the next line, with as many reads of the source as that takes, each of at most 8,192 bytes and made only
+    /// where no whole line is left among the bytes taken. `Failed` comes only where the source's
     /// count of faults rose, `Budget` exactly where one byte more than the limit was taken. After `Budget` it isn't
     /// to be called again. After `Failed`, and when out of memory, which is the only error, the bytes that were
     /// taken of the line are lost.
@@ -207,6 +204,7 @@ impl LineReader {
         ensures reads { IfOk result (λ r. IfSome (S.left source.old) (Reads r self.old self.new)) }
         ensures advances { IfOk result (λ r. Advances r self.old self.new) }
         ensures budget { IfOk result (λ r. KeepsLimit r self.new) }
+        ensures late { ReadsLate self.old self.new source.old source.new (S.left source.old) }
         ensures memory { OnErr result (self.new.taken ≤ self.new.limit) }
         ensures later { S.faults source.old ≤ S.faults source.new }
         ensures cause { result ≡ Ok Reading.Failed → Rose (S.faults source.old) (S.faults source.new) }

@@ -1,8 +1,8 @@
-ghost use Rattle.std.specs.Prelude.{◌≡◌, ◌+◌, ◌-◌, ◌≤◌, ◌<◌, ◌↔◌, [], ℕ, List, Option, Some, length, take, IsErr, IsTrue, IfOk, min, ◌||◌, ◌&&◌, nat_lt, nat_le};
+ghost use Rattle.std.specs.Prelude.{◌≡◌, ◌+◌, ◌-◌, ◌≤◌, ◌<◌, ◌↔◌, [], ℕ, List, Option, Some, length, take, IsErr, IsTrue, IfOk, MatchResult, ◌||◌};
 ghost use Rattle.cm_outside.specs.Faults.{HasCause};
 ghost use Rattle.cm_outside.specs.Source.{count_of};
 ghost use Rattle.cm_outside.specs.Sink.{Appends};
-ghost use Rattle.cm_outside.specs.Memory.{MemSinkView, is_failing};
+ghost use Rattle.cm_outside.specs.Memory.{MemSinkView, is_failing, is_full_for, count_taken, sink_after, sink_after_failure};
 
 use crate::failed::Failed;
 use crate::sink::Sink;
@@ -11,6 +11,7 @@ use std::marker::Model;
 
 /// A sink that keeps bytes in memory, at most `room` of them. A write takes what fits. The calls of `write` that are
 /// named by their number, counted from 0, fail, and so does a write of a piece that isn't empty where no room is left.
+/// Its counts of calls and of faults stand still at the greatest 64-bit number.
 #[derive(Drop)]
 pub struct MemSink {
     held: Vec<u8>,
@@ -78,8 +79,11 @@ impl Sink for MemSink {
         ensures cause { HasCause self.old.faults self.new.faults result }
         // The calls that fail are those that are named, and those that find no room.
         ensures fails { IsErr result ↔ IsTrue (is_failing self.old.calls self.old.failing
-            || (nat_lt 0 (length piece.now) && nat_le self.old.room (length self.old.held))) }
-        ensures count { IfOk result (λ n. n ≡ min (length piece.now) (self.old.room - length self.old.held)) }
+            || is_full_for self.old (length piece.now)) }
+        ensures count { IfOk result (λ n. n ≡ count_taken self.old (length piece.now)) }
+        // Each call counts, a failing one among the faults too, and nothing else changes but for the bytes taken.
+        ensures after { MatchResult result (λ n. self.new ≡ sink_after self.old (take n piece.now))
+            (λ e. self.new ≡ sink_after_failure self.old) }
     {
         let call = self.calls;
         self.calls = self.calls.saturating_add(1);

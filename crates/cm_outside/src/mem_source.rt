@@ -1,26 +1,27 @@
-ghost use Rattle.std.specs.Prelude.{◌≡◌, ◌+◌, ◌≤◌, ◌<◌, ◌↔◌, ℕ, List, Option, Some, length, IsErr, IfOk, IfSome, IsTrue, min};
+ghost use Rattle.std.specs.Prelude.{◌≡◌, ◌+◌, ◌≤◌, ◌<◌, ◌↔◌, ℕ, List, Option, Some, length, IsErr, IfOk, IfSome, IsTrue, MatchResult};
 ghost use Rattle.cm_outside.specs.Faults.{HasCause};
 ghost use Rattle.cm_outside.specs.Source.{Gives, count_of};
-ghost use Rattle.cm_outside.specs.Memory.{MemSourceView, is_failing};
+ghost use Rattle.cm_outside.specs.Memory.{MemSourceView, is_failing, count_given, source_after, source_after_failure};
 
 use crate::failed::Failed;
+use crate::piece::Piece;
 use crate::source::Source;
 use std::marker::Model;
 
-/// A source over bytes in memory. It gives at most `piece` bytes at once, and the calls of `read` that are named by
-/// their number, counted from 0, fail.
+/// A source over bytes in memory. It gives at most a piece of them at once, and the calls of `read` that are named by
+/// their number, counted from 0, fail. Its counts of calls and of faults stand still at the greatest 64-bit number.
 #[derive(Drop)]
 pub struct MemSource {
     bytes: Vec<u8>,
     at: usize,
-    piece: usize,
+    piece: Piece,
     failing: Vec<u64>,
     calls: u64,
     faults: u64,
 }
 
 impl Model for MemSource {
-    ghost use Rattle.std.specs.Prelude.{◌<◌, ◌≤◌, drop, length};
+    ghost use Rattle.std.specs.Prelude.{◌≤◌, drop, length};
     ghost use Rattle.cm_outside.specs.Memory.{MemSourceView};
 
     ghost Value = { MemSourceView };
@@ -34,14 +35,13 @@ impl Model for MemSource {
       faults = s.faults;
     } };
 
-    ghost invariant = { λ s. (s.at ≤ length s.bytes.items) × (0 < s.piece) };
+    ghost invariant = { λ s. s.at ≤ length s.bytes.items };
 }
 
 impl MemSource {
-    /// A source that gives these bytes, at most `piece` of them at once, and whose calls of `read` fail where their
+    /// A source that gives these bytes, at most a piece of them at once, and whose calls of `read` fail where their
     /// number, counted from 0, is in `failing`.
-    pub fn new(bytes: Vec<u8>, piece: usize, failing: Vec<u64>) -> MemSource
-        requires { 0 < piece }
+    pub fn new(bytes: Vec<u8>, piece: Piece, failing: Vec<u64>) -> MemSource
         ensures { result ≡ record {
           left = bytes.items;
           given = 0;
@@ -76,7 +76,10 @@ impl Source for MemSource {
         ensures cause { HasCause self.old.faults self.new.faults result }
         // The calls that fail are those that are named, and the others give as much as there is room for.
         ensures fails { IsErr result ↔ IsTrue (is_failing self.old.calls self.old.failing) }
-        ensures count { IfOk result (λ n. n ≡ min (min (length self.old.left) self.old.piece) (length room.old)) }
+        ensures count { IfOk result (λ n. n ≡ count_given self.old (length room.old)) }
+        // Each call counts, a failing one among the faults too, and nothing else changes but for the bytes given.
+        ensures after { MatchResult result (λ n. self.new ≡ source_after self.old n)
+            (λ e. self.new ≡ source_after_failure self.old) }
     {
         let call = self.calls;
         self.calls = self.calls.saturating_add(1);
@@ -85,7 +88,7 @@ impl Source for MemSource {
             return Err(Failed);
         }
         let (_, rest) = self.bytes.split_at(self.at);
-        let count = rest.len().min(self.piece).min(room.len());
+        let count = rest.len().min(self.piece.bytes()).min(room.len());
         let (given, _) = rest.split_at(count);
         let (front, _) = room.split_at_mut(count);
         front.copy_from_slice(given);
