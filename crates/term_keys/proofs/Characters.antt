@@ -1,5 +1,5 @@
 -- The bytes of a character give its key.
-use Rattle.std.proofs.Common.{◌≡◌, ◌≢◌, ℕ, zero, suc, ◌+◌, ◌/◌, ◌%◌, ◌<◌, ◌≤◌, ◌==◌, List, [], ◌∷◌, length, take, Bool, true, false, cond, Option, Some, None, refl, sym, ap, ◌∙◌, arith, append-nil, inl, inr}
+use Rattle.std.proofs.Common.{◌≡◌, ◌≢◌, ℕ, zero, suc, ◌+◌, ◌/◌, ◌%◌, ◌<◌, ◌≤◌, ◌==◌, List, [], ◌∷◌, ◌++◌, length, take, unwrap_or, Bool, true, false, cond, Option, Some, None, refl, sym, ap, ◌∙◌, arith, append-nil, inl, inr}
 use Rattle.std.specs.Char.{IsScalar}
 use Rattle.std.specs.Int.{is_in_range}
 use Rattle.std.specs.Str.{is_utf8, chars, chars_after, continuation_len, lead_bits}
@@ -8,7 +8,7 @@ use Rattle.std.proofs.lemmas.Str.{encode_ascii, IsUtf8-encode, is_utf8-from_IsUt
 use Rattle.std.proofs.lemmas.Bool.{cases_lt}
 use lib.Utf8.{encode, scalar_cases}
 use Rattle.term_keys.specs.declared.key.Key.TheVariants as keys
-use Rattle.term_keys.specs.Keys.{at_start, character, spelled, keys_of, begin, or_nothing}
+use Rattle.term_keys.specs.Keys.{at_start, character, spelled, keys_of, begin}
 use Rattle.term_keys.specs.Typed.{IsTyped}
 
 -- fewer bytes than the first one asks for have no character
@@ -78,7 +78,7 @@ lead_four : (b : ℕ) → 240 ≤ b → b < 245 → (2 < continuation_len b) × 
 lead_four b l h = grind (arith, l, h)
 
 -- a byte that no key but a character begins with
-begins : (b : ℕ) → 32 ≤ b → b ≢ 127 → begin b ≡ or_nothing (spelled (b ∷ []))
+begins : (b : ℕ) → 32 ≤ b → b ≢ 127 → begin b ≡ unwrap_or (spelled (b ∷ [])) (at_start, None)
 begins b l n = grind (arith, l, n)
 
 error_two : (b d : ℕ) → 194 ≤ b → b ≤ 244 → second_byte_min b ≤ d → d ≤ second_byte_max b → error_len_of_some (b ∷ d ∷ []) ≡ None
@@ -98,22 +98,22 @@ follows_three c ok l h = elim (scalar_cases c ok) [ inl low ↦ grind (arith, l,
 follows_four : (c : ℕ) → IsScalar c → 65536 ≤ c → Follows (240 + c / 262144) (128 + (c / 4096) % 64)
 follows_four c ok l = elim (scalar_cases c ok) [ inl low ↦ absurd (omega (arith, l, low)) | inr high ↦ grind (arith, l, high.0, high.1) ]
 
-of_one : (c : ℕ) → IsScalar c → 32 ≤ c → c ≢ 127 → c < 128 → keys_of (encode c) ≡ keys.Char c ∷ []
-of_one c ok l n h =
+of_one : (c : ℕ) → IsScalar c → 32 ≤ c → c ≢ 127 → c < 128 → (more : List ℕ) → keys_of (encode c ++ more) ≡ keys.Char c ∷ keys_of more
+of_one c ok l n h more =
     let e = encode_ascii c h in
     let last : spelled (c ∷ []) ≡ Some (at_start, Some (keys.Char c)) = ap spelled (sym e) ∙ whole c ok in
     rw (e, begins c l n, last) refl
 
-of_two : (c : ℕ) → IsScalar c → 128 ≤ c → c < 2048 → keys_of (encode c) ≡ keys.Char c ∷ []
-of_two c ok l h =
+of_two : (c : ℕ) → IsScalar c → 128 ≤ c → c < 2048 → (more : List ℕ) → keys_of (encode c ++ more) ≡ keys.Char c ∷ keys_of more
+of_two c ok l h more =
     let b = 192 + c / 64 in
     let e = two c l h in
     let last : spelled (b ∷ (128 + c % 64) ∷ []) ≡ Some (at_start, Some (keys.Char c)) = ap spelled (sym e) ∙ whole c ok in
     let lead = lead_two b (omega (arith, l)) (omega (arith, h)) in
     rw (e, begins b (omega (arith, l)) (λ same. absurd (omega (arith, same))), waits b [] lead.0 lead.1, last) refl
 
-of_three : (c : ℕ) → IsScalar c → 2048 ≤ c → c < 65536 → keys_of (encode c) ≡ keys.Char c ∷ []
-of_three c ok l h =
+of_three : (c : ℕ) → IsScalar c → 2048 ≤ c → c < 65536 → (more : List ℕ) → keys_of (encode c ++ more) ≡ keys.Char c ∷ keys_of more
+of_three c ok l h more =
     let b = 224 + c / 4096 in
     let d = 128 + (c / 64) % 64 in
     let e = three c l h in
@@ -128,8 +128,8 @@ of_three c ok l h =
       last,
     ) refl
 
-of_four : (c : ℕ) → IsScalar c → 65536 ≤ c → keys_of (encode c) ≡ keys.Char c ∷ []
-of_four c ok l =
+of_four : (c : ℕ) → IsScalar c → 65536 ≤ c → (more : List ℕ) → keys_of (encode c ++ more) ≡ keys.Char c ∷ keys_of more
+of_four c ok l more =
     let b = 240 + c / 262144 in
     let d = 128 + (c / 4096) % 64 in
     let f = 128 + (c / 64) % 64 in
@@ -147,14 +147,14 @@ of_four c ok l =
       last,
     ) refl
 
-pub types_itself : (c : ℕ) → IsTyped c → keys_of (encode c) ≡ keys.Char c ∷ []
-types_itself c typed = elim (cases_lt c 128) [
-  | inl ascii ↦ of_one c typed.scalar typed.printed typed.not_delete ascii
+pub types_itself : (c : ℕ) → IsTyped c → (more : List ℕ) → keys_of (encode c ++ more) ≡ keys.Char c ∷ keys_of more
+types_itself c typed rest = elim (cases_lt c 128) [
+  | inl ascii ↦ of_one c typed.scalar typed.printed typed.not_delete ascii rest
   | inr more ↦ elim (cases_lt c 2048) [
-    | inl small ↦ of_two c typed.scalar more small
+    | inl small ↦ of_two c typed.scalar more small rest
     | inr big ↦ elim (cases_lt c 65536) [
-      | inl medium ↦ of_three c typed.scalar big medium
-      | inr great ↦ of_four c typed.scalar great
+      | inl medium ↦ of_three c typed.scalar big medium rest
+      | inr great ↦ of_four c typed.scalar great rest
     ]
   ]
 ]

@@ -1,8 +1,8 @@
 -- The keys that a list of bytes stands for, as terminals of the xterm family send them (ECMA-48: control sequences; the
 -- Unicode Standard, table 3-7: UTF-8). What was read of a key is one of five forms, and a byte takes one to the next.
-use Rattle.std.specs.Prelude.{ℕ, ◌==◌, nat_lt, ◌||◌, List, [], ◌∷◌, ◌++◌, take, drop, slice_get, Option, Some, None, is_some, if◌then◌else◌}
+use Rattle.std.specs.Prelude.{codes, ℕ, ◌==◌, nat_lt, ◌||◌, List, [], ◌∷◌, ◌++◌, take, drop, slice_get, Option, Some, None, is_some, if◌then◌else◌}
 use Rattle.std.specs.Int.{is_in_range}
-use Rattle.std.specs.Option.{option_map, option_to_list}
+use Rattle.std.specs.Option.{option_map, option_to_list, unwrap_or}
 use Rattle.std.specs.Str.{bytes_eq, chars, is_utf8}
 use Rattle.std.specs.Str.Lossy.{utf8_valid_len, utf8_error_len}
 use Rattle.term_keys.specs.declared.key.Key.{Key}
@@ -53,9 +53,9 @@ arrow b =
 -- the key of ESC [ N ~
 abbrev pub numbered_key : List ℕ → Option Key
 numbered_key bytes =
-    if bytes_eq bytes (0x31 ∷ []) then Some (keys.Move LineStart)
-    else if bytes_eq bytes (0x33 ∷ []) then Some keys.DeleteForward
-    else if bytes_eq bytes (0x34 ∷ []) then Some (keys.Move LineEnd)
+    if bytes_eq bytes (codes "1") then Some (keys.Move LineStart)
+    else if bytes_eq bytes (codes "3") then Some keys.DeleteForward
+    else if bytes_eq bytes (codes "4") then Some (keys.Move LineEnd)
     else None
 
 -- the end of the document that H or F means with the control key
@@ -67,8 +67,8 @@ abbrev pub sequence_key : List ℕ → ℕ → Option Key
 sequence_key bytes b =
     if b == 0x7E then numbered_key bytes
     else if bytes_eq bytes [] then option_map keys.Move (arrow b)
-    else if bytes_eq bytes (0x31 ∷ 0x3B ∷ 0x32 ∷ []) then option_map keys.Extend (arrow b)
-    else if bytes_eq bytes (0x31 ∷ 0x3B ∷ 0x35 ∷ []) then option_map keys.Move (document_end b)
+    else if bytes_eq bytes (codes "1;2") then option_map keys.Extend (arrow b)
+    else if bytes_eq bytes (codes "1;5") then option_map keys.Move (document_end b)
     else None
 
 -- what the bytes of one character give: the character, or the reading that waits for more, or `None` where they can begin no character
@@ -78,24 +78,16 @@ spelled bytes =
     else if is_some (utf8_error_len (drop (utf8_valid_len bytes) bytes)) then None
     else Some (character bytes, None)
 
-abbrev pub or_nothing : Option (Reading × Option Key) → Reading × Option Key
-or_nothing (Some next) = next
-or_nothing None = (at_start, None)
-
 -- a byte that begins a key
 abbrev pub begin : ℕ → Reading × Option Key
 begin b =
     if b == 0x1B then (escape, None)
     else if nat_lt b 0x20 || (b == 0x7F) then (at_start, control_key b)
-    else or_nothing (spelled (with_byte [] b))
-
-abbrev pub or_anew : Option (Reading × Option Key) → ℕ → Reading × Option Key
-or_anew (Some next) b = next
-or_anew None b = begin b
+    else unwrap_or (spelled (with_byte [] b)) (at_start, None)
 
 -- a byte within a character: one that breaks it is read anew
 abbrev pub in_character : List ℕ → ℕ → Reading × Option Key
-in_character bytes b = or_anew (spelled (with_byte bytes b)) b
+in_character bytes b = unwrap_or (spelled (with_byte bytes b)) (begin b)
 
 -- a byte after ESC
 abbrev pub after_escape : ℕ → Reading
@@ -117,14 +109,10 @@ step escape b = (after_escape b, None)
 step single b = (at_start, option_map keys.Move (arrow b))
 step (sequence bytes) b = in_sequence bytes b
 
--- the keys of bytes that follow a reading, and the reading that is left
+-- the keys of bytes that follow a reading
 abbrev pub keys_after : Reading → List ℕ → List Key
 keys_after reading [] = []
 keys_after reading (b ∷ bs) = option_to_list (step reading b).1 ++ keys_after (step reading b).0 bs
-
-abbrev pub reading_after : Reading → List ℕ → Reading
-reading_after reading [] = reading
-reading_after reading (b ∷ bs) = reading_after (step reading b).0 bs
 
 -- the keys of a list of bytes
 abbrev pub keys_of : List ℕ → List Key

@@ -1,5 +1,5 @@
 -- Characters that are typed as they are.
-use Rattle.std.specs.Prelude.{◌≡◌, ◌≢◌, ℕ, ◌≤◌, [], ◌∷◌, encode_utf8}
+use Rattle.std.specs.Prelude.{◌≡◌, ◌≢◌, ℕ, ◌≤◌, List, ◌∷◌, ◌++◌, encode_utf8}
 use Rattle.std.specs.Char.{IsScalar}
 use Rattle.term_keys.specs.declared.key.Key.TheVariants as keys
 use Rattle.term_keys.specs.Keys.{keys_of}
@@ -10,6 +10,6 @@ pub record IsTyped (c : ℕ) : Type 0 where
   pub printed : 32 ≤ c
   pub not_delete : c ≢ 127
 
--- the bytes of each such character are its key and no other
+-- the bytes of each such character are its key, whatever follows them
 abbrev pub EachTypesItself : Type 0
-EachTypesItself = (c : ℕ) → IsTyped c → keys_of (encode_utf8 c) ≡ keys.Char c ∷ []
+EachTypesItself = (c : ℕ) → IsTyped c → (more : List ℕ) → keys_of (encode_utf8 c ++ more) ≡ keys.Char c ∷ keys_of more

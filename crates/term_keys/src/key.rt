@@ -11,7 +11,7 @@ pub enum Move {
     DocEnd,
 }
 
-/// A key that was pressed.
+/// A key that was pressed, or a control character that stands for a command.
 #[derive(Clone, Copy, Debug, PartialEq, Eq)]
 pub enum Key {
     /// A character that is typed, a tab among them.

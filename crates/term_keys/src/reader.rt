@@ -1,4 +1,5 @@
 ghost use Rattle.std.specs.Prelude.{◌≡◌, [], ◌∷◌, ◌++◌, ℕ, List, Some, None, chars, slice_get};
+ghost use Rattle.term_keys.specs.Table.{AreRows, table};
 ghost use Rattle.term_keys.specs.Typed.{EachTypesItself};
 ghost use Rattle.term_keys.specs.Keys.{at_start, step, keys_after, begin, spelled, with_byte, in_character, after_escape, in_sequence, control_key, arrow, document_end, sequence_key, numbered_key};
 ghost use Rattle.std.specs.Option.{option_map, option_to_list};
@@ -39,11 +40,13 @@ impl Model for KeyReader {
 }
 
 impl KeyReader {
-    /// A reader that has taken no byte of a key.
-    #[tactic(auto, using(crate::proofs::Characters::types_itself))]
+    /// A reader that has taken no byte of a key. The bytes of each row of the table of keys give that row's key, and
+    /// those of each character from U+0020 on but U+007F that character, whatever follows them.
+    #[tactic(auto, using(crate::proofs::Characters::types_itself, crate::proofs::KeyTable::rows))]
     pub fn new() -> KeyReader
         ensures start { result ≡ at_start }
         ensures characters { EachTypesItself }
+        ensures table { AreRows table }
     {
         KeyReader { mode: Mode::Start }
     }
@@ -162,7 +165,7 @@ fn control_key(byte: u8) -> Option<Key>
     }
 }
 
-/// The move of the letter that ends a sequence.
+/// The move of the letter that ends a sequence: an arrow, or an end of the line.
 fn arrow(letter: u8) -> Option<Move>
     ensures { result ≡ arrow letter }
 {

@@ -50,3 +50,24 @@ fn reads_what_is_typed(rt: HostRuntime) -> Result<(), Fail> {
     );
     Ok(())
 }
+
+#[test]
+fn drops_what_is_no_key(rt: HostRuntime) -> Result<(), Fail> {
+    assert!(rt;
+        give(
+            b"\x1Ba\x1B\x1B[H\x1BO\x01\x1B[1~\x1B[4~",
+            &[
+                Key::Move(Move::LineStart),
+                Key::Move(Move::LineStart),
+                Key::Move(Move::LineEnd)
+            ]
+        )
+    );
+    assert!(rt;
+        give(
+            b"\x1B[0000000000A\x1B[9~\x1B[1\x01\xED\xA0\xFFx",
+            &[Key::SelectAll, Key::Char('x')]
+        )
+    );
+    Ok(())
+}

@@ -9,12 +9,16 @@ fn shown(rows: u32, cols: u32, places: &[(u128, u128, u32)]) -> Option<(u128, u1
         Err(_) => return None,
     };
     for (block, col, width) in places {
-        if *block == 0 || *width == 0 || *width > window.cols() {
+        if *width == 0 || *width > window.cols() {
             return None;
         }
         window.reveal(*block, *col, *width);
     }
-    Some((window.top(), window.left()))
+    let same = window.copy();
+    if (same.rows(), same.cols()) != (rows, cols) {
+        return None;
+    }
+    Some((same.top(), same.left()))
 }
 
 /// The refusal of a size.

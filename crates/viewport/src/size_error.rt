@@ -1,6 +1,6 @@
 use thiserror::Error;
 
-/// Why a size is none of a window.
+/// Why no window has a size.
 #[derive(Clone, Copy, Debug, Drop, Error, PartialEq, Eq)]
 pub enum SizeError {
     /// The number of rows is 0 or more than 500.

@@ -1,5 +1,6 @@
 ghost use Rattle.std.specs.Prelude.{◌≡◌, ◌+◌, ◌-◌, ◌<◌, ◌≤◌, ◌^◌};
 ghost use Rattle.viewport.specs.Window.{first_window};
+ghost use Rattle.viewport.specs.declared.viewport.TheConstants.{MAX_SIZE};
 ghost use Rattle.viewport.specs.Reveal.{IsNearest, revealed};
 
 use crate::size_error::SizeError;
@@ -66,7 +67,7 @@ impl Viewport {
     pub fn rows(&self) -> u32
         ensures value { result ≡ self.now.rows }
         ensures some { 1 ≤ result }
-        ensures few { result ≤ 500 }
+        ensures few { result ≤ MAX_SIZE }
     {
         self.rows
     }
@@ -75,15 +76,26 @@ impl Viewport {
     pub fn cols(&self) -> u32
         ensures value { result ≡ self.now.cols }
         ensures some { 1 ≤ result }
-        ensures few { result ≤ 500 }
+        ensures few { result ≤ MAX_SIZE }
     {
         self.cols
     }
 
-    /// Moves the window to the nearest place that shows a block, which counts from 1, and the columns from `col` to
+    /// The same window once more.
+    pub fn copy(&self) -> Viewport
+        ensures { result ≡ self.now }
+    {
+        Viewport {
+            top: self.top,
+            left: self.left,
+            rows: self.rows,
+            cols: self.cols,
+        }
+    }
+
+    /// Moves the window to the nearest place that shows a block and the columns from `col` to
     /// `col + width - 1` (EditorView.scrollIntoView, with y and x nearest).
     pub fn reveal(&mut self, block: u128, col: u128, width: u32)
-        requires block { 1 ≤ block }
         requires some { 1 ≤ width }
         requires fits { width ≤ self.old.cols }
         ensures nearest { IsNearest self.old self.new block col width }
