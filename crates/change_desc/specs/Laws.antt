@@ -1,12 +1,8 @@
 -- The laws of change sets, over the definitions alone.
 use Rattle.std.specs.Prelude.{◌≡◌, ℕ, true, false, List, length}
-use Rattle.change_desc.specs.declared.section.Section.{Section}
-use Rattle.change_desc.specs.Sections.{spelled, apply, invert, lengths, old_size, new_size}
-use Rattle.change_desc.specs.Algebra.{compose, map_over, merge}
-
--- sections over a text of characters
-abbrev pub Sections : Type 0
-Sections = List (Section (List ℕ))
+use Rattle.change_desc.specs.Sections.{Sections, spelled, apply, invert, lengths, old_size, new_size}
+use Rattle.change_desc.specs.Compose.{compose}
+use Rattle.change_desc.specs.Map.{map_over, merge}
 
 -- a composed set applied is the second applied to the first applied
 abbrev pub ComposesInTurn : Type 0

@@ -3,25 +3,23 @@ use Rattle.std.proofs.Common.{◌≡◌, ◌≢◌, ℕ, zero, suc, ◌+◌, ◌
 use Rattle.std.proofs.lemmas.Bool.{eqb-true, ltb-false, lt-ltb, le-ltb}
 use Rattle.std.proofs.lemmas.List.{drop_all}
 use Rattle.std.specs.declared.option.Option.{Option}
+use Rattle.std.specs.Option.{option_or}
 use Rattle.change_desc.specs.declared.section.Section.{Section}
 use Rattle.change_desc.specs.declared.section.Section.TheVariants.{Keep}
-use Rattle.change_desc.specs.Sections.{spelled, old_size, new_size, normal}
-use Rattle.change_desc.specs.Algebra.{then_also, of}
+use Rattle.change_desc.specs.Sections.{Sections, spelled, old_size, new_size, normal}
+use Rattle.change_desc.specs.Of.{then_also, of}
 use Rattle.change_set.specs.declared.change.Change.{Change}
 use Rattle.change_set.specs.declared.change.Change.TheVariants.{Span, Set}
 use Rattle.change_set.specs.declared.error.ChangesError.{ChangesError}
 use Rattle.change_set.specs.declared.error.ChangesError.TheVariants.{TooLong}
 use Rattle.change_set.proofs.RunningTotals.{spelled-old}
 use Rattle.change_set.specs.Changes.{as_set, as_sets}
-use Rattle.change_set.specs.Refusals.{fault, or_else, first_fault, too_long, refusal}
+use Rattle.change_set.specs.Refusals.{fault, first_fault, too_long, refusal}
 use Rattle.change_set.specs.Totals.{IsOver, IsTooLong}
 
-abbrev Sections : Type 0
-Sections = List (Section (List ℕ))
-
-or_else-none : (a b : Option ChangesError) → or_else a b ≡ None → (a ≡ None) × (b ≡ None)
-or_else-none None b h = (refl, h)
-or_else-none (Some e) b h = cc
+option_or-none : (a b : Option ChangesError) → option_or a b ≡ None → (a ≡ None) × (b ≡ None)
+option_or-none None b h = (refl, h)
+option_or-none (Some e) b h = cc
 
 cond-false : (b : Bool) (e : ChangesError) → cond b (Some e) None ≡ None → b ≡ false
 cond-false true e h = cc
@@ -44,15 +42,15 @@ fault-none len i (Set s) h = eqb-true (old_size s) len (cond-true (eqb (old_size
 pub sound-next : (len i : ℕ) (changes rest : List Change) (x : Change) → changes ≡ x ∷ rest → first_fault len i changes ≡ None → IsOver len x × (first_fault len (i + 1) rest ≡ None)
 sound-next len i changes rest x e h =
     let f : (fault len i x ≡ None) × (first_fault len (suc i) rest ≡ None) =
-    or_else-none (fault len i x) (first_fault len (suc i) rest) (subst (λ c. first_fault len i c ≡ None) e h) in
+    option_or-none (fault len i x) (first_fault len (suc i) rest) (subst (λ c. first_fault len i c ≡ None) e h) in
     let g : i + 1 ≡ suc i = omega arith in
     (fault-none len i x f.0, subst (λ j. first_fault len j rest ≡ None) (sym g) f.1)
 
 pub refused-fault : (len max : ℕ) (changes : List Change) (error : ChangesError) → first_fault len 0 changes ≡ Some error → refusal len max changes ≡ Some error
-refused-fault len max changes error h = ap (λ o. or_else o (too_long max (normal spelled (Keep len ∷ [])) (as_sets len changes))) h
+refused-fault len max changes error h = ap (λ o. option_or o (too_long max (normal spelled (Keep len ∷ [])) (as_sets len changes))) h
 
 pub refused-long : (len max : ℕ) (changes : List Change) → first_fault len 0 changes ≡ None → refusal len max changes ≡ too_long max (normal spelled (Keep len ∷ [])) (as_sets len changes)
-refused-long len max changes h = ap (λ o. or_else o (too_long max (normal spelled (Keep len ∷ [])) (as_sets len changes))) h
+refused-long len max changes h = ap (λ o. option_or o (too_long max (normal spelled (Keep len ∷ [])) (as_sets len changes))) h
 
 pub long-now : (max : ℕ) (total : Sections) (sets : List Sections) → max < new_size spelled total → too_long max total sets ≡ Some (TooLong (new_size spelled total) max)
 long-now max total [] h = rw (lt-ltb max (new_size spelled total) h) refl

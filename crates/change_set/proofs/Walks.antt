@@ -89,8 +89,8 @@ pushed-old d e x h = ap old_size h ∙ (old_size-normal counted (d ++ x ∷ []) 
 pub pushed-new : (d e : List (Section ℕ)) (x : Section ℕ) → e ≡ normal counted (d ++ x ∷ []) → new_size counted e ≡ new_size counted d + new_of counted x
 pushed-new d e x h = ap (new_size counted) h ∙ (new_size-normal counted counted_laws (d ++ x ∷ []) ∙ omega (arith, new_size-append d (x ∷ [])))
 
-pub fits-part : {C : Type 0} (chars part more : List C) (m rest all : ℕ) → more ≡ chars ++ part → length part ≡ m → length chars + (m + rest) ≡ all → length more + rest ≡ all
-fits-part chars part more m rest all e l h = omega (arith, ap length e, length-append chars part)
+pub fits-part : {C : Type 0} (chars stretch more : List C) (m rest all : ℕ) → more ≡ chars ++ stretch → length stretch ≡ m → length chars + (m + rest) ≡ all → length more + rest ≡ all
+fits-part chars stretch more m rest all e l h = omega (arith, ap length e, length-append chars stretch)
 
 pub length-part : {C : Type 0} (n at : ℕ) (doc : List C) → at + n ≤ length doc → length (take n (drop at doc)) ≡ n
 length-part n at doc h = length-take-le n (drop at doc) (omega (arith, length-drop at doc))

@@ -1,9 +1,9 @@
 -- What a set comes to when its texts are known by their lengths alone (Reference Manual: ChangeSet.desc, ChangeDesc).
 use Rattle.std.specs.Prelude.{◌≡◌, ℕ, Bool, List}
 use Rattle.change_desc.specs.declared.section.Section.{Section}
-use Rattle.change_desc.specs.Sections.{spelled, counted, lengths}
-use Rattle.change_desc.specs.Algebra.{compose, map_over}
-use Rattle.change_desc.specs.Laws.{Sections}
+use Rattle.change_desc.specs.Sections.{Sections, spelled, counted, lengths}
+use Rattle.change_desc.specs.Compose.{compose}
+use Rattle.change_desc.specs.Map.{map_over}
 
 -- the description of a composed set is the composed description
 abbrev pub DescribesComposed : Type 0

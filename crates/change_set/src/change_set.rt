@@ -1,7 +1,10 @@
 ghost use Rattle.std.specs.Prelude.{◌≡◌, ◌≢◌, ◌≤◌, ◌<◌, ◌+◌, ◌-◌, ◌^◌, ◌∷◌, [], length, IfOk, IfErr, Some, None, ◌↔◌, IsTrue};
 ghost use Rattle.change_desc.specs.declared.section.Section.TheVariants.{Keep};
 ghost use Rattle.change_desc.specs.Sections.{spelled, counted, old_size, new_size, normal, lengths, apply, invert, inverted};
-ghost use Rattle.change_desc.specs.Algebra.{compose, map_over, filter_kept, filter_dropped, of, span};
+ghost use Rattle.change_desc.specs.Compose.{compose};
+ghost use Rattle.change_desc.specs.Map.{map_over};
+ghost use Rattle.change_desc.specs.Of.{of, span};
+ghost use Rattle.change_desc.specs.Filter.{filter_kept, filter_dropped};
 ghost use Rattle.change_set.specs.Changes.{as_sets};
 ghost use Rattle.change_desc.specs.Ranges.{changes_nothing};
 ghost use Rattle.change_set.specs.Refusals.{refusal};

@@ -80,7 +80,7 @@ pub(crate) fn texts_between(
     second: &[Section<InsertedText>],
 ) -> Result<Text, AllocError>
     requires meet { old_size back.now ≡ old_size second.now }
-    requires whole { unmarked (kept_marks back.now) ≡ length first.now.characters }
+    requires texts { unmarked (kept_marks back.now) ≡ length first.now.characters }
     requires first_fits { length first.now.characters < 2 ^ 32 }
     requires fits { length (texts_between (kept_marks back.now) first.now.characters second.now) < 2 ^ 32 }
     ensures { IfOk result (λ text. text.characters ≡ texts_between (kept_marks back.now) first.now.characters second.now) }

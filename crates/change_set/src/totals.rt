@@ -1,6 +1,6 @@
 ghost use Rattle.std.specs.Prelude.{◌≡◌, ◌≢◌, ◌≤◌, ◌<◌, ◌+◌, ◌-◌, ◌^◌, length, IfOk, IfErr};
 ghost use Rattle.change_desc.specs.Sections.{spelled, counted, new_size, old_size};
-ghost use Rattle.change_desc.specs.Algebra.{span, then_also};
+ghost use Rattle.change_desc.specs.Of.{span, then_also};
 ghost use Rattle.change_set.specs.Changes.{as_set};
 ghost use Rattle.change_set.specs.Totals.{IsOver, IsTooLong};
 

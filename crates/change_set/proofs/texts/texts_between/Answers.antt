@@ -11,7 +11,7 @@ pub loop-section-init : goal.loop-section-init
 loop-section-init c = record {
   is_place = record { index = omega arith; offset = omega arith };
   level = length-kept_marks c.args.back.now ∙ c.requires.meet;
-  within = omega (arith, c.requires.whole);
+  within = omega (arith, c.requires.texts);
   gives = rw c.in_ok-text.ensures (refl);
 }
 

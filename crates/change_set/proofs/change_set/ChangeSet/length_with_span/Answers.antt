@@ -1,7 +1,7 @@
 use Rattle.std.proofs.Common.{◌≡◌, ◌≤◌, ◌<◌, ◌^◌, ◌+◌, ℕ, List, false, length, ap, sym, subst, ◌∙◌, arith}
 use Rattle.change_desc.specs.declared.section.Section.{Section}
 use Rattle.change_desc.specs.Sections.{spelled, counted, old_size, new_size}
-use Rattle.change_desc.specs.Algebra.{span}
+use Rattle.change_desc.specs.Of.{span}
 use Rattle.change_desc.proofs.Merges.{old_size-lengths}
 use Rattle.change_set.proofs.RunningTotals.{span-old, span-size, moved-bound}
 use Rattle.change_set.proofs.change_set.ChangeSet.length_with_span.Goals as goal

@@ -1,7 +1,8 @@
 use Rattle.std.proofs.Common.{◌≡◌, ◌<◌, ◌^◌, ℕ, List, length, refl, ap, sym, subst, ◌∙◌, arith}
 use Rattle.change_desc.specs.declared.section.Section.{Section}
 use Rattle.change_desc.specs.Sections.{spelled, counted, lengths, old_size, new_size, IsSet}
-use Rattle.change_desc.specs.Algebra.{compose, map_over}
+use Rattle.change_desc.specs.Compose.{compose}
+use Rattle.change_desc.specs.Map.{map_over}
 use Rattle.change_desc.proofs.Merges.{old_size-map_over}
 use Rattle.change_set.specs.Texts.{written, text_total}
 use Rattle.change_set.proofs.Written.{written-map_over}

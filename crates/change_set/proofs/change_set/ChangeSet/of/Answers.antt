@@ -1,7 +1,7 @@
 use Rattle.std.proofs.Common.{◌≡◌, ◌+◌, ◌∷◌, ℕ, drop, ap, sym, subst, ◌∙◌, arith}
 use Rattle.std.proofs.lemmas.Result.{err_from_is_err_and}
 use Rattle.change_desc.specs.Sections.{spelled, old_size}
-use Rattle.change_desc.specs.Algebra.{then_also}
+use Rattle.change_desc.specs.Of.{then_also}
 use Rattle.change_set.specs.Changes.{as_set}
 use Rattle.change_set.specs.Totals.{IsOver, IsTooLong}
 use Rattle.change_set.proofs.Walks.{next_item}

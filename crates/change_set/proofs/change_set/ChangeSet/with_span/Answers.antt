@@ -1,7 +1,7 @@
 use Rattle.std.proofs.Common.{◌≡◌, ◌≤◌, ◌<◌, ◌^◌, ℕ, List, ap, sym, subst, ◌∙◌, arith}
 use Rattle.change_desc.specs.declared.section.Section.{Section}
 use Rattle.change_desc.specs.Sections.{spelled, old_size, new_size}
-use Rattle.change_desc.specs.Algebra.{span, then_also}
+use Rattle.change_desc.specs.Of.{span, then_also}
 use Rattle.change_set.proofs.RunningTotals.{spelled-old}
 use Rattle.change_set.proofs.change_set.ChangeSet.with_span.Goals as goal
 
