@@ -7,6 +7,8 @@ pub mod Composed
 pub mod Sizes
 pub mod RunningTotals
 pub mod Refused
+pub mod Later
+pub mod Ascending
 pub mod Filtering
 pub mod Edges
 pub mod FilterWalk

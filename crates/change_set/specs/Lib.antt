@@ -18,4 +18,5 @@ pub mod Walks
 pub mod Texts
 pub mod Places
 pub mod Totals
+pub mod Ascents
 pub mod Protection

@@ -12,16 +12,17 @@ ghost use Rattle.change_set.specs.Texts.{written};
 ghost use Rattle.change_set.specs.Protection.{whole_part};
 ghost use Rattle.change_set.specs.Same.{same_sections};
 
+use crate::ascent::{ascending, push_span};
 use crate::change::{Change, first_fault};
 use crate::error::ChangesError;
 use crate::filter::filtered;
 use crate::filtered::Filtered;
 use crate::inserted_text::InsertedText;
-use crate::sections::{copied, measured, new_len, push_section, same_sections, turned};
+use crate::sections::{copied, measured, new_len, push_section, same_sections};
 use crate::side::Side;
-use crate::texts::{filled, texts_between, written};
+use crate::texts::{applied, filled, texts_between, turned, written};
 use change_desc::{Desc, Section};
-use line_tree::Text;
+use line_tree::{Text, TextCursor};
 use smallvec::SmallVec;
 use std::alloc::{AllocError, Global};
 use std::marker::Model;
@@ -30,7 +31,7 @@ use std::marker::Model;
 /// characters kept, or so many replaced by a text. Lengths are in characters.
 #[derive(Drop)]
 pub struct ChangeSet {
-    sections: SmallVec<Section<InsertedText>, 8>,
+    pub(crate) sections: SmallVec<Section<InsertedText>, 8>,
 }
 
 impl Model for ChangeSet {
@@ -72,9 +73,12 @@ impl ChangeSet {
                 max,
             });
         }
-        let mut total = ChangeSet::empty(alloc, len)?;
-        for change in changes {
-            total = total.with_change(change, max)?;
+        let (start, taken) = ascending(alloc, changes, len, max)?;
+        let mut total = start;
+        let mut index = taken;
+        'rest: while index < changes.len() {
+            total = total.with_change(&changes[index], max)?;
+            index += 1;
         }
         Ok(total)
     }
@@ -134,22 +138,11 @@ impl ChangeSet {
         requires { old_size self.now ≡ length document.now.characters }
         ensures { IfOk result (λ text. text.characters ≡ apply self.now document.now.characters) }
     {
-        let mut text = Text::empty(*self.sections.allocator())?;
-        let mut at = 0;
-        for section in self.sections.as_slice() {
-            match section {
-                Section::Keep(count) => {
-                    let kept = document.slice(at, at + *count)?;
-                    text = text.append(&kept)?;
-                    at += *count;
-                }
-                Section::Replace(count, inserted) => {
-                    text = text.append(inserted.text())?;
-                    at += *count;
-                }
-            }
-        }
-        Ok(text)
+        applied(
+            *self.sections.allocator(),
+            self.sections.as_slice(),
+            document,
+        )
     }
 
     /// This set and then the next, as one set (ChangeSet.compose). `Err`: out of memory.
@@ -185,12 +178,12 @@ impl ChangeSet {
         requires { old_size self.now ≡ length document.now.characters }
         ensures { IfOk result (λ back. back ≡ invert self.now document.now.characters) }
     {
-        let mut sections = SmallVec::new(*self.sections.allocator());
-        let mut at = 0;
+        let alloc = *self.sections.allocator();
+        let mut sections = SmallVec::new(alloc);
+        let mut cursor = TextCursor::new(document);
         for section in self.sections.as_slice() {
-            let back = turned(section, document, at)?;
+            let back = turned(alloc, section, &mut cursor)?;
             sections.push(back)?;
-            at += section.old_len();
         }
         Ok(ChangeSet { sections })
     }
@@ -255,17 +248,15 @@ impl ChangeSet {
         len: u32,
         from: u32,
         to: u32,
-        insert: &Text,
+        insert: &InsertedText,
     ) -> Result<ChangeSet, AllocError>
         requires order { from ≤ to }
         requires within { to ≤ len }
-        requires fits { len - (to - from) + length insert.now.characters < 2 ^ 32 }
-        ensures { IfOk result (λ set. set ≡ span spelled len from to insert.now.characters) }
+        requires fits { len - (to - from) + length insert.now < 2 ^ 32 }
+        ensures { IfOk result (λ set. set ≡ span spelled len from to insert.now) }
     {
         let mut sections = SmallVec::new(alloc);
-        push_section(&mut sections, Section::Keep(from))?;
-        let text = InsertedText::of(insert.try_copy()?);
-        push_section(&mut sections, Section::Replace(to - from, text))?;
+        push_span(&mut sections, from, to - from, insert)?;
         push_section(&mut sections, Section::Keep(len - to))?;
         Ok(ChangeSet { sections })
     }

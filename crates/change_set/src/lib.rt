@@ -5,6 +5,7 @@
 //! laws of changes. A set keeps its allocator, so its methods take none.
 #![tactic(auto)]
 
+mod ascent;
 mod change;
 mod change_set;
 mod error;

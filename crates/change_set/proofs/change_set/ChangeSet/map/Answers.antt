@@ -17,9 +17,7 @@ filled-requires c =
     let s : List (Section (List ℕ)) = map_over spelled c.args.self.now c.args.over.now c.args.before in
     let e : c.sections.result.now ≡ lengths spelled s = c.sections.ensures ∙ c.in_ok-lengths.ensures in
     let f : c.in_ok-text.text.characters ≡ written s = c.in_ok-text.ensures ∙ sym (written-map_over c.args.self.now c.args.over.now c.args.before c.requires.meet) in
-    let i : IsSet counted (lengths spelled s) = subst (IsSet counted) (c.lengths.view_is ∙ c.in_ok-lengths.ensures) c.lengths.invariant in
-    let t : text_total c.sections.result.now ≡ length c.in_ok-text.text.characters = filled-total s c.sections.result.now c.in_ok-text.text.characters e f in
-    record { total = t; fits = subst (λ (n : ℕ). n < 2 ^ 32) (sym (t ∙ ap length f)) (total-fits s i) }
+    filled-total s c.sections.result.now c.in_ok-text.text.characters e f
 
 pub invariant_of-result : goal.invariant_of-result
 invariant_of-result c =
