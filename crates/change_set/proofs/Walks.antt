@@ -100,12 +100,15 @@ pub measured-whole : {C : Type 0} (d : List (Section ℕ)) (s : List (Section (L
     normal counted (d ++ lengths spelled (drop i s)) ≡ lengths spelled s → d ≡ lengths spelled s
 measured-whole d s i l n h = sym n ∙ (ap (normal counted) (sym (append-nil d)) ∙ (ap (λ r. normal counted (d ++ lengths spelled r)) (sym (drop_all i s l)) ∙ h))
 
+pub inverted-is : {C : Type 0} (s t : List (Section (List C))) (doc left : List C) (i : ℕ) → length s ≤ i → t ++ invert (drop i s) left ≡ invert s doc → t ≡ invert s doc
+inverted-is s t doc left i l h =
+    let n : drop i s ≡ [] = drop_all i s l in
+    sym (append-nil t) ∙ (ap (λ r. t ++ invert r left) (sym n) ∙ h)
+
 pub inverted-all : {C : Type 0} (s t : List (Section (List C))) (doc left : List C) (i : ℕ) → length s ≤ i →
     t ++ invert (drop i s) left ≡ invert s doc → IsSet spelled s → old_size s ≡ length doc → IsSet spelled t
 inverted-all s t doc left i l h k e =
-    let n : drop i s ≡ [] = drop_all i s l in
-    let w : t ≡ invert s doc = sym (append-nil t) ∙ (ap (λ r. t ++ invert r left) (sym n) ∙ h) in
-    subst (IsSet spelled) (sym w) (is_set-invert s doc k e)
+    subst (IsSet spelled) (sym (inverted-is s t doc left i l h)) (is_set-invert s doc k e)
 
 -- one section over the rest of a text
 pub apply-cons : {C : Type 0} (x : Section (List C)) (s : List (Section (List C))) (doc : List C) → apply (x ∷ s) doc ≡ given_by x doc ++ apply s (drop (old_of x) doc)

@@ -6,6 +6,7 @@ ghost use Rattle.change_desc.specs.Map.{map_over};
 ghost use Rattle.change_desc.specs.Of.{of, span};
 ghost use Rattle.change_desc.specs.Filter.{filter_kept, filter_dropped};
 ghost use Rattle.change_set.specs.Changes.{as_sets};
+ghost use Rattle.change_desc.specs.Laws.{AppliesInTurn, DescribesComposed, DescribesMapped, LeadsBack, Merges};
 ghost use Rattle.change_desc.specs.Ranges.{changes_nothing};
 ghost use Rattle.change_set.specs.Refusals.{refusal};
 ghost use Rattle.change_set.specs.Texts.{written};
@@ -18,6 +19,7 @@ use crate::error::ChangesError;
 use crate::filter::filtered;
 use crate::filtered::Filtered;
 use crate::inserted_text::InsertedText;
+use crate::only_replace::only_replace;
 use crate::sections::{copied, measured, new_len, push_section, same_sections};
 use crate::side::Side;
 use crate::texts::{applied, filled, texts_between, turned, written};
@@ -138,11 +140,11 @@ impl ChangeSet {
         requires { old_size self.now ≡ length document.now.characters }
         ensures { IfOk result (λ text. text.characters ≡ apply self.now document.now.characters) }
     {
-        applied(
-            *self.sections.allocator(),
-            self.sections.as_slice(),
-            document,
-        )
+        let sections = self.sections.as_slice();
+        match only_replace(sections) {
+            Some(replace) => document.replace(replace.from, replace.to, replace.text),
+            None => applied(*self.sections.allocator(), sections, document),
+        }
     }
 
     /// This set and then the next, as one set (ChangeSet.compose). `Err`: out of memory.
@@ -151,6 +153,8 @@ impl ChangeSet {
         ensures both { IfOk result (λ both. both ≡ compose spelled self.now next.now) }
         ensures starts { IfOk result (λ both. old_size both ≡ old_size self.now) }
         ensures ends { IfOk result (λ both. new_size spelled both ≡ new_size spelled next.now) }
+        ensures in_turn { IfOk result (λ both. AppliesInTurn self.now next.now both) }
+        ensures described { IfOk result (λ both. DescribesComposed self.now next.now both) }
     {
         let lengths = self.composed_lengths(next)?;
         let text = self.composed_text(next)?;
@@ -165,6 +169,8 @@ impl ChangeSet {
         requires fits { new_size spelled (map_over spelled self.now over.now before) < 2 ^ 32 }
         ensures mapped { IfOk result (λ mapped. mapped ≡ map_over spelled self.now over.now before) }
         ensures starts { IfOk result (λ mapped. old_size mapped ≡ new_size counted over.now) }
+        ensures merges { IfOk result (λ mapped. Merges self.now mapped over.now before) }
+        ensures described { IfOk result (λ mapped. DescribesMapped self.now mapped over.now before) }
     {
         let lengths = self.mapped_lengths(over, before)?;
         let text = self.own_text()?;
@@ -176,7 +182,8 @@ impl ChangeSet {
     /// was wanting.
     pub fn invert(&self, document: &Text) -> Result<ChangeSet, AllocError>
         requires { old_size self.now ≡ length document.now.characters }
-        ensures { IfOk result (λ back. back ≡ invert self.now document.now.characters) }
+        ensures back { IfOk result (λ back. back ≡ invert self.now document.now.characters) }
+        ensures leads_back { IfOk result (λ back. LeadsBack self.now back document.now.characters) }
     {
         let alloc = *self.sections.allocator();
         let mut sections = SmallVec::new(alloc);

@@ -12,7 +12,7 @@ mod error;
 mod filter;
 mod filtered;
 mod inserted_text;
-mod laws;
+mod only_replace;
 mod place;
 mod protection;
 mod sections;
@@ -25,7 +25,6 @@ pub use crate::change_set::ChangeSet;
 pub use crate::error::ChangesError;
 pub use crate::filtered::Filtered;
 pub use crate::inserted_text::InsertedText;
-pub use crate::laws::change_laws;
 
 #[cfg(test)]
 mod tests;

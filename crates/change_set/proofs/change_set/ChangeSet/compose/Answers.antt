@@ -1,6 +1,8 @@
 use Rattle.std.proofs.Common.{◌≡◌, ◌<◌, ◌^◌, ℕ, List, length, refl, ap, sym, subst, ◌∙◌, arith}
 use Rattle.change_desc.specs.declared.section.Section.{Section}
-use Rattle.change_desc.specs.Sections.{spelled, counted, lengths, old_size, new_size, IsSet}
+use Rattle.change_desc.proofs.Applies.{apply-compose}
+use Rattle.change_desc.proofs.Lengths.{spelled_sizes, compose-lengths}
+use Rattle.change_desc.specs.Sections.{apply, spelled, counted, lengths, old_size, new_size, IsSet}
 use Rattle.change_desc.specs.Compose.{compose}
 use Rattle.change_desc.specs.Map.{map_over}
 use Rattle.change_set.proofs.Sizes.{old_size-compose, new_size-compose}
@@ -37,4 +39,6 @@ returns c =
       both = w;
       starts = ap old_size w ∙ old_size-compose c.args.self.now c.args.next.now c.requires;
       ends = ap (new_size spelled) w ∙ new_size-compose c.args.self.now c.args.next.now c.requires;
+      in_turn = λ doc l. ap (λ r. apply r doc) w ∙ apply-compose c.args.self.now c.args.next.now doc l c.requires;
+      described = ap (lengths spelled) w ∙ compose-lengths spelled spelled_sizes c.args.self.now c.args.next.now;
     }

@@ -1,9 +1,10 @@
 use Rattle.std.proofs.Common.{◌≡◌, ◌<◌, ◌^◌, ℕ, List, length, refl, ap, sym, subst, ◌∙◌, arith}
 use Rattle.change_desc.specs.declared.section.Section.{Section}
-use Rattle.change_desc.specs.Sections.{spelled, counted, lengths, old_size, new_size, IsSet}
+use Rattle.change_desc.specs.Sections.{apply, spelled, counted, lengths, old_size, new_size, IsSet}
 use Rattle.change_desc.specs.Compose.{compose}
 use Rattle.change_desc.specs.Map.{map_over}
-use Rattle.change_desc.proofs.Merges.{old_size-map_over}
+use Rattle.change_desc.proofs.Lengths.{spelled_sizes, map_over-lengths}
+use Rattle.change_desc.proofs.Merges.{old_size-map_over, old_size-lengths, apply-map_over}
 use Rattle.change_set.specs.Texts.{written, text_total}
 use Rattle.change_set.proofs.Written.{written-map_over}
 use Rattle.change_set.proofs.Composed.{filled-is, filled-total, filled-is_set, total-fits}
@@ -36,4 +37,8 @@ returns c =
     record {
       mapped = w;
       starts = ap old_size w ∙ old_size-map_over spelled c.args.self.now c.args.over.now c.args.before c.requires.meet;
+      merges = λ other doc h l.
+          ap (λ r. apply r (apply other doc)) (w ∙ ap (λ r. map_over spelled c.args.self.now r c.args.before) (sym h)) ∙
+          apply-map_over other c.args.self.now c.args.before doc l (sym c.requires.meet ∙ (ap old_size (sym h) ∙ (old_size-lengths spelled other ∙ l)));
+      described = ap (lengths spelled) w ∙ map_over-lengths spelled spelled_sizes c.args.self.now c.args.over.now c.args.before;
     }
