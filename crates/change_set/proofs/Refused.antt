@@ -15,7 +15,7 @@ use Rattle.change_set.specs.declared.error.ChangesError.TheVariants.{TooLong}
 use Rattle.change_set.proofs.RunningTotals.{spelled-old}
 use Rattle.change_set.specs.Changes.{as_set, as_sets}
 use Rattle.change_set.specs.Refusals.{fault, first_fault, too_long, refusal}
-use Rattle.change_set.specs.Totals.{IsOver, IsTooLong}
+use Rattle.change_set.specs.Totals.{IsOver, IsTooLong, IsTotal}
 
 option_or-none : (a b : Option ChangesError) → option_or a b ≡ None → (a ≡ None) × (b ≡ None)
 option_or-none None b h = (refl, h)
@@ -70,14 +70,6 @@ pub keep-new : (len : ℕ) → new_size (spelled {C = ℕ}) (normal (spelled {C 
 keep-new zero = refl
 keep-new (suc n) = omega arith
 
--- what a walk over the changes knows
-pub record Walks (len max i : ℕ) (total : Sections) (changes : List Change) : Type 0 where
-  pub folds : fold (then_also spelled) total (as_sets len (drop i changes)) ≡ of spelled len (as_sets len changes)
-  pub rest : too_long max total (as_sets len (drop i changes)) ≡ refusal len max changes
-  pub sound : first_fault len i (drop i changes) ≡ None
-  pub old : old_size total ≡ len
-  pub short : new_size spelled total ≤ max
-
 pub start-long : (len max : ℕ) (changes : List Change) (n : ℕ) → first_fault len 0 changes ≡ None → max < len → n ≡ len → refusal len max changes ≡ Some (TooLong n max)
 start-long len max changes n h l e =
     refused-long len max changes h ∙
@@ -87,7 +79,7 @@ pub set-old : (len : ℕ) (x : Change) → IsOver len x → old_size (as_set len
 set-old len (Span from to insert) h = spelled-old len from to insert h.0 h.1
 set-old len (Set s) h = h
 
-pub walk-start : (len max : ℕ) (total : Sections) (changes : List Change) → first_fault len 0 changes ≡ None → total ≡ normal spelled (Keep len ∷ []) → len ≤ max → Walks len max 0 total changes
+pub walk-start : (len max : ℕ) (total : Sections) (changes : List Change) → first_fault len 0 changes ≡ None → total ≡ normal spelled (Keep len ∷ []) → len ≤ max → IsTotal len max 0 total changes
 walk-start len max total changes h e l = record {
   folds = rw e refl;
   rest = rw e (sym (refused-long len max changes h));
@@ -96,11 +88,11 @@ walk-start len max total changes h e l = record {
   short = omega (arith, ap (new_size spelled) e, keep-new len);
 }
 
-pub walk-over : (len max i : ℕ) (total : Sections) (changes : List Change) (x : Change) → Walks len max i total changes → drop i changes ≡ x ∷ drop (i + 1) changes → IsOver len x
+pub walk-over : (len max i : ℕ) (total : Sections) (changes : List Change) (x : Change) → IsTotal len max i total changes → drop i changes ≡ x ∷ drop (i + 1) changes → IsOver len x
 walk-over len max i total changes x w e = (sound-next len i (drop i changes) (drop (i + 1) changes) x e w.sound).0
 
-pub walk-next : (len max i : ℕ) (total longer : Sections) (changes : List Change) (x : Change) → Walks len max i total changes → drop i changes ≡ x ∷ drop (i + 1) changes →
-    longer ≡ then_also spelled total (as_set len x) → old_size longer ≡ len → new_size spelled longer ≤ max → Walks len max (i + 1) longer changes
+pub walk-next : (len max i : ℕ) (total longer : Sections) (changes : List Change) (x : Change) → IsTotal len max i total changes → drop i changes ≡ x ∷ drop (i + 1) changes →
+    longer ≡ then_also spelled total (as_set len x) → old_size longer ≡ len → new_size spelled longer ≤ max → IsTotal len max (i + 1) longer changes
 walk-next len max i total longer changes x w e l o n = record {
   folds = rw l (subst (λ c. fold (then_also spelled) total (as_sets len c) ≡ of spelled len (as_sets len changes)) e w.folds);
   rest = rw l (sym (long-next max total (as_set len x) (as_sets len (drop (i + 1) changes)) w.short) ∙ subst (λ c. too_long max total (as_sets len c) ≡ refusal len max changes) e w.rest);
@@ -109,14 +101,14 @@ walk-next len max i total longer changes x w e l o n = record {
   short = n;
 }
 
-pub walk-long : (len max i : ℕ) (total : Sections) (changes : List Change) (x : Change) (error : ChangesError) → Walks len max i total changes → drop i changes ≡ x ∷ drop (i + 1) changes →
+pub walk-long : (len max i : ℕ) (total : Sections) (changes : List Change) (x : Change) (error : ChangesError) → IsTotal len max i total changes → drop i changes ≡ x ∷ drop (i + 1) changes →
     IsTooLong max (then_also spelled total (as_set len x)) error → refusal len max changes ≡ Some error
 walk-long len max i total changes x error w e t =
     sym w.rest ∙ (ap (λ c. too_long max total (as_sets len c)) e ∙
     (long-next max total (as_set len x) (as_sets len (drop (i + 1) changes)) w.short ∙
     (long-now max (then_also spelled total (as_set len x)) (as_sets len (drop (i + 1) changes)) t.longer ∙ ap Some (sym t.says))))
 
-pub walk-done : (len max i : ℕ) (total : Sections) (changes : List Change) → Walks len max i total changes → length changes ≤ i →
+pub walk-done : (len max i : ℕ) (total : Sections) (changes : List Change) → IsTotal len max i total changes → length changes ≤ i →
     (total ≡ of spelled len (as_sets len changes)) × (refusal len max changes ≡ None)
 walk-done len max i total changes w l =
     let d : drop i changes ≡ [] = drop_all i changes l in (

@@ -12,10 +12,11 @@ pub use Rattle.change_desc.specs.Laws
 pub use Rattle.change_desc.specs.Ranges
 pub mod Changes
 pub mod Refusals
-pub mod Descriptions
 pub mod Same
 pub mod Walks
 pub mod Texts
 pub mod Places
 pub mod Totals
+pub mod Ascents
+pub mod OneReplace
 pub mod Protection

@@ -22,7 +22,6 @@ texts_between-requires c =
     record {
       meet = back-old a d (lengths spelled a) refl e ∙ (c.requires ∙ ap old_size (sym n));
       texts = back-unmarked a d (lengths spelled a) refl e ∙ ap length (sym c.in_ok-own.ensures);
-      first_fits = subst (λ (r : List ℕ). length r < 2 ^ 32) (sym c.in_ok-own.ensures) (set-fits a i);
       fits = subst (λ (r : List ℕ). length r < 2 ^ 32) (sym t) (composed-fits a b j c.requires);
     }
 

@@ -20,5 +20,5 @@ overflow_add-result c =
 
 pub returns : goal.returns
 returns c =
-    span-size c.args.self.now c.args.from c.args.to c.args.insert.now.characters c.in_ok-done.done c.in_ok-deletion.deletion c.from.result c.mapped_len.result c.requires.order c.requires.within
+    span-size c.args.self.now c.args.from c.args.to c.args.insert.now c.in_ok-done.done c.in_ok-deletion.deletion c.from.result c.mapped_len.result c.requires.order c.requires.within
     c.in_ok-done.ensures (c.in_ok-deletion.ensures ∙ ap (λ (n : ℕ). span counted n c.args.from c.args.to 0) c.len.ensures) (c.from.ensures ∙ c.len-2.ensures) (c.mapped_len.ensures false)
