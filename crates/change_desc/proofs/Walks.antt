@@ -1,5 +1,5 @@
 -- One more section is passed in a walk.
-use Rattle.std.proofs.Common.{◌≡◌, ℕ, suc, ◌+◌, ◌-◌, ◌≤◌, ◌<◌, Bool, inl, List, ◌∷◌, length, drop, get_or, refl, sym, ap, ◌∙◌, Some, None, Option, arith, add-one, drop-cons}
+use Rattle.std.proofs.Common.{◌≡◌, ℕ, ◌+◌, ◌-◌, ◌≤◌, ◌<◌, Bool, inl, List, ◌∷◌, length, drop, get_or, refl, ap, ◌∙◌, Some, None, Option, arith, add-one, drop-cons}
 use Rattle.change_desc.specs.declared.section.Section.{Section}
 use Rattle.change_desc.specs.declared.section.Section.TheVariants.{Keep, Replace}
 use Rattle.change_desc.specs.declared.map_mode.MapMode.{MapMode}

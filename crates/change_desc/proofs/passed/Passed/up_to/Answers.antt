@@ -1,4 +1,4 @@
-use Rattle.std.proofs.Common.{◌<◌, length, get_or, arith}
+use Rattle.std.proofs.Common.{get_or, arith}
 use Rattle.change_desc.specs.declared.section.Section.TheVariants.{Keep}
 use Rattle.change_desc.proofs.Walks.{begins, passed-more}
 use Rattle.change_desc.proofs.passed.Passed.up_to.Goals as goal

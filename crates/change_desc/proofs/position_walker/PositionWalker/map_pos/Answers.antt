@@ -1,5 +1,4 @@
-use Rattle.std.proofs.Common.{arith, sym, ap}
-use Rattle.std.specs.Prelude.{IfSome, ◌≤◌}
+use Rattle.std.proofs.Common.{arith, ap}
 use Rattle.change_desc.specs.Sections.{counted, new_size}
 use Rattle.change_desc.specs.Walker.{Walk}
 use Rattle.change_desc.proofs.Walks.{LandsAt, lands}
@@ -14,11 +13,11 @@ overflow_add-result c =
 
 pub returns-clause-inside : goal.returns-clause-inside
 returns-clause-inside c =
-    let whole = ap (λ (v : Walk). new_size counted v.desc) c.self.view_is in
+    let single = ap (λ (v : Walk). new_size counted v.desc) c.self.view_is in
     elim c.if-is_lost.branch [
       | then-is_lost w ↦ rw w.result-is tt
       | else-is_lost w ↦
           let l : LandsAt c.self.inside.sections.now c.up_to-self-inside.result w.place.result =
           lands _ _ _ _ _ _ c.up_to-self-inside.ensures (rw c.rest-rest.ensures at w.place.ensures) in
-          rw w.result-is (omega (arith, l.within, whole))
+          rw w.result-is (omega (arith, l.within, single))
     ]

@@ -1,8 +1,8 @@
 use Rattle.std.proofs.Common.{◌++◌, ◌∷◌, [], arith, ◌∙◌, ap}
 use Rattle.change_desc.specs.declared.section.Section.TheVariants.{Replace}
 use Rattle.change_desc.specs.Sections.{counted, normal}
-use Rattle.change_desc.proofs.Weaves.{takes_whole, flushed-is_normal, flushed-old, flushed-new}
-use Rattle.change_desc.proofs.weave.Weave.whole.Goals as goal
+use Rattle.change_desc.proofs.Weaves.{takes_single, flushed-is_normal, flushed-old, flushed-new}
+use Rattle.change_desc.proofs.weave.Weave.single.Goals as goal
 
 pub push_section-requires-clause-is_normal : goal.push_section-requires-clause-is_normal
 push_section-requires-clause-is_normal c =
@@ -16,5 +16,5 @@ push_section-requires-clause-new_fits c = omega (arith, flushed-new c.args.self.
 
 pub returns : goal.returns
 returns c =
-    takes_whole c.args.self.now (record { sections = c.push_section.new.sections; count = c.flush.new.self.count; len = c.flush.new.self.len }) c.args.section c.requires.not_blank
+    takes_single c.args.self.now (record { sections = c.push_section.new.sections; count = c.flush.new.self.count; len = c.flush.new.self.len }) c.args.section c.requires.not_blank
     (c.in_ok-push_section.ensures.ok ∙ ap (λ s. normal counted (s ++ c.args.section ∷ [])) c.in_ok-flush.ensures.0) c.in_ok-flush.ensures.1 c.in_ok-flush.ensures.2

@@ -1,7 +1,7 @@
 use Rattle.std.proofs.Common.{sym, ◌∙◌}
 use Rattle.std.proofs.lemmas.List.{get_or_default}
 use Rattle.change_desc.proofs.Loads.{loads_next, is_spent-is}
-use Rattle.change_desc.proofs.part.Part.load.Goals as goal
+use Rattle.change_desc.proofs.tail.Tail.load.Goals as goal
 
 pub returns-then-taken-sections : goal.returns-then-taken-sections
 returns-then-taken-sections c =

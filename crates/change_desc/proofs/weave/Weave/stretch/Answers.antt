@@ -1,7 +1,7 @@
 use Rattle.std.proofs.Common.{◌+◌, arith, refl}
 use Rattle.change_desc.proofs.Weaves.{takes_start, takes_on}
-use Rattle.change_desc.proofs.weave.Weave.part.Goals as goal
-use Rattle.change_desc.proofs.weave.Weave.part.Goals.{then-starts+in_ok-flush, else-starts}
+use Rattle.change_desc.proofs.weave.Weave.stretch.Goals as goal
+use Rattle.change_desc.proofs.weave.Weave.stretch.Goals.{then-starts+in_ok-flush, else-starts}
 
 pub returns : goal.returns
 returns c =
