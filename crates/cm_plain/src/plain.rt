@@ -1,4 +1,4 @@
-ghost use Rattle.std.specs.Prelude.{◌≡◌, ◌↔◌, ◌≤◌, ◌<◌, map, length, IfOk, IsOk, IsErr, IsTrue};
+ghost use Rattle.std.specs.Prelude.{◌≡◌, ◌↔◌, ◌≤◌, ◌<◌, map, IfOk, IsOk, IsErr, IsTrue};
 ghost use Rattle.cm_plain.specs.Datum.{depth, deepest, data_of, list, max_depth};
 ghost use Rattle.cm_plain.specs.Plain.{datum_of};
 
@@ -117,8 +117,7 @@ impl Plain {
 impl PlainList {
     /// The values, in order.
     pub fn as_slice(&self) -> &[Plain]
-        ensures items { map datum_of result.now ≡ self.now }
-        ensures len { length result.now ≡ length self.now }
+        ensures { map datum_of result.now ≡ self.now }
     {
         self.items.as_slice()
     }

@@ -1,5 +1,6 @@
 ghost use Rattle.std.specs.Prelude.{◌≡◌, ◌^◌, ◌<◌, ◌↔◌, [], length, IfOk, IsTrue, string_bytes, encode_utf8_all};
 ghost use Rattle.std.specs.Str.{chars};
+ghost use Rattle.cm_plain.specs.UserEvents.{ends_or_stops, is_below};
 
 use std::alloc::{AllocError, Global};
 use std::marker::Model;
@@ -73,6 +74,15 @@ impl Str {
         self.characters.as_slice() == other.characters.as_slice()
     }
 
+    /// Whether a user event is another one or below it: `select.word` is also a `select` (Reference Manual,
+    /// Transaction.isUserEvent).
+    pub fn is_below(&self, of: &[char]) -> bool
+        ensures { result ≡ is_below self.now of.now }
+    {
+        let event = self.characters.as_slice();
+        event.starts_with(of) && ends_or_stops(&event[of.len()..])
+    }
+
     /// The same text once more. `Err`: out of memory.
     pub fn try_copy(&self) -> Result<Str, AllocError>
         ensures { IfOk result (λ s. s ≡ self.now) }
@@ -89,5 +99,15 @@ impl Str {
             text.push(*c)?;
         }
         Ok(text)
+    }
+}
+
+/// Whether nothing follows, or a full stop.
+fn ends_or_stops(rest: &[char]) -> bool
+    ensures { result ≡ ends_or_stops rest.now }
+{
+    match rest.first() {
+        None => true,
+        Some(first) => *first == '.',
     }
 }

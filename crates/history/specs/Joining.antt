@@ -5,7 +5,7 @@ use Rattle.change_desc.specs.declared.touch.Touch.{Touch}
 use Rattle.change_desc.specs.declared.touch.Touch.TheVariants.{No}
 use Rattle.change_desc.specs.Sections.{spelled, lengths}
 use Rattle.change_desc.specs.Ranges.{replaced, meets}
-use Rattle.transaction.specs.Lookups.{is_below}
+use Rattle.cm_plain.specs.UserEvents.{is_below}
 use Rattle.history.specs.declared.event.Event.{Event}
 use Rattle.history.specs.declared.group.Group.{Group}
 use Rattle.history.specs.declared.group.Group.TheVariants.{Open}

@@ -4,7 +4,7 @@ pub use Rattle.change_desc.specs.Algebra
 pub use Rattle.change_desc.specs.Ranges
 pub use Rattle.change_set.specs.Same
 pub use Rattle.selection.specs.Selections
-pub use Rattle.transaction.specs.Lookups
+pub use Rattle.cm_plain.specs.UserEvents
 pub mod Histories
 pub mod Joining
 pub mod Moving

@@ -13,7 +13,6 @@ use cm_plain::Str;
 use line_tree::Text;
 use selection::Selection;
 use std::alloc::AllocError;
-use transaction::is_below;
 
 /// The user event of typed text, and that of a deletion (Reference Manual, Transaction.userEvent).
 const INPUT_TYPE: [char; 10] = ['i', 'n', 'p', 'u', 't', '.', 't', 'y', 'p', 'e'];
@@ -92,9 +91,7 @@ impl StepInput {
     {
         match &self.user_event {
             None => true,
-            Some(event) => {
-                is_below(event.chars(), &INPUT_TYPE) || is_below(event.chars(), &DELETION)
-            }
+            Some(event) => { event.is_below(&INPUT_TYPE) || event.is_below(&DELETION) }
         }
     }
 

@@ -1,4 +1,5 @@
-pub mod KindMaps
-pub mod Meetings
 pub mod Joins
+pub mod Meetings
+pub mod Pairs
 pub mod Steps
+pub mod Within

@@ -14,7 +14,8 @@ use Rattle.transaction.specs.declared.error.TransactionError.TheVariants.{TooLon
 use Rattle.transaction.specs.declared.meeting.Meeting.{Meeting}
 use Rattle.transaction.specs.Merging.{Changes}
 use Rattle.transaction.specs.Refusals.{too_long}
-use Rattle.transaction.specs.Meetings.{IsMeeting}
+use Rattle.transaction.specs.Meetings.{IsMeeting, IsMet, back_of}
+use Rattle.transaction.proofs.Within.{is-short}
 
 -- the length of the merge is the same from both sides
 merged_len-swap : (r s : Row ℕ (Fate ℕ)) → merged_len r s ≡ merged_len s r
@@ -66,18 +67,31 @@ module _ (a b : Changes) (d f : List (Section ℕ)) (e : d ≡ lengths spelled a
   pub moved-size : new_size spelled (map_over spelled b d false) ≡ new_size spelled (then_also spelled a b)
   moved-size = also-moved a b d e h
 
-  pub is_meeting : (max n : ℕ) (m : Meeting) (moved : Changes) → n ≤ max → ((before : Bool) → n ≡ new_size counted (map_over counted f d before)) →
-      moved ≡ map_over spelled b d false → m.over ≡ lengths spelled moved → m.back ≡ map_over counted d f true → m.changes ≡ compose spelled a moved → IsMeeting max a b m
-  is_meeting max n m moved l k p q r s =
-      let both : m.changes ≡ then_also spelled a b = s ∙ (ap (λ z. compose spelled a z) p ∙ also-is a b d e) in
+  pub is_meeting : (max n : ℕ) (m : Meeting) → n ≤ max → ((before : Bool) → n ≡ new_size counted (map_over counted f d before)) → IsMet a b d m.changes m.moved →
+      m.mine ≡ d → m.theirs ≡ f → IsMeeting max a b m
+  is_meeting max n m l k t p q =
+      let moved : m.moved ≡ map_over spelled b d false = t.moved_are in
+      let both : m.changes ≡ then_also spelled a b = t.changes_are ∙ also-is a b d e in
+      let back : back_of m ≡ map_over counted d f true = ap (λ z. map_over counted z m.theirs true) p ∙ ap (λ z. map_over counted d z true) q in
       record {
         accepted = not_long max n (then_also spelled a b) (merged-size n k) l;
         changes = both;
-        over = q ∙ (ap (lengths spelled) p ∙ ap (λ z. lengths spelled (map_over spelled b z false)) e);
-        back = r ∙ (ap (λ z. map_over counted z f true) e ∙ ap (λ z. map_over counted (lengths spelled a) z true) g);
+        moved = moved ∙ ap (λ z. map_over spelled b z false) e;
+        mine = p ∙ e;
+        theirs = q ∙ g;
         starts = ap old_size both ∙ also-old a b h;
-        over_old = ap old_size q ∙ (old_size-lengths spelled moved ∙ (ap old_size p ∙ sym (also-meets a b d e h)));
-        over_new = ap (new_size counted) q ∙ (new_size-lengths spelled moved ∙ (ap (new_size spelled) p ∙ (also-moved a b d e h ∙ ap (new_size spelled) (sym both))));
-        back_old = ap old_size r ∙ (old_size-map_over counted d f true (sym described) ∙ (ap (new_size counted) g ∙ new_size-lengths spelled b));
-        back_new = ap (new_size counted) r ∙ (back-size ∙ ap (new_size spelled) (sym both));
+        moved_old = ap old_size moved ∙ sym (also-meets a b d e h);
+        moved_new = ap (new_size spelled) moved ∙ (also-moved a b d e h ∙ ap (new_size spelled) (sym both));
+        back_old = ap old_size back ∙ (old_size-map_over counted d f true (sym described) ∙ (ap (new_size counted) g ∙ new_size-lengths spelled b));
+        back_new = ap (new_size counted) back ∙ (back-size ∙ ap (new_size spelled) (sym both));
       }
+
+-- what the meeting says of the lengths of the way back
+pub back-fits : (max : ℕ) (a b : Changes) (m : Meeting) → max < 2 ^ 32 → IsMeeting max a b m → new_size counted (back_of m) < 2 ^ 32
+back-fits max a b m l h =
+    let s : new_size spelled (then_also spelled a b) ≤ max = is-short max (then_also spelled a b) h.accepted in
+    omega (arith, h.back_new, ap (new_size spelled) h.changes, s, l)
+
+pub meeting-meets : (max : ℕ) (a b : Changes) (m : Meeting) → old_size b ≡ old_size a → IsMeeting max a b m → old_size m.theirs ≡ old_size m.mine
+meeting-meets max a b m e h =
+    ap old_size h.theirs ∙ (old_size-lengths spelled b ∙ (e ∙ (sym (old_size-lengths spelled a) ∙ ap old_size (sym h.mine))))

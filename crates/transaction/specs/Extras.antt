@@ -1,31 +1,37 @@
 -- What private clauses say of what a draft has beside its changes.
-use Rattle.std.specs.Prelude.{◌≡◌, ℕ, ◌&&◌, List, ◌++◌, Option}
+use Rattle.std.specs.Prelude.{ℕ, ◌&&◌, List, ◌++◌, option_map}
+use Rattle.std.specs.Option.{option_or}
 use Rattle.change_desc.specs.declared.section.Section.{Section}
-use Rattle.change_desc.specs.Sections.{counted, new_size}
+use Rattle.selection.specs.Selections.{moved_selection}
 use Rattle.transaction.specs.declared.draft.Draft.{Draft}
+use Rattle.transaction.specs.declared.effect_kinds.EffectKinds.{EffectKinds}
 use Rattle.transaction.specs.declared.extras.Extras.{Extras}
-use Rattle.transaction.specs.Merging.{Changes, SelectionIn, ValueMap, moved_effects, moved_given, or_before}
+use Rattle.transaction.specs.Effects.{ValueMap, moved_effects}
+use Rattle.transaction.specs.Merging.{Changes}
 
--- a draft in two parts
-pub record IsParted {V : Type 0} (d : Draft V) (changes : Changes) (e : Extras V) : Type 0 where
-  pub changes_is : d.changes ≡ changes
-  pub selection : d.selection ≡ e.selection
-  pub effects : d.effects.items ≡ e.effects.items
-  pub annotations : d.annotations.items ≡ e.annotations.items
-  pub filter : d.filter ≡ e.filter
+-- a draft in two parts, and of two parts
+abbrev pub extras_of : {V : Type 0} → Draft V → Extras V
+extras_of d = record { selection = d.selection; effects = d.effects; annotations = d.annotations; filter = d.filter }
+
+abbrev pub draft_of : {V : Type 0} → Changes → Extras V → Draft V
+draft_of changes e = record { changes = changes; selection = e.selection; effects = e.effects; annotations = e.annotations; filter = e.filter }
 
 -- after further changes
-pub record IsMoved {V : Type 0} (kinds : List (Option ℕ)) (map_value : ValueMap V) (over : List (Section ℕ)) (e m : Extras V) : Type 0 where
-  pub selection : m.selection ≡ moved_given over e.selection
-  pub effects : m.effects.items ≡ moved_effects kinds map_value over e.effects.items
-  pub annotations : m.annotations.items ≡ e.annotations.items
-  pub filter : m.filter ≡ e.filter
-  pub inside : SelectionIn (new_size counted over) m.selection
+abbrev pub moved_extras : {V : Type 0} → EffectKinds → ValueMap V → List (Section ℕ) → Extras V → Extras V
+moved_extras kinds map_value over e =
+    record {
+      selection = option_map (moved_selection over) e.selection;
+      effects = moved_effects kinds map_value over e.effects;
+      annotations = e.annotations;
+      filter = e.filter;
+    }
 
 -- one after the other
-pub record IsThen {V : Type 0} (a b r : Extras V) : Type 0 where
-  pub selection : r.selection ≡ or_before b.selection a.selection
-  pub effects : r.effects.items ≡ a.effects.items ++ b.effects.items
-  pub annotations : r.annotations.items ≡ a.annotations.items ++ b.annotations.items
-  pub filter : r.filter ≡ (a.filter && b.filter)
-  pub inside : (len : ℕ) → SelectionIn len b.selection → SelectionIn len a.selection → SelectionIn len r.selection
+abbrev pub both_extras : {V : Type 0} → Extras V → Extras V → Extras V
+both_extras a b =
+    record {
+      selection = option_or b.selection a.selection;
+      effects = a.effects ++ b.effects;
+      annotations = a.annotations ++ b.annotations;
+      filter = a.filter && b.filter;
+    }

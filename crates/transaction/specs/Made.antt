@@ -8,8 +8,8 @@ use Rattle.transaction.specs.declared.spec.Made.{Made}
 use Rattle.transaction.specs.declared.spec.MadeSelection.{MadeSelection}
 use Rattle.transaction.specs.declared.spec.SelectionSpec.{SelectionSpec}
 use Rattle.transaction.specs.declared.spec.Spec.{Spec}
-use Rattle.transaction.specs.Specs.{seen}
-use Rattle.transaction.specs.Merging.{SelectionIn, given_selection, spec_draft}
+use Rattle.transaction.specs.Specs.{all_annotations}
+use Rattle.transaction.specs.Merging.{Changes, SelectionIn, given_selection, spec_draft}
 use Rattle.transaction.specs.Refusals.{given_refusal}
 
 -- the selection and the refusal are those of the given ranges
@@ -18,6 +18,12 @@ pub record IsMadeSelection (len : ℕ) (given : Option SelectionSpec) (m : MadeS
   pub value : m.refusal ≡ None → m.selection ≡ given_selection given
   pub inside : SelectionIn len m.selection
 
+-- a spec as a draft of these changes, with a selection that was made
+pub record IsWith {V : Type 0} (own : Changes) (given : MadeSelection) (s : Spec V) (m : Made V) : Type 0 where
+  pub draft : m.draft ≡ record { changes = own; selection = given.selection; effects = s.effects; annotations = all_annotations s; filter = s.filter }
+  pub refusal : m.refusal ≡ given.refusal
+  pub sequential : m.sequential ≡ s.sequential
+
 -- the draft and the refusal are those of the spec
 pub record IsMade {V : Type 0} (start max : ℕ) (s : Spec V) (m : Made V) : Type 0 where
   pub accepted : refusal start max s.changes ≡ None
@@ -25,6 +31,6 @@ pub record IsMade {V : Type 0} (start max : ℕ) (s : Spec V) (m : Made V) : Typ
   pub starts : old_size m.draft.changes ≡ start
   pub short : new_size spelled m.draft.changes ≤ max
   pub refusal : m.refusal ≡ given_refusal (new_size spelled m.draft.changes) s.selection
-  pub value : m.refusal ≡ None → seen m.draft ≡ spec_draft (of spelled start (as_sets start s.changes)) s
+  pub value : m.refusal ≡ None → m.draft ≡ spec_draft (of spelled start (as_sets start s.changes)) s
   pub inside : SelectionIn (new_size spelled m.draft.changes) m.draft.selection
   pub sequential : m.sequential ≡ s.sequential

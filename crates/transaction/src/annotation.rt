@@ -1,7 +1,8 @@
-ghost use Rattle.std.specs.Prelude.{IfOk, ◌++◌, ◌≡◌};
-ghost use Rattle.transaction.specs.Specs.{event_annotation};
+ghost use Rattle.std.specs.Prelude.{IfOk, ◌≡◌};
+ghost use Rattle.transaction.specs.Specs.{with_event};
 
 use cm_plain::{Plain, Str};
+use listed::Listed;
 use std::alloc::{AllocError, Global};
 
 /// A value that a transaction carries by the name of its kind (Reference Manual, Annotation).
@@ -17,10 +18,10 @@ pub const USER_EVENT: [char; 9] = ['u', 's', 'e', 'r', 'E', 'v', 'e', 'n', 't'];
 /// The annotations with a user event after them.
 pub(crate) fn with_event(
     alloc: Global,
-    mut annotations: Vec<Annotation>,
+    mut annotations: Listed<Annotation>,
     event: Option<Str>,
-) -> Result<Vec<Annotation>, AllocError>
-    ensures { IfOk result (λ all. all.items ≡ annotations.items ++ event_annotation event) }
+) -> Result<Listed<Annotation>, AllocError>
+    ensures { IfOk result (λ all. all ≡ with_event annotations event) }
 {
     match event {
         None => Ok(annotations),

@@ -1,18 +1,20 @@
-ghost use Rattle.std.specs.Prelude.{IfErr, IfOk, None, Some, ◌≡◌, ◌≢◌};
+ghost use Rattle.std.specs.Prelude.{IfErr, IfOk, None, Some, ◌≡◌, ◌≢◌, ◌≤◌};
 ghost use Rattle.change_desc.specs.Algebra.{then_also};
 ghost use Rattle.change_desc.specs.Sections.{new_size, old_size, spelled};
-ghost use Rattle.transaction.specs.Merging.{IsDraft, SelectionIn, beside, followed, or_empty};
+ghost use Rattle.transaction.specs.Extras.{draft_of, extras_of};
+ghost use Rattle.transaction.specs.Frames.{IsFrame};
+ghost use Rattle.transaction.specs.Merging.{IsDraft, SelectionIn, beside, empty_draft, followed};
 ghost use Rattle.transaction.specs.Refusals.{too_long};
-ghost use Rattle.transaction.specs.Specs.{seen};
-ghost use Rattle.transaction.specs.Extras.{IsParted};
 
 use crate::annotation::Annotation;
 use crate::effect::Effect;
-use crate::effect_kinds::{EffectKinds, EffectMaps};
+use crate::effect_maps::EffectMaps;
 use crate::error::TransactionError;
 use crate::extras::Extras;
+use crate::frame::Frame;
 use crate::meeting::join_changes;
 use change_set::ChangeSet;
+use listed::Listed;
 use selection::Selection;
 use std::alloc::{AllocError, Global};
 
@@ -24,8 +26,8 @@ pub struct Draft<V> {
     /// The selection of the new document, if one was given.
     pub selection: Option<Selection>,
     /// They refer to the new document.
-    pub effects: Vec<Effect<V>>,
-    pub annotations: Vec<Annotation>,
+    pub effects: Listed<Effect<V>>,
+    pub annotations: Listed<Annotation>,
     /// Whether filters are asked.
     pub filter: bool,
 }
@@ -33,53 +35,39 @@ pub struct Draft<V> {
 impl<V: Drop> Draft<V> {
     /// The draft of no spec at all, over a document of `len` characters.
     pub(crate) fn empty(alloc: Global, len: u32) -> Result<Draft<V>, AllocError>
-        ensures value { IfOk result (λ draft. seen draft ≡ or_empty len None) }
+        ensures { IfOk result (λ draft. draft ≡ empty_draft len) }
     {
         Ok(Draft {
             changes: ChangeSet::empty(alloc, len)?,
             selection: None,
-            effects: Vec::new(alloc),
-            annotations: Vec::new(alloc),
+            effects: Listed::empty(alloc),
+            annotations: Listed::empty(alloc),
             filter: true,
         })
     }
 
-    /// Its changes, and what it has beside them.
-    fn parted(self) -> (ChangeSet, Extras<V>)
-        ensures { IsParted self result.0 result.1 }
+    /// What it has beside its changes.
+    fn extras(self) -> Extras<V>
+        ensures { result ≡ extras_of self }
     {
-        let Draft {
-            changes,
-            selection,
-            effects,
-            annotations,
-            filter,
-        } = self;
-        let extras = Extras {
-            selection,
-            effects,
-            annotations,
-            filter,
-        };
-        (changes, extras)
+        Extras {
+            selection: self.selection,
+            effects: self.effects,
+            annotations: self.annotations,
+            filter: self.filter,
+        }
     }
 
     /// The draft of these parts.
     fn of(changes: ChangeSet, extras: Extras<V>) -> Draft<V>
-        ensures { IsParted result changes extras }
+        ensures { result ≡ draft_of changes extras }
     {
-        let Extras {
-            selection,
-            effects,
-            annotations,
-            filter,
-        } = extras;
         Draft {
             changes,
-            selection,
-            effects,
-            annotations,
-            filter,
+            selection: extras.selection,
+            effects: extras.effects,
+            annotations: extras.annotations,
+            filter: extras.filter,
         }
     }
 
@@ -88,21 +76,22 @@ impl<V: Drop> Draft<V> {
         self,
         alloc: Global,
         next: Draft<V>,
-        kinds: &EffectKinds,
-        maps: &M,
+        frame: &Frame<M>,
     ) -> Result<Draft<V>, AllocError>
         requires meet { new_size spelled self.changes ≡ old_size next.changes }
         requires inside { SelectionIn (new_size spelled self.changes) self.selection }
         requires next_inside { SelectionIn (new_size spelled next.changes) next.selection }
-        ensures value { IfOk result (λ draft. seen draft ≡ followed kinds.now.maps.items (M.map_value maps.now) (seen self) (seen next)) }
-        ensures is_draft { IfOk result (λ draft. IsDraft (old_size self.changes) (seen draft)) }
+        requires frame { IsFrame (M.map_count frame.now.maps.now) frame.now.kinds.now frame.now.max }
+        requires short { new_size spelled self.changes ≤ frame.now.max }
+        requires next_short { new_size spelled next.changes ≤ frame.now.max }
+        ensures value { IfOk result (λ draft. draft ≡ followed frame.now.kinds.now (M.map_value frame.now.maps.now) self next) }
+        ensures is_draft { IfOk result (λ draft. IsDraft (old_size self.changes) draft) }
     {
-        let (mine, first) = self.parted();
-        let (theirs, second) = next.parted();
-        let over = theirs.desc()?;
-        let changes = mine.compose(&theirs)?;
-        let moved = first.moved(alloc, &over, kinds, maps)?;
-        let extras = moved.and_then(second)?;
+        let over = next.changes.desc()?;
+        let changes = self.changes.compose(&next.changes)?;
+        let first = self.extras();
+        let second = next.extras();
+        let extras = first.followed(alloc, second, &over, frame)?;
         Ok(Draft::of(changes, extras))
     }
 
@@ -111,24 +100,23 @@ impl<V: Drop> Draft<V> {
         self,
         alloc: Global,
         next: Draft<V>,
-        max: u32,
-        kinds: &EffectKinds,
-        maps: &M,
+        frame: &Frame<M>,
     ) -> Result<Draft<V>, TransactionError>
         requires meet { old_size next.changes ≡ old_size self.changes }
         requires inside { SelectionIn (new_size spelled self.changes) self.selection }
         requires next_inside { SelectionIn (new_size spelled next.changes) next.selection }
-        ensures value { IfOk result (λ draft. seen draft ≡ beside kinds.now.maps.items (M.map_value maps.now) (seen self) (seen next)) }
-        ensures is_draft { IfOk result (λ draft. IsDraft (old_size self.changes) (seen draft)) }
-        ensures accepted { IfOk result (λ _. too_long max (then_also spelled self.changes next.changes) ≡ None) }
-        ensures refused { IfErr result (λ error. error ≢ TransactionError.NoMemory → too_long max (then_also spelled self.changes next.changes) ≡ Some error) }
+        requires frame { IsFrame (M.map_count frame.now.maps.now) frame.now.kinds.now frame.now.max }
+        requires short { new_size spelled self.changes ≤ frame.now.max }
+        requires next_short { new_size spelled next.changes ≤ frame.now.max }
+        ensures value { IfOk result (λ draft. draft ≡ beside frame.now.kinds.now (M.map_value frame.now.maps.now) self next) }
+        ensures is_draft { IfOk result (λ draft. IsDraft (old_size self.changes) draft) }
+        ensures accepted { IfOk result (λ _. too_long frame.now.max (then_also spelled self.changes next.changes) ≡ None) }
+        ensures refused { IfErr result (λ error. error ≢ TransactionError.NoMemory → too_long frame.now.max (then_also spelled self.changes next.changes) ≡ Some error) }
     {
-        let (mine, first) = self.parted();
-        let (theirs, second) = next.parted();
-        let both = join_changes(&mine, &theirs, max)?;
-        let moved = first.moved(alloc, &both.over, kinds, maps)?;
-        let others = second.moved(alloc, &both.back, kinds, maps)?;
-        let extras = moved.and_then(others)?;
+        let both = join_changes(&self.changes, &next.changes, frame.max)?;
+        let first = self.extras();
+        let second = next.extras();
+        let extras = first.beside(alloc, second, &both, frame)?;
         Ok(Draft::of(both.changes, extras))
     }
 }

@@ -1,41 +1,36 @@
-ghost use Rattle.std.specs.Prelude.{IfOk, List, ltb, Option, length, ℕ, ◌≡◌};
-ghost use Rattle.transaction.specs.Merging.{map_of};
-ghost use Rattle.change_desc.specs.declared.section.Section.{Section};
+ghost use Rattle.std.specs.Prelude.{length, ltb, ◌≡◌};
+ghost use Rattle.transaction.specs.Effects.{map_of};
 
-use change_desc::Desc;
-use std::alloc::AllocError;
+use listed::Listed;
 
-/// The effect kinds that are known: a kind's id is its place in the list, and it may have a map, which goes by a number.
+/// What is declared and can be named by effects.
 #[derive(Drop)]
 pub struct EffectKinds {
-    pub maps: Vec<Option<u32>>,
+    /// The effect kinds: a kind's id is its place in the list, and it may have a map, which goes by a number.
+    pub maps: Listed<Option<u32>>,
+    /// How many compartments there are; their ids run from 0.
+    pub compartments: u32,
 }
 
 impl EffectKinds {
     /// Whether there is a kind of this id.
     pub fn knows(&self, id: u32) -> bool
-        ensures { result ≡ ltb id (length self.now.maps.items) }
+        ensures { result ≡ ltb id (length self.now.maps) }
     {
-        (id as usize) < self.maps.len()
+        (id as usize) < self.maps.as_slice().len()
     }
 
     /// The number of a kind's map, if it has one.
     pub fn map_of(&self, id: u32) -> Option<u32>
-        ensures { result ≡ map_of self.now.maps.items id }
+        ensures { result ≡ map_of self.now.maps id }
     {
-        if !self.knows(id) {
-            return None;
-        }
-        self.maps[id as usize]
+        number_at(self.maps.as_slice(), id)
     }
 }
 
-/// What the maps of effects do (Reference Manual, StateEffect.map).
-pub trait EffectMaps<V> {
-    /// The value after changes, or none where it is dropped, by the map's number.
-    ghost map_value: { Self → ℕ → V → List (Section ℕ) → Option V };
-
-    /// What the map of this number makes of a value over changes. `None`: the effect is dropped. `Err`: out of memory.
-    fn map(&self, number: u32, value: V, changes: &Desc) -> Result<Option<V>, AllocError>
-        ensures { IfOk result (λ answer. answer ≡ map_value self.now number value changes.now) };
+/// The number at a place of a list, if there is one.
+pub(crate) fn number_at(numbers: &[Option<u32>], at: u32) -> Option<u32>
+    ensures { result ≡ map_of numbers.now at }
+{
+    numbers.get(at as usize).copied().flatten()
 }

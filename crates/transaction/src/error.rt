@@ -49,6 +49,11 @@ pub enum TransactionError {
     UnknownEffect {
         id: u32,
     },
+    /// No compartment has this id.
+    #[error("no compartment has the id {id}")]
+    UnknownCompartment {
+        id: u32,
+    },
     /// Out of memory.
     #[error("out of memory")]
     NoMemory,

@@ -1,72 +1,52 @@
-ghost use Rattle.std.specs.Prelude.{IfErr, IfOk, None, Some, [], length, ◌∷◌, ◌≡◌, ◌≢◌, ◌≤◌};
+ghost use Rattle.std.specs.Prelude.{IfErr, IfOk, None, Some, [], ◌∷◌, ◌≡◌, ◌≢◌, ◌≤◌};
 ghost use Rattle.change_desc.specs.Sections.{new_size, old_size, spelled};
-ghost use Rattle.transaction.specs.Merging.{IsDraft, SelectionIn, merged, next_total, or_before, start_len, with_spec};
-ghost use Rattle.transaction.specs.Refusals.{spec_changes_refusal, specs_refusal, too_long};
-ghost use Rattle.transaction.specs.Specs.{seen};
-ghost use Rattle.transaction.specs.Steps.{Advances, Follows, IsBefore, changes_seen};
+ghost use Rattle.transaction.specs.Frames.{IsFrame};
+ghost use Rattle.transaction.specs.Merging.{IsDraft, SelectionIn, merged, next_total, start_len, with_spec};
+ghost use Rattle.transaction.specs.Refusals.{spec_changes_refusal, specs_refusal, too_long, unknown_effect, unknown_in};
+ghost use Rattle.transaction.specs.Steps.{Advances, Follows, IsBefore, changes_before};
 
 use crate::draft::Draft;
-use crate::effect_kinds::{EffectKinds, EffectMaps};
+use crate::effect_maps::EffectMaps;
 use crate::error::TransactionError;
+use crate::frame::Frame;
 use crate::spec::{Spec, unknown_effect};
 use std::alloc::Global;
 
 /// How long the document is that a spec starts in.
 fn start_len<V>(before: &Option<Draft<V>>, sequential: bool, len: u32) -> u32
-    ensures { result ≡ start_len len (changes_seen before.now) sequential }
+    ensures { result ≡ start_len len (changes_before before.now) sequential }
 {
     match before {
-        None => len,
-        Some(draft) => {
-            if sequential {
-                draft.changes.new_len()
-            } else {
-                len
-            }
-        }
+        Some(draft) if sequential => draft.changes.new_len(),
+        _ => len,
     }
 }
 
 /// A spec's draft after what was done before.
-fn behind<V: Drop, M: EffectMaps<V>>(
+fn after<V: Drop, M: EffectMaps<V>>(
     alloc: Global,
     before: Option<Draft<V>>,
     next: Draft<V>,
     sequential: bool,
-    len: u32,
-    max: u32,
-    kinds: &EffectKinds,
-    maps: &M,
+    frame: &Frame<M>,
 ) -> Result<Draft<V>, TransactionError>
-    requires before { IsBefore len before }
-    requires starts { old_size next.changes ≡ start_len len (changes_seen before) sequential }
-    requires short { new_size spelled next.changes ≤ max }
+    requires frame { IsFrame (M.map_count frame.now.maps.now) frame.now.kinds.now frame.now.max }
+    requires before { IsBefore frame.now.len frame.now.max before }
+    requires starts { old_size next.changes ≡ start_len frame.now.len (changes_before before) sequential }
+    requires short { new_size spelled next.changes ≤ frame.now.max }
     requires inside { SelectionIn (new_size spelled next.changes) next.selection }
-    ensures draft { IfOk result (λ draft. Follows len max kinds.now.maps.items (M.map_value maps.now) before sequential next draft) }
-    ensures refused { IfErr result (λ error. error ≢ TransactionError.NoMemory → too_long max (next_total (changes_seen before) sequential next.changes) ≡ Some error) }
+    ensures draft { IfOk result (λ draft. Follows frame.now.len frame.now.max frame.now.kinds.now (M.map_value frame.now.maps.now) before sequential next draft) }
+    ensures refused { IfErr result (λ error. error ≢ TransactionError.NoMemory → too_long frame.now.max (next_total (changes_before before) sequential next.changes) ≡ Some error) }
 {
     match before {
         None => Ok(next),
         Some(draft) => {
             if sequential {
-                Ok(draft.followed(alloc, next, kinds, maps)?)
+                Ok(draft.followed(alloc, next, frame)?)
             } else {
-                draft.beside(alloc, next, max, kinds, maps)
+                draft.beside(alloc, next, frame)
             }
         }
-    }
-}
-
-/// The refusal that came before, else the later one.
-fn earlier(
-    before: Option<TransactionError>,
-    later: Option<TransactionError>,
-) -> Option<TransactionError>
-    ensures { result ≡ or_before before later }
-{
-    match before {
-        Some(error) => Some(error),
-        None => later,
     }
 }
 
@@ -76,57 +56,62 @@ fn advance<V: Drop, M: EffectMaps<V>>(
     before: Option<Draft<V>>,
     spec: Spec<V>,
     refusal: &mut Option<TransactionError>,
-    len: u32,
-    max: u32,
-    kinds: &EffectKinds,
-    maps: &M,
+    frame: &Frame<M>,
 ) -> Result<Draft<V>, TransactionError>
-    requires { IsBefore len before }
-    ensures draft { IfOk result (λ draft. Advances len max kinds.now.maps.items (M.map_value maps.now) before spec refusal.old refusal.new draft) }
-    ensures refused { IfErr result (λ error. error ≢ TransactionError.NoMemory → spec_changes_refusal len max (changes_seen before) spec ≡ Some error) }
+    requires frame { IsFrame (M.map_count frame.now.maps.now) frame.now.kinds.now frame.now.max }
+    requires before { IsBefore frame.now.len frame.now.max before }
+    ensures draft { IfOk result (λ draft. Advances frame.now.len frame.now.max frame.now.kinds.now (M.map_value frame.now.maps.now) before spec refusal.old refusal.new draft) }
+    ensures refused { IfErr result (λ error. error ≢ TransactionError.NoMemory → spec_changes_refusal frame.now.len frame.now.max (changes_before before) spec ≡ Some error) }
 {
-    let start = start_len(&before, spec.sequential, len);
-    let made = match spec.made(alloc, start, max) {
+    let start = start_len(&before, spec.sequential, frame.len);
+    let made = match spec.made(alloc, start, frame.max) {
         Ok(made) => made,
         Err(error) => return Err(error),
     };
-    *refusal = earlier(refusal.take(), made.refusal);
-    behind(
-        alloc,
-        before,
-        made.draft,
-        made.sequential,
-        len,
-        max,
-        kinds,
-        maps,
-    )
+    *refusal = refusal.take().or(made.refusal);
+    after(alloc, before, made.draft, made.sequential, frame)
 }
 
-/// Merges specs in order over a start document of `len` characters, where no document may have more than `max` (Reference
-/// Manual, EditorState.update, before filters). The first refusal in this order counts: an effect of no known kind; of the specs
-/// in order a change that is refused, and then merged changes that lead to a document that is too long; of the specs in order a
-/// selection that is refused.
+/// Merges specs in order over the start document, where no document may have more characters than the frame says (Reference
+/// Manual, EditorState.update, before filters). The first refusal in this order counts: an effect of an unknown kind or on an
+/// unknown compartment; of the specs in order a change that is refused, and then merged changes that lead to a document that
+/// is too long; of the specs in order a selection that is refused.
 pub fn resolve<V: Drop, M: EffectMaps<V>>(
     alloc: Global,
     specs: Vec<Spec<V>>,
-    len: u32,
-    max: u32,
-    kinds: &EffectKinds,
-    maps: &M,
+    frame: &Frame<M>,
 ) -> Result<Draft<V>, TransactionError>
-    ensures draft { IfOk result (λ draft. seen draft ≡ merged kinds.now.maps.items (M.map_value maps.now) len specs.items) }
-    ensures is_draft { IfOk result (λ draft. IsDraft len (seen draft)) }
-    ensures accepted { IfOk result (λ _. specs_refusal len max (length kinds.now.maps.items) None specs.items ≡ None) }
-    ensures refused { IfErr result (λ error. error ≢ TransactionError.NoMemory → specs_refusal len max (length kinds.now.maps.items) None specs.items ≡ Some error) }
+    requires { IsFrame (M.map_count frame.now.maps.now) frame.now.kinds.now frame.now.max }
+    ensures draft { IfOk result (λ draft. draft ≡ merged frame.now.kinds.now (M.map_value frame.now.maps.now) frame.now.len specs.items) }
+    ensures is_draft { IfOk result (λ draft. IsDraft frame.now.len draft) }
+    ensures short { IfOk result (λ draft. frame.now.len ≤ frame.now.max → new_size spelled draft.changes ≤ frame.now.max) }
+    ensures accepted { IfOk result (λ _. specs_refusal frame.now.len frame.now.max frame.now.kinds.now None specs.items ≡ None) }
+    ensures refused { IfErr result (λ error. error ≢ TransactionError.NoMemory → specs_refusal frame.now.len frame.now.max frame.now.kinds.now None specs.items ≡ Some error) }
 {
-    if let Some(id) = unknown_effect(&specs, kinds) {
-        return Err(TransactionError::UnknownEffect { id });
+    match unknown_effect(&specs, frame.kinds) {
+        Some(error) => Err(error),
+        None => resolve_known(alloc, specs, frame),
     }
+}
+
+/// The same, where all kinds and compartments that effects name are known.
+fn resolve_known<V: Drop, M: EffectMaps<V>>(
+    alloc: Global,
+    specs: Vec<Spec<V>>,
+    frame: &Frame<M>,
+) -> Result<Draft<V>, TransactionError>
+    requires frame { IsFrame (M.map_count frame.now.maps.now) frame.now.kinds.now frame.now.max }
+    requires known { unknown_effect frame.now.kinds.now specs.items ≡ None }
+    ensures draft { IfOk result (λ draft. draft ≡ merged frame.now.kinds.now (M.map_value frame.now.maps.now) frame.now.len specs.items) }
+    ensures is_draft { IfOk result (λ draft. IsDraft frame.now.len draft) }
+    ensures short { IfOk result (λ draft. frame.now.len ≤ frame.now.max → new_size spelled draft.changes ≤ frame.now.max) }
+    ensures accepted { IfOk result (λ _. specs_refusal frame.now.len frame.now.max frame.now.kinds.now None specs.items ≡ None) }
+    ensures refused { IfErr result (λ error. error ≢ TransactionError.NoMemory → specs_refusal frame.now.len frame.now.max frame.now.kinds.now None specs.items ≡ Some error) }
+{
     let mut draft = None;
     let mut refusal = None;
     for spec in specs {
-        match advance(alloc, draft, spec, &mut refusal, len, max, kinds, maps) {
+        match advance(alloc, draft, spec, &mut refusal, frame) {
             Ok(next) => draft = Some(next),
             Err(error) => return Err(error),
         }
@@ -136,45 +121,56 @@ pub fn resolve<V: Drop, M: EffectMaps<V>>(
     }
     match draft {
         Some(draft) => Ok(draft),
-        None => Ok(Draft::empty(alloc, len)?),
+        None => Ok(Draft::empty(alloc, frame.len)?),
     }
 }
 
-/// Merges one more spec with a draft over a start document of `len` characters. The refusals are those of `resolve`.
-pub fn merge<V: Drop, M: EffectMaps<V>>(
+/// Merges one more spec, whose effects are known, with a draft over the start document.
+fn merge_known<V: Drop, M: EffectMaps<V>>(
     alloc: Global,
     draft: Draft<V>,
     spec: Spec<V>,
-    len: u32,
-    max: u32,
-    kinds: &EffectKinds,
-    maps: &M,
+    frame: &Frame<M>,
 ) -> Result<Draft<V>, TransactionError>
-    requires { IsDraft len (seen draft) }
-    ensures draft { IfOk result (λ both. seen both ≡ with_spec kinds.now.maps.items (M.map_value maps.now) len (Some (seen draft)) spec) }
-    ensures is_draft { IfOk result (λ both. IsDraft len (seen both)) }
-    ensures accepted { IfOk result (λ _. specs_refusal len max (length kinds.now.maps.items) (Some draft.changes) (spec ∷ []) ≡ None) }
-    ensures refused { IfErr result (λ error. error ≢ TransactionError.NoMemory → specs_refusal len max (length kinds.now.maps.items) (Some draft.changes) (spec ∷ []) ≡ Some error) }
+    requires frame { IsFrame (M.map_count frame.now.maps.now) frame.now.kinds.now frame.now.max }
+    requires before { IsDraft frame.now.len draft }
+    requires short { new_size spelled draft.changes ≤ frame.now.max }
+    requires known { unknown_in frame.now.kinds.now spec.effects ≡ None }
+    ensures draft { IfOk result (λ both. both ≡ with_spec frame.now.kinds.now (M.map_value frame.now.maps.now) frame.now.len (Some draft) spec) }
+    ensures is_draft { IfOk result (λ both. IsDraft frame.now.len both) }
+    ensures short { IfOk result (λ both. new_size spelled both.changes ≤ frame.now.max) }
+    ensures accepted { IfOk result (λ _. specs_refusal frame.now.len frame.now.max frame.now.kinds.now (Some draft.changes) (spec ∷ []) ≡ None) }
+    ensures refused { IfErr result (λ error. error ≢ TransactionError.NoMemory → specs_refusal frame.now.len frame.now.max frame.now.kinds.now (Some draft.changes) (spec ∷ []) ≡ Some error) }
 {
-    if let Some(id) = spec.unknown_effect(kinds) {
-        return Err(TransactionError::UnknownEffect { id });
-    }
     let mut refusal = None;
-    let both = match advance(
-        alloc,
-        Some(draft),
-        spec,
-        &mut refusal,
-        len,
-        max,
-        kinds,
-        maps,
-    ) {
+    let both = match advance(alloc, Some(draft), spec, &mut refusal, frame) {
         Ok(both) => both,
         Err(error) => return Err(error),
     };
     match refusal {
         None => Ok(both),
         Some(error) => Err(error),
+    }
+}
+
+/// Merges one more spec with a draft over the start document. The refusals are those of `resolve`.
+pub fn merge<V: Drop, M: EffectMaps<V>>(
+    alloc: Global,
+    draft: Draft<V>,
+    spec: Spec<V>,
+    frame: &Frame<M>,
+) -> Result<Draft<V>, TransactionError>
+    requires frame { IsFrame (M.map_count frame.now.maps.now) frame.now.kinds.now frame.now.max }
+    requires before { IsDraft frame.now.len draft }
+    requires short { new_size spelled draft.changes ≤ frame.now.max }
+    ensures draft { IfOk result (λ both. both ≡ with_spec frame.now.kinds.now (M.map_value frame.now.maps.now) frame.now.len (Some draft) spec) }
+    ensures is_draft { IfOk result (λ both. IsDraft frame.now.len both) }
+    ensures short { IfOk result (λ both. new_size spelled both.changes ≤ frame.now.max) }
+    ensures accepted { IfOk result (λ _. specs_refusal frame.now.len frame.now.max frame.now.kinds.now (Some draft.changes) (spec ∷ []) ≡ None) }
+    ensures refused { IfErr result (λ error. error ≢ TransactionError.NoMemory → specs_refusal frame.now.len frame.now.max frame.now.kinds.now (Some draft.changes) (spec ∷ []) ≡ Some error) }
+{
+    match spec.unknown_effect(frame.kinds) {
+        Some(error) => Err(error),
+        None => merge_known(alloc, draft, spec, frame),
     }
 }

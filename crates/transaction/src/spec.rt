@@ -1,11 +1,7 @@
-ghost use Rattle.std.specs.Prelude.{IfErr, IfOk, None, Option, Some, length, ◌≡◌, ◌≤◌, ◌≢◌};
-ghost use Rattle.change_desc.specs.Algebra.{of};
-ghost use Rattle.change_desc.specs.Sections.{new_size, old_size, spelled};
-ghost use Rattle.change_set.specs.Changes.{as_sets};
+ghost use Rattle.std.specs.Prelude.{IfErr, IfOk, Some, ◌≡◌, ◌≢◌, option_map};
 ghost use Rattle.change_set.specs.Refusals.{refusal};
-ghost use Rattle.transaction.specs.Merging.{SelectionIn, given_selection, spec_draft};
-ghost use Rattle.transaction.specs.Refusals.{changes_refused, given_refusal, unknown_effect, unknown_in, unknown_refused};
-ghost use Rattle.transaction.specs.Made.{IsMade, IsMadeSelection};
+ghost use Rattle.transaction.specs.Refusals.{of_changes_error, unknown_effect, unknown_in};
+ghost use Rattle.transaction.specs.Made.{IsMade, IsMadeSelection, IsWith};
 
 use crate::annotation::{Annotation, with_event};
 use crate::draft::Draft;
@@ -102,9 +98,9 @@ fn made_selection(
 }
 
 impl<V: Drop> Spec<V> {
-    /// The id of its first effect whose kind is not known.
-    pub(crate) fn unknown_effect(&self, kinds: &EffectKinds) -> Option<u32>
-        ensures { unknown_refused result ≡ unknown_in (length kinds.now.maps.items) self.now.effects }
+    /// The refusal of its first effect that names an unknown kind or compartment.
+    pub(crate) fn unknown_effect(&self, kinds: &EffectKinds) -> Option<TransactionError>
+        ensures { result ≡ unknown_in kinds.now self.now.effects }
     {
         first_unknown(self.effects.as_slice(), kinds)
     }
@@ -117,42 +113,44 @@ impl<V: Drop> Spec<V> {
         max: u32,
     ) -> Result<Made<V>, TransactionError>
         ensures made { IfOk result (λ made. IsMade start max self made) }
-        ensures refused { IfErr result (λ error. error ≢ TransactionError.NoMemory → changes_refused (refusal start max self.changes) ≡ Some error) }
+        ensures refused { IfErr result (λ error. error ≢ TransactionError.NoMemory → option_map of_changes_error (refusal start max self.changes) ≡ Some error) }
     {
-        let Spec {
-            changes,
-            selection,
-            effects,
-            annotations,
-            user_event,
-            sequential,
-            filter,
-        } = self;
-        let own = ChangeSet::of(alloc, changes.as_slice(), start, max)?;
-        let given = made_selection(alloc, &selection, own.new_len())?;
-        let MadeSelection { selection, refusal } = given;
-        let annotations = with_event(alloc, annotations.into_vec(), user_event)?;
+        let own = ChangeSet::of(alloc, self.changes.as_slice(), start, max)?;
+        let given = made_selection(alloc, &self.selection, own.new_len())?;
+        Ok(self.with(alloc, own, given)?)
+    }
+
+    /// The spec as a draft of these changes, with this selection.
+    fn with(
+        self,
+        alloc: Global,
+        own: ChangeSet,
+        given: MadeSelection,
+    ) -> Result<Made<V>, AllocError>
+        ensures { IfOk result (λ made. IsWith own given self made) }
+    {
+        let annotations = with_event(alloc, self.annotations, self.user_event)?;
         Ok(Made {
             draft: Draft {
                 changes: own,
-                selection,
-                effects: effects.into_vec(),
+                selection: given.selection,
+                effects: self.effects,
                 annotations,
-                filter,
+                filter: self.filter,
             },
-            refusal,
-            sequential,
+            refusal: given.refusal,
+            sequential: self.sequential,
         })
     }
 }
 
-/// The id of the first effect of some specs whose kind is not known.
-pub(crate) fn unknown_effect<V>(specs: &[Spec<V>], kinds: &EffectKinds) -> Option<u32>
-    ensures { unknown_refused result ≡ unknown_effect (length kinds.now.maps.items) specs.now }
+/// The refusal of the first effect of some specs that names an unknown kind or compartment.
+pub(crate) fn unknown_effect<V>(specs: &[Spec<V>], kinds: &EffectKinds) -> Option<TransactionError>
+    ensures { result ≡ unknown_effect kinds.now specs.now }
 {
     for spec in specs {
-        if let Some(id) = first_unknown(spec.effects.as_slice(), kinds) {
-            return Some(id);
+        if let Some(error) = first_unknown(spec.effects.as_slice(), kinds) {
+            return Some(error);
         }
     }
     None

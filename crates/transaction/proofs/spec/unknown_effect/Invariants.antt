@@ -1,6 +1,6 @@
-use Rattle.std.proofs.Common.{◌≡◌, drop, length}
+use Rattle.std.proofs.Common.{◌≡◌, drop}
 use Rattle.transaction.specs.Refusals.{unknown_effect}
 use Rattle.transaction.proofs.spec.unknown_effect.Given as goal
 
 abbrev pub invariant-loop-spec : goal.invariant-loop-spec
-invariant-loop-spec g l = unknown_effect (length l.kinds.maps.items) (drop l.spec-index l.specs) ≡ unknown_effect (length l.kinds.maps.items) l.specs
+invariant-loop-spec g l = unknown_effect l.kinds (drop l.spec-index l.specs) ≡ unknown_effect l.kinds l.specs

@@ -1,0 +1,14 @@
+//! Where changes of a document move the values of kept effects (Reference Manual, StateEffect.map): a position, a range, or
+//! neither.
+//!
+//! A layer above may rely on `mapped_value` and `moved_effects` giving exactly what their definitions name: a value that is no
+//! position or range of the old document stays or is dropped as the map says.
+#![tactic(auto)]
+
+mod moved;
+mod position;
+mod range;
+mod value;
+
+pub use moved::moved_effects;
+pub use value::mapped_value;

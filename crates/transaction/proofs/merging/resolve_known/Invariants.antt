@@ -1,0 +1,6 @@
+use Rattle.transaction.specs.Steps.{Progress}
+use Rattle.transaction.proofs.merging.resolve_known.Given as goal
+
+abbrev pub invariant-loop-spec : goal.invariant-loop-spec
+invariant-loop-spec g l =
+    Progress l.frame.len l.frame.max l.frame.kinds.now (g.M.EffectMaps.map_value l.frame.maps.now) l.fn.specs.items l.draft l.refusal l.spec-iterator.rest.items
