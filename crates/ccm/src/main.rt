@@ -27,17 +27,17 @@ fn words(rt: &(impl Env + AllocGlobal)) -> io::Result<Vec<Str>> {
     Ok(words)
 }
 
-/// What standard error gets under a status other than `Ok`.
-fn message_of(status: Status) -> &'static str {
+/// The line that standard error gets under a status, if it gets one.
+fn complaint(status: Status) -> Option<&'static str> {
     match status {
-        Status::Ok => "",
-        Status::Usage => "usage: ccm replay",
-        Status::ReadFault => "read fault",
-        Status::WriteFault => "write fault",
-        Status::StoreFault => "store fault",
-        Status::NoMemory => "out of memory",
-        Status::TooMuch => "input too long",
-        Status::BadFile => "file is not text",
+        Status::Ok => None,
+        Status::Usage => Some("ccm: usage: ccm replay"),
+        Status::ReadFault => Some("ccm: read fault"),
+        Status::WriteFault => Some("ccm: write fault"),
+        Status::StoreFault => Some("ccm: store fault"),
+        Status::NoMemory => Some("ccm: out of memory"),
+        Status::TooMuch => Some("ccm: input too long"),
+        Status::BadFile => Some("ccm: file is not text"),
     }
 }
 
@@ -49,8 +49,8 @@ fn main(rt: HostRuntime) -> ExitCode {
         Err(error) if error.kind() == io::ErrorKind::OutOfMemory => Status::NoMemory,
         Err(_) => Status::Usage,
     };
-    if status != Status::Ok {
-        let _ = eprintln!(rt; "ccm: {}", message_of(status));
+    if let Some(line) = complaint(status) {
+        let _ = eprintln!(rt; "{line}");
     }
     ExitCode::from(status.code())
 }

@@ -2,33 +2,35 @@
 use Rattle.std.specs.Prelude.{ℕ, List, [], ◌∷◌, Option, Result, Ok, Err, Bool, true, false, if◌then◌else◌, codes, pos, option_map}
 use Rattle.std.specs.Str.{chars, bytes_eq}
 use Rattle.serde_json.specs.Data.{Data, null, boolean, number, string, array, object, Members, no_members, member}
+use Rattle.cm_plain.specs.declared.plain.Plain.{Plain}
+use Rattle.line_tree.specs.Text.{cut}
+use Rattle.change_set.specs.declared.change.Change.{Change}
+use Rattle.change_set.specs.declared.change.Change.TheVariants.{Span}
 use Rattle.selection.specs.declared.range.Range.{Range}
 use Rattle.transaction.specs.declared.annotation.Annotation.{Annotation}
 use Rattle.transaction.specs.declared.spec.SelectionSpec.{SelectionSpec}
+use Rattle.transaction.specs.declared.spec.Spec.{Spec}
 use Rattle.change_desc.specs.declared.map_mode.MapMode.TheVariants.{Simple}
 use Rattle.script.specs.declared.refusal.Refusal.{Refusal}
 use Rattle.script.specs.declared.refusal.Refusal.TheVariants.{NotCommand}
-use Rattle.script.specs.declared.change.Change.{Change}
-use Rattle.script.specs.declared.spec.Spec.{Spec}
 use Rattle.script.specs.declared.map_request.MapSets.{MapSets}
 use Rattle.script.specs.declared.map_request.MapPlace.{MapPlace}
 use Rattle.script.specs.declared.map_request.MapOp.{MapOp}
 use Rattle.script.specs.declared.command.Command.{Command}
 use Rattle.script.specs.declared.command.Command.TheVariants.{Start, Update, Text, Selection, Map}
-use Rattle.script.specs.Reading.{◌>>=◌, required, defaulted, optional, text_at, number_at, side_at, flag_at, item_at, no_item_at, members_at, only, list_of}
-use Rattle.script.specs.Values.{value_at}
+use Rattle.script.specs.Reading.{◌>>=◌, required, defaulted, optional, text_at, number_at, side_at, flag_at, item_at, no_item_at, members_at, only, list_of, number_member, text_member}
+use Rattle.script.specs.Values.{value_member}
 use Rattle.script.specs.Words.{op_at, mode_at}
 
--- an item of a list of changes, {from, to (default from), insert (default "")}
+-- an item of a list of changes, {from, to (default from), insert (default "")}, whose text is cut at its line breaks
 unfoldable pub change_of : List ℕ → Data → Result Change Refusal
 change_of name d = do
   members ← members_at name d
-  start ← required (codes "from") d
-  from ← number_at (codes "from") start
+  from ← number_member (codes "from") d
   to ← defaulted (codes "to") number_at from d
   insert ← defaulted (codes "insert") text_at [] d
   known ← only (codes "from" ∷ codes "to" ∷ codes "insert" ∷ []) members
-  Ok (record { from = from; to = to; insert = insert })
+  Ok (Span from to (cut insert))
 
 -- an item of a list of ranges, [from, to]
 unfoldable pub range_of : List ℕ → Data → Result (ℕ × ℕ) Refusal
@@ -69,10 +71,8 @@ given_selection_of d = do
 unfoldable pub annotation_of : List ℕ → Data → Result Annotation Refusal
 annotation_of name d = do
   members ← members_at name d
-  word ← required (codes "type") d
-  kind ← text_at (codes "type") word
-  given ← required (codes "value") d
-  value ← value_at (codes "value") given
+  kind ← text_member (codes "type") d
+  value ← value_member (codes "value") d
   known ← only (codes "type" ∷ codes "value" ∷ []) members
   Ok (record { kind = kind; value = value })
 
@@ -90,8 +90,8 @@ flags_of d = do
   filter ← defaulted (codes "filter") flag_at true d
   Ok (sequential, filter)
 
--- an item of a list of specs, {changes (default []), selection, main, annotations, userEvent, sequential, filter}
-unfoldable pub spec_of : List ℕ → Data → Result Spec Refusal
+-- an item of a list of specs, which has no effects: {changes (default []), selection, main, annotations, userEvent, sequential, filter}
+unfoldable pub spec_of : List ℕ → Data → Result (Spec Plain) Refusal
 spec_of name d = do
   members ← members_at name d
   changes ← defaulted (codes "changes") (list_of change_of) [] d
@@ -99,7 +99,7 @@ spec_of name d = do
   notes ← notes_of d
   flags ← flags_of d
   known ← only (codes "changes" ∷ codes "selection" ∷ codes "main" ∷ codes "annotations" ∷ codes "userEvent" ∷ codes "sequential" ∷ codes "filter" ∷ []) members
-  Ok (record { changes = changes; selection = selection; annotations = notes.0; user_event = notes.1; sequential = flags.0; filter = flags.1 })
+  Ok (record { changes = changes; selection = selection; effects = []; annotations = notes.0; user_event = notes.1; sequential = flags.0; filter = flags.1 })
 
 -- `update`: a list of specs
 unfoldable pub update_of : Data → Result Command Refusal

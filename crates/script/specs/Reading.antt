@@ -66,6 +66,14 @@ number_at name d = or_bad name (option_and_then fits_u32 (option_and_then as_u64
 abbrev pub fits_i32 : ℤ → Option ℤ
 fits_i32 n = if int_le (negsuc 2147483647) n && int_le n (pos 2147483647) then Some n else None
 
+-- a member that has to be there and a text
+unfoldable pub text_member : List ℕ → Data → Result (List ℕ) Refusal
+text_member name d = required name d >>= text_at name
+
+-- a member that has to be there and a whole number that fits 32 bits
+unfoldable pub number_member : List ℕ → Data → Result ℕ Refusal
+number_member name d = required name d >>= number_at name
+
 -- a whole number with a sign that fits 32 bits
 unfoldable pub side_at : List ℕ → Data → Result ℤ Refusal
 side_at name d = or_bad name (option_and_then fits_i32 (option_and_then as_i64 (as_number d)))

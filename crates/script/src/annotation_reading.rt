@@ -1,9 +1,9 @@
 ghost use Rattle.script.specs.Command.{annotation_of};
 
-use crate::fields::{members, only_fields, required_member, text};
+use crate::fields::{members, only_fields, text_member};
 use crate::item::Item;
 use crate::refusal::LineError;
-use crate::value_reading::value;
+use crate::value_reading::value_member;
 use serde_json::Value;
 use std::alloc::Global;
 use transaction::Annotation;
@@ -14,8 +14,8 @@ impl Item for Annotation {
     #[tactic(auto, unfolding(crate::specs::Command::annotation_of))]
     fn read(alloc: Global, name: &str, object: &Value) -> Result<Annotation, LineError> {
         let members = members(alloc, name, object)?;
-        let kind = text(alloc, "type", required_member(alloc, "type", object)?)?;
-        let value = value(alloc, "value", required_member(alloc, "value", object)?)?;
+        let kind = text_member(alloc, "type", object)?;
+        let value = value_member(alloc, "value", object)?;
         only_fields(alloc, &["type", "value"], members)?;
         Ok(Annotation { kind, value })
     }

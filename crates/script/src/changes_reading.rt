@@ -1,13 +1,14 @@
 ghost use Rattle.serde_json.specs.View.{view};
 ghost use Rattle.script.specs.Command.{change_of, range_of};
 
-use crate::change::Change;
 use crate::fields::{
-    members, no_item, only_fields, position, position_or, required_item, required_member,
+    members, no_item, only_fields, position, position_or, required_item, required_position,
     text_or_empty,
 };
 use crate::item::Item;
 use crate::refusal::LineError;
+use crate::texts::inserted_text;
+use change_set::Change;
 use serde_json::Value;
 use std::alloc::Global;
 
@@ -17,11 +18,15 @@ impl Item for Change {
     #[tactic(auto, unfolding(crate::specs::Command::change_of))]
     fn read(alloc: Global, name: &str, value: &Value) -> Result<Change, LineError> {
         let members = members(alloc, name, value)?;
-        let from = position(alloc, "from", required_member(alloc, "from", value)?)?;
+        let from = required_position(alloc, "from", value)?;
         let to = position_or(alloc, "to", value, from)?;
         let insert = text_or_empty(alloc, "insert", value)?;
         only_fields(alloc, &["from", "to", "insert"], members)?;
-        Ok(Change { from, to, insert })
+        Ok(Change::Span {
+            from,
+            to,
+            insert: inserted_text(alloc, &insert)?,
+        })
     }
 }
 

@@ -1,6 +1,6 @@
 ghost use Rattle.std.specs.Prelude.{◌≡◌, [], map};
 ghost use Rattle.serde_json.specs.View.{view, items_view, members_view};
-ghost use Rattle.script.specs.Reading.{Gives, bad, required, optional, text_at, number_at, side_at, items_at, item_at, no_item_at, members_at, only, is_among, defaulted, flag_at};
+ghost use Rattle.script.specs.Reading.{Gives, bad, number_member, text_member, required, optional, text_at, number_at, side_at, items_at, item_at, no_item_at, members_at, only, is_among, defaulted, flag_at};
 
 use crate::refusal::{LineError, Refusal};
 use cm_plain::Str;
@@ -48,6 +48,24 @@ pub(crate) fn position(alloc: Global, name: &str, value: &Value) -> Result<u32, 
         Some(n) if n < 1 << 32 => Ok(n as u32),
         _ => refused(alloc, name),
     }
+}
+
+/// The text that the member of this name is, which has to be there.
+#[tactic(auto, unfolding(crate::specs::Reading::text_member))]
+pub(crate) fn text_member(alloc: Global, name: &str, value: &Value) -> Result<Str, LineError>
+    ensures { Gives (λ x. x) result (text_member name.now (view value.now)) }
+{
+    let member = required_member(alloc, name, value)?;
+    text(alloc, name, member)
+}
+
+/// The position that the member of this name is, which has to be there.
+#[tactic(auto, unfolding(crate::specs::Reading::number_member))]
+pub(crate) fn required_position(alloc: Global, name: &str, value: &Value) -> Result<u32, LineError>
+    ensures { Gives (λ x. x) result (number_member name.now (view value.now)) }
+{
+    let member = required_member(alloc, name, value)?;
+    position(alloc, name, member)
 }
 
 #[tactic(auto, unfolding(crate::specs::Reading::items_at))]

@@ -6,7 +6,6 @@
 #![tactic(auto)]
 
 mod annotation_reading;
-mod change;
 mod changes_reading;
 mod command;
 mod fields;
@@ -18,19 +17,16 @@ mod reading;
 mod refusal;
 mod reply;
 mod selection_reading;
-mod spec;
 mod spec_reading;
 mod start_request;
-#[cfg(test)]
-mod tests;
+mod texts;
 mod value_reading;
 
-pub use change::Change;
 pub use command::Command;
 pub use map_request::{MapOp, MapParts, MapPlace, MapRequest, MapSets};
 pub use mapped::{Mapped, MappedParts, MappedPlace};
 pub use reading::command_of;
 pub use refusal::{LineError, Refusal};
 pub use reply::{Answer, Reply, reply_text};
-pub use spec::Spec;
 pub use start_request::StartRequest;
+pub use texts::cut_text;

@@ -1,7 +1,7 @@
 ghost use Rattle.std.specs.Prelude.{◌≡◌, IfOk};
 
-use crate::change::Change;
 use change_desc::MapMode;
+use change_set::Change;
 use cm_plain::Str;
 use listed::Listed;
 use std::alloc::{AllocError, Global};

@@ -1,7 +1,6 @@
 ghost use Rattle.std.specs.Prelude.{◌≡◌, IfOk};
 
-use change_set::ChangeSet;
-use cm_plain::Str;
+use change_set::{ChangeSet, InsertedText};
 use std::alloc::{AllocError, Global};
 use std::marker::Model;
 
@@ -22,7 +21,7 @@ pub struct MappedParts {
     /// The set of changes.
     pub set: ChangeSet,
     /// The text that it leads to, or under the inverse of a set the text that this set changes.
-    pub text: Str,
+    pub text: InsertedText,
     /// Where the position that was asked for went.
     pub place: MappedPlace,
 }

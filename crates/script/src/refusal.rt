@@ -1,9 +1,12 @@
 ghost use Rattle.std.specs.Prelude.{◌≡◌};
 ghost use Rattle.script.specs.declared.refusal.LineError.TheVariants.{NoMemory};
 
+use change_set::ChangesError;
 use cm_plain::Str;
+use selection::SelectionError;
 use std::alloc::{AllocError, AllocFailed};
 use thiserror::Error;
+use transaction::TransactionError;
 
 /// Why a line is refused. A refused line changes nothing.
 #[derive(Debug, Drop)]
@@ -57,6 +60,10 @@ pub enum Refusal {
         pos: u32,
         len: u32,
     },
+    /// No effect kind has this id. It doesn't come: a line has no effects.
+    UnknownEffect {
+        id: u32,
+    },
 }
 
 /// Why a line is not carried out.
@@ -83,5 +90,89 @@ impl<T: Drop> From<AllocFailed<T>> for LineError {
 
     fn from(_error: AllocFailed<T>) -> LineError {
         LineError::NoMemory
+    }
+}
+
+impl From<ChangesError> for LineError {
+    ghost use Rattle.script.specs.Refused.{changes_refusal, line_error};
+
+    ghost from_gives = { λ error e. e ≡ line_error (changes_refusal error) };
+
+    fn from(error: ChangesError) -> LineError {
+        match error {
+            ChangesError::BadRange {
+                index,
+                from,
+                to,
+                len,
+            } => LineError::Refused(Refusal::BadRange {
+                index: index as u64,
+                from,
+                to,
+                len,
+            }),
+            ChangesError::LengthMismatch { want, have } => {
+                LineError::Refused(Refusal::LengthMismatch { want, have })
+            }
+            ChangesError::TooLong { len, max } => {
+                LineError::Refused(Refusal::TooLong { len, max })
+            }
+            ChangesError::NoMemory => LineError::NoMemory,
+        }
+    }
+}
+
+impl From<SelectionError> for LineError {
+    ghost use Rattle.script.specs.Refused.{selection_refusal, line_error};
+
+    ghost from_gives = { λ error e. e ≡ line_error (selection_refusal error) };
+
+    fn from(error: SelectionError) -> LineError {
+        match error {
+            SelectionError::NoRanges => LineError::Refused(Refusal::NoRanges),
+            SelectionError::BadMain { main, count } => {
+                LineError::Refused(Refusal::BadMain { main, count })
+            }
+            SelectionError::NoMemory => LineError::NoMemory,
+        }
+    }
+}
+
+impl From<TransactionError> for LineError {
+    ghost use Rattle.script.specs.Refused.{specs_refusal, line_error};
+
+    ghost from_gives = { λ error e. e ≡ line_error (specs_refusal error) };
+
+    fn from(error: TransactionError) -> LineError {
+        match error {
+            TransactionError::BadRange {
+                index,
+                from,
+                to,
+                len,
+            } => LineError::Refused(Refusal::BadRange {
+                index: index as u64,
+                from,
+                to,
+                len,
+            }),
+            TransactionError::LengthMismatch { want, have } => {
+                LineError::Refused(Refusal::LengthMismatch { want, have })
+            }
+            TransactionError::TooLong { len, max } => {
+                LineError::Refused(Refusal::TooLong { len, max })
+            }
+            TransactionError::NoRanges => LineError::Refused(Refusal::NoRanges),
+            TransactionError::BadMain { main, count } => {
+                LineError::Refused(Refusal::BadMain { main, count })
+            }
+            TransactionError::SelectionOutside { pos, len } => {
+                LineError::Refused(Refusal::SelectionOutside { pos, len })
+            }
+            TransactionError::UnknownEffect { id } => {
+                LineError::Refused(Refusal::UnknownEffect { id })
+            }
+            TransactionError::NoMemory => LineError::NoMemory,
+        }
     }
 }

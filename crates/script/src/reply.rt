@@ -1,8 +1,8 @@
-ghost use Rattle.std.specs.Prelude.{◌≡◌, IfOk, map, string_bytes, encode_utf8_all};
-ghost use Rattle.serde_json.specs.Data.{string};
+ghost use Rattle.std.specs.Prelude.{◌≡◌, IfOk, map, codes, string_bytes, encode_utf8_all};
+ghost use Rattle.serde_json.specs.Data.{string, member, no_members};
 ghost use Rattle.serde_json.specs.View.{view};
-ghost use Rattle.script.specs.declared.refusal.Refusal.TheVariants.{BadRange, LengthMismatch, TooLong, BadMain, SelectionOutside};
-ghost use Rattle.script.specs.Replies.{refusal_data, section_data, range_data, selection_data, mapped_data, answer_data, reply_data, reply_text};
+ghost use Rattle.script.specs.declared.refusal.Refusal.TheVariants.{BadRange, LengthMismatch, TooLong, BadMain, SelectionOutside, UnknownEffect};
+ghost use Rattle.script.specs.Replies.{coded, refusal_data, section_data, range_data, selection_data, mapped_data, answer_data, reply_data, reply_text};
 
 use crate::mapped::{Mapped, MappedParts, MappedPlace};
 use crate::refusal::Refusal;
@@ -10,7 +10,6 @@ use change_desc::Section;
 use change_set::InsertedText;
 use cm_plain::Str;
 use itoa::Buffer;
-use line_tree::Text;
 use selection::{Range, Selection};
 use serde_json::{Value, json};
 use std::alloc::{AllocError, Global};
@@ -21,7 +20,7 @@ pub enum Answer {
     /// The length of the document, in characters.
     Length(u32),
     /// The text of the document.
-    Text(Str),
+    Text(InsertedText),
     /// The selection of the document.
     Selection(Selection),
     /// What `map` made.
@@ -35,6 +34,19 @@ pub enum Reply {
     Ok(Answer),
     /// The line was refused, and nothing was changed.
     No(Refusal),
+}
+
+fn code_value(alloc: Global, code: &str) -> Result<Value, AllocError>
+    ensures { IfOk result (λ v. view v ≡ coded code.now no_members) }
+{
+    json!(in alloc; {"code": code})
+}
+
+fn field_value(alloc: Global, code: &str, field: &Str) -> Result<Value, AllocError>
+    ensures { IfOk result (λ v. view v ≡ coded code.now (member (codes "field") (string (encode_utf8_all field.now)) no_members)) }
+{
+    let field = field.text()?;
+    json!(in alloc; {"code": code, "field": field.as_str()})
 }
 
 fn bad_range_value(
@@ -73,22 +85,22 @@ fn outside_value(alloc: Global, pos: u32, len: u32) -> Result<Value, AllocError>
     json!(in alloc; {"code": "SelectionOutside", "len": len, "pos": pos})
 }
 
+fn unknown_effect_value(alloc: Global, id: u32) -> Result<Value, AllocError>
+    ensures { IfOk result (λ v. view v ≡ refusal_data (UnknownEffect id)) }
+{
+    json!(in alloc; {"code": "UnknownEffect", "id": id})
+}
+
 fn refusal_value(alloc: Global, refusal: &Refusal) -> Result<Value, AllocError>
     ensures { IfOk result (λ v. view v ≡ refusal_data refusal.now) }
 {
     match refusal {
-        Refusal::LineTooLong => json!(in alloc; {"code": "LineTooLong"}),
-        Refusal::NotUtf8 => json!(in alloc; {"code": "NotUtf8"}),
-        Refusal::NotJson => json!(in alloc; {"code": "NotJson"}),
-        Refusal::NotCommand { field } => {
-            let field = field.text()?;
-            json!(in alloc; {"code": "NotCommand", "field": field.as_str()})
-        }
-        Refusal::BadValue { field } => {
-            let field = field.text()?;
-            json!(in alloc; {"code": "BadValue", "field": field.as_str()})
-        }
-        Refusal::NoSession => json!(in alloc; {"code": "NoSession"}),
+        Refusal::LineTooLong => code_value(alloc, "LineTooLong"),
+        Refusal::NotUtf8 => code_value(alloc, "NotUtf8"),
+        Refusal::NotJson => code_value(alloc, "NotJson"),
+        Refusal::NotCommand { field } => field_value(alloc, "NotCommand", field),
+        Refusal::BadValue { field } => field_value(alloc, "BadValue", field),
+        Refusal::NoSession => code_value(alloc, "NoSession"),
         Refusal::BadRange {
             index,
             from,
@@ -97,18 +109,19 @@ fn refusal_value(alloc: Global, refusal: &Refusal) -> Result<Value, AllocError>
         } => bad_range_value(alloc, *index, *from, *to, *len),
         Refusal::LengthMismatch { want, have } => mismatch_value(alloc, *want, *have),
         Refusal::TooLong { len, max } => too_long_value(alloc, *len, *max),
-        Refusal::NoRanges => json!(in alloc; {"code": "NoRanges"}),
+        Refusal::NoRanges => code_value(alloc, "NoRanges"),
         Refusal::BadMain { main, count } => bad_main_value(alloc, *main, *count),
         Refusal::SelectionOutside { pos, len } => outside_value(alloc, *pos, *len),
+        Refusal::UnknownEffect { id } => unknown_effect_value(alloc, *id),
     }
 }
 
-fn text_value(alloc: Global, text: &Text) -> Result<Value, AllocError>
-    ensures { IfOk result (λ v. view v ≡ string (encode_utf8_all text.now.characters)) }
+fn text_value(alloc: Global, text: &InsertedText) -> Result<Value, AllocError>
+    ensures { IfOk result (λ v. view v ≡ string (encode_utf8_all text.now)) }
 {
-    let characters = text.chars()?;
+    let characters = text.text().chars()?;
     let text = Str::of(alloc, characters.as_slice())?.text()?;
-    Value::try_from_str(alloc, text.as_str())
+    Ok(Value::String(text))
 }
 
 fn section_value(alloc: Global, section: &Section<InsertedText>) -> Result<Value, AllocError>
@@ -117,7 +130,7 @@ fn section_value(alloc: Global, section: &Section<InsertedText>) -> Result<Value
     match section {
         Section::Keep(len) => json!(in alloc; *len),
         Section::Replace(len, text) => {
-            let text = text_value(alloc, text.text())?;
+            let text = text_value(alloc, text)?;
             json!(in alloc; [*len, text])
         }
     }
@@ -163,8 +176,7 @@ fn mapped_value(alloc: Global, mapped: &MappedParts) -> Result<Value, AllocError
     ensures { IfOk result (λ v. view v ≡ mapped_data mapped.now) }
 {
     let sections = Value::Array(section_values(alloc, mapped.set.sections())?);
-    let text = mapped.text.text()?;
-    let text = text.as_str();
+    let text = text_value(alloc, &mapped.text)?;
     match mapped.place {
         MappedPlace::NotAsked => json!(in alloc; {"sections": sections, "text": text}),
         MappedPlace::Deleted => {
@@ -181,10 +193,7 @@ fn answer_value(alloc: Global, answer: &Answer) -> Result<Value, AllocError>
 {
     match answer {
         Answer::Length(len) => json!(in alloc; {"length": *len}),
-        Answer::Text(text) => {
-            let text = text.text()?;
-            Value::try_from_str(alloc, text.as_str())
-        }
+        Answer::Text(text) => text_value(alloc, text),
         Answer::Selection(selection) => selection_value(alloc, selection),
         Answer::Mapped(mapped) => mapped_value(alloc, mapped.parts()),
     }

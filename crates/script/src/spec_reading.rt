@@ -7,12 +7,11 @@ use crate::fields::{flag_or, members, only_fields, text_if_there};
 use crate::item::{Item, list, list_or_empty};
 use crate::refusal::LineError;
 use crate::selection_reading::given_selection;
-use crate::spec::Spec;
-use cm_plain::Str;
+use cm_plain::{Plain, Str};
 use listed::Listed;
 use serde_json::Value;
 use std::alloc::Global;
-use transaction::Annotation;
+use transaction::{Annotation, Spec};
 
 #[tactic(auto, unfolding(crate::specs::Command::notes_of))]
 fn read_notes(alloc: Global, value: &Value) -> Result<(Listed<Annotation>, Option<Str>), LineError>
@@ -43,11 +42,11 @@ const SPEC_FIELDS: [&str; 7] = [
     "filter",
 ];
 
-impl Item for Spec {
+impl Item for Spec<Plain> {
     ghost item_of = { spec_of };
 
     #[tactic(auto, unfolding(crate::specs::Command::spec_of))]
-    fn read(alloc: Global, name: &str, value: &Value) -> Result<Spec, LineError> {
+    fn read(alloc: Global, name: &str, value: &Value) -> Result<Spec<Plain>, LineError> {
         let members = members(alloc, name, value)?;
         let changes = list_or_empty(alloc, "changes", value)?;
         let selection = given_selection(alloc, value)?;
@@ -57,6 +56,7 @@ impl Item for Spec {
         Ok(Spec {
             changes,
             selection,
+            effects: Listed::empty(alloc),
             annotations,
             user_event,
             sequential,

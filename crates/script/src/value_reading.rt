@@ -2,9 +2,9 @@ ghost use Rattle.std.specs.Prelude.{◌≡◌, IfOk, option_map, option_and_then
 ghost use Rattle.serde_json.specs.View.{view, items_view};
 ghost use Rattle.cm_plain.specs.Plain.{datum_of};
 ghost use Rattle.script.specs.Reading.{Gives};
-ghost use Rattle.script.specs.Values.{value_of, values_of, unless_deep, value_at};
+ghost use Rattle.script.specs.Values.{value_of, values_of, unless_deep, value_at, value_member};
 
-use crate::fields::refused;
+use crate::fields::{refused, required_member};
 use crate::refusal::LineError;
 use cm_plain::{Plain, Str};
 use serde_json::Value;
@@ -49,4 +49,13 @@ pub(crate) fn value(alloc: Global, name: &str, value: &Value) -> Result<Plain, L
         Some(value) => Ok(value),
         None => refused(alloc, name),
     }
+}
+
+/// The value that the member of this name is, which has to be there.
+#[tactic(auto, unfolding(crate::specs::Values::value_member))]
+pub(crate) fn value_member(alloc: Global, name: &str, object: &Value) -> Result<Plain, LineError>
+    ensures { Gives (λ x. x) result (value_member name.now (view object.now)) }
+{
+    let member = required_member(alloc, name, object)?;
+    value(alloc, name, member)
 }

@@ -1,11 +1,8 @@
 pub mod State
-pub mod Changes
-pub mod Spans
-pub mod Specs
-pub mod SameSpecs
-pub mod OneChange
-pub mod Mapping
+pub mod Outcomes
+pub mod Start
+pub mod Update
+pub mod Asked
 pub mod Session
 pub mod Transcript
-pub mod Run
-pub mod Responding
+pub mod Headline

@@ -1,5 +1,5 @@
 -- What a line does, and the replies to a list of lines.
-use Rattle.std.specs.Prelude.{ℕ, List, [], ◌∷◌, ◌++◌, length, Option, Some, None, Result, Err, nat_lt, if◌then◌else◌}
+use Rattle.std.specs.Prelude.{◌≡◌, refl, ℕ, List, [], ◌∷◌, ◌++◌, length, Option, Some, None, Result, Err, nat_lt, if◌then◌else◌}
 use Rattle.std.specs.Str.{is_utf8}
 use Rattle.cm_outside.specs.Lines.{max_line}
 use Rattle.serde_json.specs.Data.{Data}
@@ -11,7 +11,7 @@ use Rattle.script.specs.Command.{command_of}
 use Rattle.script.specs.Replies.{reply_text}
 use Rattle.session.specs.State.{PlainState, PlainSession}
 use Rattle.session.specs.declared.outcome.Outcome.{Outcome}
-use Rattle.session.specs.Session.{act, behind, reply_of}
+use Rattle.session.specs.Session.{act, left_by, reply_of}
 
 abbrev pub of_data : Option Data → Option PlainState → Result Outcome Refusal
 of_data None state = Err NotJson
@@ -24,7 +24,7 @@ outcome line state = if nat_lt max_line (length line) then Err LineTooLong
 
 -- the session after a line
 unfoldable pub after : List ℕ → PlainSession → PlainSession
-after line s = behind s (outcome line s.state)
+after line s = left_by s (outcome line s.state)
 
 -- the reply to a line, with its line feed
 unfoldable pub reply : List ℕ → PlainSession → List ℕ
@@ -35,7 +35,7 @@ unfoldable pub transcript : PlainSession → List (List ℕ) → List ℕ
 transcript s [] = []
 transcript s (line ∷ lines) = reply line s ++ transcript (after line s) lines
 
--- the session after some lines
-unfoldable pub after_all : PlainSession → List (List ℕ) → PlainSession
-after_all s [] = s
-after_all s (line ∷ lines) = after_all (after line s) lines
+-- no lines have no replies
+pub transcript_none : (s : PlainSession) → transcript s [] ≡ []
+unfolding transcript
+transcript_none s = refl

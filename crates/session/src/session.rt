@@ -1,11 +1,12 @@
 ghost use Rattle.std.specs.Prelude.{◌≡◌, ◌<◌, List, ℕ, length, IsErr, IfOk, OnOk, OnErr, string_bytes};
 ghost use Rattle.cm_outside.specs.Lines.{max_line};
 ghost use Rattle.session.specs.State.{fresh};
-ghost use Rattle.session.specs.Transcript.{outcome, after, reply};
+ghost use Rattle.session.specs.Transcript.{outcome, after, reply, transcript, transcript_none};
 
 use crate::lines::outcome_of;
 use crate::outcome::Outcome;
 use crate::started::Started;
+use line_run::Answers;
 use script::{LineError, Refusal, Reply, reply_text};
 use std::alloc::{AllocError, Global};
 use std::marker::Model;
@@ -61,5 +62,21 @@ impl Session {
         ensures after { (line : List ℕ) → max_line < length line → self.now ≡ after line self.now }
     {
         reply_text(self.alloc, &Reply::No(Refusal::LineTooLong))
+    }
+}
+
+impl Answers for Session {
+    ghost replies = { transcript };
+
+    ghost none = { transcript_none };
+
+    #[tactic(auto, using(crate::proofs::Answered::answered))]
+    fn answer(&mut self, line: &[u8]) -> Result<String, AllocError> {
+        self.line(line)
+    }
+
+    #[tactic(auto, using(crate::proofs::Answered::answered))]
+    fn answer_long(&mut self) -> Result<String, AllocError> {
+        self.long_line()
     }
 }

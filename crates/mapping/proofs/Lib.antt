@@ -1,0 +1,4 @@
+pub mod Accepted
+pub mod SetLengths
+pub mod Filtering
+pub mod Made

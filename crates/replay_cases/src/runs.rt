@@ -1,0 +1,103 @@
+use crate::replaying::{sink, source};
+use cm_outside::Status;
+use cm_plain::Str;
+use session::{replay, run};
+use std::alloc::{AllocError, Global};
+use std::test::Fail;
+use words::Words;
+
+/// A line that starts an empty document, and the beginning of another line.
+const INPUT: &[u8] = b"{\"start\":{\"doc\":\"\"}}\n{\"upd";
+
+const START: &[u8] = b"{\"start\":{\"doc\":\"\"}}\n";
+
+const STARTED: &[u8] = b"{\"ok\":{\"length\":0}}\n";
+
+/// Whether a run over this input, in pieces as long as its first line, ends so and writes this.
+fn ends(
+    alloc: Global,
+    limit: u64,
+    input: (&[u8], &[u64]),
+    failing_writes: &[u64],
+    want: (Status, &[u8]),
+) -> Result<bool, AllocError> {
+    let mut source = source(alloc, input.0, START.len(), input.1)?;
+    let mut sink = sink(alloc, failing_writes)?;
+    let status = replay(alloc, limit, &mut source, &mut sink);
+    Ok(status == want.0 && sink.bytes() == want.1)
+}
+
+#[test]
+fn a_fault_ends_the_run(rt: HostRuntime) -> Result<(), Fail> {
+    let alloc = rt.alloc();
+    assert!(rt; ends(alloc, 100, (INPUT, &[1]), &[], (Status::ReadFault, STARTED))?);
+    assert!(rt;
+        ends(
+            alloc,
+            100,
+            (INPUT, &[]),
+            &[1],
+            (Status::WriteFault, STARTED)
+        )?
+    );
+    Ok(())
+}
+
+#[test]
+fn the_limit_ends_the_run(rt: HostRuntime) -> Result<(), Fail> {
+    let input = b"{\"text\":{}}\n".as_slice();
+    let reply = b"{\"no\":{\"code\":\"NoSession\"}}\n".as_slice();
+    assert!(rt; ends(rt.alloc(), 8, (input, &[]), &[], (Status::TooMuch, b""))?);
+    assert!(rt; ends(rt.alloc(), 12, (input, &[]), &[], (Status::Ok, reply))?);
+    Ok(())
+}
+
+fn words_of(alloc: Global, words: &[&str]) -> Result<Vec<Str>, AllocError> {
+    let mut all = Vec::new(alloc);
+    for word in words {
+        all.push(Str::of_text(alloc, *word)?)?;
+    }
+    Ok(all)
+}
+
+/// What these words ask for.
+fn asked(alloc: Global, words: &[&str]) -> Result<Option<Words>, AllocError> {
+    let words = words_of(alloc, words)?;
+    Ok(Words::of(words.as_slice()))
+}
+
+#[test]
+fn one_word_is_accepted(rt: HostRuntime) -> Result<(), Fail> {
+    let alloc = rt.alloc();
+    assert!(rt; asked(alloc, &["replay"])? == Some(Words::Replay));
+    let others = [
+        [].as_slice(),
+        ["make"].as_slice(),
+        ["Replay"].as_slice(),
+        ["replay "].as_slice(),
+        ["replay", "replay"].as_slice(),
+    ];
+    for words in others {
+        assert!(rt; asked(alloc, words)? == None);
+    }
+    Ok(())
+}
+
+/// Whether the program's run over one line, with these words, ends so and writes this.
+fn run_ends(alloc: Global, words: &[&str], want: (Status, &[u8])) -> Result<bool, AllocError> {
+    let words = words_of(alloc, words)?;
+    let mut source = source(alloc, START, 100, &[])?;
+    let mut sink = sink(alloc, &[])?;
+    let status = run(alloc, words.as_slice(), &mut source, &mut sink);
+    Ok(status == want.0 && sink.bytes() == want.1)
+}
+
+#[test]
+fn other_words_are_not_accepted(rt: HostRuntime) -> Result<(), Fail> {
+    let alloc = rt.alloc();
+    assert!(rt; run_ends(alloc, &["replay"], (Status::Ok, STARTED))?);
+    assert!(rt; run_ends(alloc, &[], (Status::Usage, b""))?);
+    assert!(rt; run_ends(alloc, &["make"], (Status::Usage, b""))?);
+    assert!(rt; run_ends(alloc, &["replay", "replay"], (Status::Usage, b""))?);
+    Ok(())
+}

@@ -1,0 +1,26 @@
+-- THE HEADLINE. After any replayed list of lines, every reply is that of the plain session: the fold of one step a line, in
+-- which a refused line changes nothing. The run ends `Ok` unless a device failed, the byte limit came, or out of memory.
+--
+-- Read on: `Ran` (line_run/specs/Run.antt: what the sink holds under each status, why each status came, and when a run ends
+-- `Ok`), `transcript` (Transcript.antt: the replies to a list of lines), `act` (Session.antt: what a command does) and
+-- `PlainSession` (State.antt). How input is cut into lines is cm_outside/specs/Lines.antt.
+use Rattle.std.specs.Prelude.{◌≡◌, ℕ, Option, Some, None}
+use Rattle.cm_outside.specs.declared.status.Status.{Status}
+use Rattle.cm_outside.specs.declared.status.Status.TheVariants.{Usage}
+use Rattle.line_run.specs.Run.{Run, Ran}
+use Rattle.words.specs.declared.words.Words.{Words}
+use Rattle.words.specs.declared.words.Words.TheVariants.{Replay}
+use Rattle.session.specs.State.{fresh}
+use Rattle.session.specs.Transcript.{transcript}
+
+-- the greatest number of bytes that a run of the program takes
+abbrev pub byte_limit : ℕ
+byte_limit = 4294967296
+
+-- A run over a source and a sink ended with this status, where the words of the command line ask for this, if they are
+-- accepted.
+abbrev pub Headline : {S K : Type 0} → Option Words → Status → Run → S → S → K → K → Type 0
+-- `replay`: the replies are those of the plain session from its start; `Usage` is none of the statuses
+Headline (Some Replay) status run source source_now sink sink_now = Ran (transcript fresh) status run
+-- words that aren't accepted: nothing is read or written
+Headline None status run source source_now sink sink_now = (status ≡ Usage) × (source_now ≡ source) × (sink_now ≡ sink)
