@@ -1,8 +1,8 @@
 ghost use Rattle.std.specs.Prelude.{◌≡◌, IfOk, map, codes, string_bytes, encode_utf8_all};
 ghost use Rattle.serde_json.specs.Data.{string, member, no_members};
 ghost use Rattle.serde_json.specs.View.{view};
-ghost use Rattle.script.specs.declared.refusal.Refusal.TheVariants.{BadRange, LengthMismatch, TooLong, BadMain, SelectionOutside, UnknownEffect};
-ghost use Rattle.script.specs.Replies.{coded, refusal_data, section_data, range_data, selection_data, mapped_data, answer_data, reply_data, reply_text};
+ghost use Rattle.script.specs.declared.refusal.Refusal.TheVariants.{BadRange, LengthMismatch, TooLong, BadMain, SelectionOutside};
+ghost use Rattle.script.specs.Replies.{coded, whole, refusal_data, section_data, range_data, selection_data, mapped_data, answer_data, reply_data, reply_text};
 
 use crate::mapped::{Mapped, MappedParts, MappedPlace};
 use crate::refusal::Refusal;
@@ -85,10 +85,10 @@ fn outside_value(alloc: Global, pos: u32, len: u32) -> Result<Value, AllocError>
     json!(in alloc; {"code": "SelectionOutside", "len": len, "pos": pos})
 }
 
-fn unknown_effect_value(alloc: Global, id: u32) -> Result<Value, AllocError>
-    ensures { IfOk result (λ v. view v ≡ refusal_data (UnknownEffect id)) }
+fn unknown_value(alloc: Global, code: &str, id: u32) -> Result<Value, AllocError>
+    ensures { IfOk result (λ v. view v ≡ coded code.now (member (codes "id") (whole id) no_members)) }
 {
-    json!(in alloc; {"code": "UnknownEffect", "id": id})
+    json!(in alloc; {"code": code, "id": id})
 }
 
 fn refusal_value(alloc: Global, refusal: &Refusal) -> Result<Value, AllocError>
@@ -112,7 +112,8 @@ fn refusal_value(alloc: Global, refusal: &Refusal) -> Result<Value, AllocError>
         Refusal::NoRanges => code_value(alloc, "NoRanges"),
         Refusal::BadMain { main, count } => bad_main_value(alloc, *main, *count),
         Refusal::SelectionOutside { pos, len } => outside_value(alloc, *pos, *len),
-        Refusal::UnknownEffect { id } => unknown_effect_value(alloc, *id),
+        Refusal::UnknownEffect { id } => unknown_value(alloc, "UnknownEffect", *id),
+        Refusal::UnknownCompartment { id } => unknown_value(alloc, "UnknownCompartment", *id),
     }
 }
 

@@ -6,9 +6,11 @@ use Rattle.cm_plain.specs.declared.plain.Plain.{Plain}
 use Rattle.change_desc.specs.Sections.{spelled, apply, lengths}
 use Rattle.selection.specs.Selections.{SelectionView, moved_selection, single_of}
 use Rattle.transaction.specs.declared.spec.Spec.{Spec}
-use Rattle.transaction.specs.Merging.{ValueMap, merged}
+use Rattle.transaction.specs.declared.draft.Draft.{Draft}
+use Rattle.transaction.specs.declared.effect_kinds.EffectKinds.{EffectKinds}
+use Rattle.transaction.specs.Effects.{ValueMap}
+use Rattle.transaction.specs.Merging.{merged}
 use Rattle.transaction.specs.Refusals as transactions
-use Rattle.transaction.specs.Specs.{DraftView}
 use Rattle.script.specs.declared.refusal.Refusal.{Refusal}
 use Rattle.script.specs.Reading.{◌>>=◌}
 use Rattle.script.specs.Refused.{specs_refusal, unless}
@@ -16,13 +18,17 @@ use Rattle.session.specs.State.{PlainState}
 use Rattle.session.specs.Outcomes.{put}
 use Rattle.session.specs.declared.outcome.Outcome.{Outcome}
 
--- no effect kind is declared, so no map is ever asked
+-- neither an effect kind nor a compartment is declared
+abbrev pub no_kinds : EffectKinds
+no_kinds = record { maps = []; compartments = 0 }
+
+-- so no map is ever asked
 abbrev pub no_maps : ValueMap Plain
 no_maps number value changes = Some value
 
 -- Draft: the specs of a line, which start in a document of this length, merged in order, or their first refusal
-abbrev pub drafted : List (Spec Plain) → (len : ℕ) → Result (DraftView Plain) Refusal
-drafted specs len = unless (option_and_then specs_refusal (transactions.specs_refusal len max_len 0 None specs)) (merged [] no_maps len specs)
+abbrev pub drafted : List (Spec Plain) → (len : ℕ) → Result (Draft Plain) Refusal
+drafted specs len = unless (option_and_then specs_refusal (transactions.specs_refusal len max_len no_kinds None specs)) (merged no_kinds no_maps len specs)
 
 -- the selection that was given, or else the old one mapped over the changes
 abbrev pub given_or : Option SelectionView → SelectionView → SelectionView
@@ -30,7 +36,7 @@ given_or (Some given) mapped = given
 given_or None mapped = mapped
 
 -- Updated: the state after a transaction. The selection is cut to its main range.
-abbrev pub updated : DraftView Plain → PlainState → PlainState
+abbrev pub updated : Draft Plain → PlainState → PlainState
 updated d s =
     record {
       document = apply d.changes s.document;
