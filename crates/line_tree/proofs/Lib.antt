@@ -1,2 +1,12 @@
-pub mod Joining
-pub mod Numbers
+pub mod Counts
+pub mod Inside
+pub mod Concats
+pub mod Joins
+pub mod Seams
+pub mod PartPlaces
+pub mod Nodes
+pub mod LineCounts
+pub mod Breaking
+pub mod LineOf
+pub mod Encoding
+pub mod Cutting

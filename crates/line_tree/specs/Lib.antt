@@ -1,3 +1,10 @@
 pub mod Text
 pub mod Lines
-pub mod Joined
+pub mod Parts
+pub mod Breaks
+pub mod Pieces
+pub mod Places
+pub mod LineEnds
+pub mod Tree
+pub mod TreeFalls
+pub mod Building

@@ -1,17 +1,15 @@
 -- The lines of a text (Reference Manual: Text.lines, Text.line, Text.lineAt, Line).
-use Rattle.std.specs.Prelude.{◌≡◌, ℕ, ◌+◌, ◌-◌, List, [], ◌∷◌, length, Some, slice_get, ◌==◌, if◌then◌else◌}
+use Rattle.std.specs.Prelude.{◌≡◌, ℕ, ◌+◌, ◌-◌, List, [], ◌∷◌, length, Some, slice_get, Bool, ◌==◌}
+use Rattle.std.specs.List.{slice_split}
 use Rattle.line_tree.specs.Text.{line_feed}
 use Rattle.line_tree.specs.declared.line.Line.{Line}
 
--- a character before the first line
-abbrev pub onto_first : ℕ → List (List ℕ) → List (List ℕ)
-onto_first c [] = (c ∷ []) ∷ []
-onto_first c (line ∷ lines) = (c ∷ line) ∷ lines
+abbrev pub is_break : ℕ → Bool
+is_break c = c == line_feed
 
--- the parts between breaks; a text without characters has one line without characters
-abbrev pub parts_of : List ℕ → List (List ℕ)
-parts_of [] = [] ∷ []
-parts_of (c ∷ cs) = if c == line_feed then [] ∷ parts_of cs else onto_first c (parts_of cs)
+-- the characters of each line; a text without characters has one line without characters
+abbrev pub line_texts : List ℕ → List (List ℕ)
+line_texts text = slice_split is_break text
 
 -- lines with their numbers and places, the first of which has this number and starts at this place
 abbrev pub numbered : ℕ → ℕ → List (List ℕ) → List Line
@@ -21,7 +19,7 @@ numbered number from (line ∷ lines) =
 
 -- the lines of a text, numbered from 1
 abbrev pub lines_of : List ℕ → List Line
-lines_of text = numbered 1 0 (parts_of text)
+lines_of text = numbered 1 0 (line_texts text)
 
 -- the line is the one of its number in the text
 abbrev pub IsLineOf : List ℕ → Line → Type 0

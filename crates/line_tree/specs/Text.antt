@@ -1,5 +1,5 @@
 -- A text is a list of characters in which LF is the break (Reference Manual: Text).
-use Rattle.std.specs.Prelude.{ℕ, ◌-◌, List, [], ◌∷◌, ◌++◌, take, drop, Bool, true, false, ◌==◌, ◌&&◌, if◌then◌else◌}
+use Rattle.std.specs.Prelude.{◌≡◌, ℕ, ◌-◌, List, [], ◌∷◌, ◌++◌, take, drop, count_by, Bool, true, false, ◌==◌, ◌&&◌, if◌then◌else◌}
 
 -- what contracts see of a text: its characters, and how many levels stand above its leaves
 pub record TextView : Type 0 where
@@ -26,6 +26,14 @@ cut_after was_cr (c ∷ cs) =
 -- the text of some characters, cut at CRLF, CR and LF
 abbrev pub cut : List ℕ → List ℕ
 cut cs = cut_after false cs
+
+-- For private clauses: characters without CR, and characters that are none or begin with CR.
+abbrev pub HasNoReturn : List ℕ → Type 0
+HasNoReturn cs = count_by (λ c. c == carriage_return) cs ≡ 0
+
+abbrev pub BeginsWithReturn : List ℕ → Type 0
+BeginsWithReturn [] = Unit {0}
+BeginsWithReturn (c ∷ cs) = c ≡ carriage_return
 
 -- the characters from one place to another (Text.slice)
 abbrev pub slice : ℕ → ℕ → List ℕ → List ℕ

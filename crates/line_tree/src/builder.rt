@@ -1,83 +1,90 @@
-ghost use Rattle.std.specs.Prelude.{◌≡◌, ◌≢◌, ◌++◌, ◌+◌, ◌^◌, ◌<◌, ◌≤◌, [], ◌∷◌, length, take, drop, OnOk, IfOk, IsTrue, ◌↔◌};
-ghost use Rattle.line_tree.specs.Text.{line_feed};
-ghost use Rattle.line_tree.specs.Joined.{joined, AreLines, HasNoBreak, BeginsWithBreak};
+ghost use Rattle.std.specs.Prelude.{◌≡◌, ◌++◌, ◌+◌, ◌^◌, ◌≤◌, ◌<◌, [], ◌∷◌, length, take, drop, OnOk, IfOk};
+ghost use Rattle.line_tree.specs.Text.{line_feed, cut};
+ghost use Rattle.line_tree.specs.Breaks.{count_breaks, HasNoBreak, BeginsWithBreak};
+ghost use Rattle.line_tree.specs.Building.{characters_of};
 
-use crate::text::Text;
+use crate::glue::append_lines;
+use crate::leaf::Leaf;
+use crate::leaf_builder::LeafBuilder;
+use crate::text::{Node, Text};
+use crate::tree::make_leaf;
 use std::alloc::{AllocError, Global};
 use std::marker::Model;
 
-/// The characters of a line, without its break.
-#[derive(Debug, Drop)]
-pub(crate) struct LineText {
-    pub(crate) chars: Vec<char>,
-}
-
-impl Model for LineText {
-    ghost use Rattle.std.specs.Prelude.{List, ℕ};
-
-    ghost Value = { List ℕ };
-
-    ghost view = { λ l. l.chars.items };
-}
-
-impl LineText {
-    /// The same line once more.
-    pub(crate) fn try_copy(&self) -> Result<LineText, AllocError>
-        ensures { IfOk result (λ l. l ≡ self.now) }
-    {
-        let chars = Vec::from_slice(*self.chars.allocator(), self.chars.as_slice())?;
-        Ok(LineText { chars })
-    }
-
-    /// Whether both have the same characters.
-    pub(crate) fn same(&self, other: &LineText) -> bool
-        ensures { IsTrue result ↔ (self.now ≡ other.now) }
-    {
-        self.chars.as_slice() == other.chars.as_slice()
-    }
-
-    /// How many characters it has, where a text can hold them.
-    pub(crate) fn len(&self) -> u32
-        requires { length self.now < 2 ^ 32 }
-        ensures { result ≡ length self.now }
-    {
-        self.chars.len() as u32
-    }
-}
-
-/// How many characters stand before the first LF, or in all.
-fn line_len(chars: &[char]) -> usize
-    ensures within { result ≤ length chars.now }
-    ensures in_line { HasNoBreak (take result chars.now) }
-    ensures behind { BeginsWithBreak (drop result chars.now) }
-{
-    for (index, c) in chars.iter().enumerate() {
-        if *c == '\n' {
-            return index;
-        }
-    }
-    chars.len()
+/// The text that stands before the last lines of a builder, if there is one.
+#[derive(Drop)]
+enum Done {
+    Nothing,
+    /// A text, in whose last line more follows.
+    Open(Text),
+    /// A text after which a new line begins.
+    Ended(Text),
 }
 
 /// Makes a text of characters and texts that are put in one after the other. Contracts see it as the list of the
 /// characters so far.
 #[derive(Drop)]
 pub struct TextBuilder {
-    done: Vec<LineText>,
-    last: Vec<char>,
+    done: Done,
+    last: LeafBuilder,
     len: u32,
+    alloc: Global,
 }
 
 impl Model for TextBuilder {
-    ghost use Rattle.std.specs.Prelude.{◌≡◌, List, ℕ, ◌++◌, ◌∷◌, [], length};
-    ghost use Rattle.line_tree.specs.Joined.{joined, AreLines, HasNoBreak};
+    ghost use Rattle.std.specs.Prelude.{◌≡◌, ◌++◌, ◌<◌, ◌^◌, List, ℕ, length};
+    ghost use Rattle.line_tree.specs.Breaks.{count_breaks};
+    ghost use Rattle.line_tree.specs.Building.{characters_of};
 
     ghost Value = { List ℕ };
 
-    ghost view = { λ b. joined (b.done.items ++ b.last.items ∷ []) };
+    ghost view = { λ b. characters_of b.done ++ b.last };
 
-    ghost invariant = { λ b. AreLines b.done.items × HasNoBreak b.last.items
-        × (b.len ≡ length (joined (b.done.items ++ b.last.items ∷ []))) };
+    ghost invariant = { λ b. (b.len ≡ length (characters_of b.done ++ b.last)) × (b.len < 2 ^ 32) × (count_breaks b.last < 64) };
+}
+
+/// How many characters stand before the first LF, or in all.
+fn line_len(characters: &[char]) -> usize
+    ensures within { result ≤ length characters.now }
+    ensures in_line { HasNoBreak (take result characters.now) }
+    ensures after { BeginsWithBreak (drop result characters.now) }
+{
+    for (index, c) in characters.iter().enumerate() {
+        if *c == '\n' {
+            return index;
+        }
+    }
+    characters.len()
+}
+
+/// The text that was done and then the leaf.
+fn with_leaf(alloc: Global, done: &Done, leaf: Leaf) -> Result<Text, AllocError>
+    requires few { count_breaks leaf < 64 }
+    requires fits { length (characters_of done.now) + length leaf < 2 ^ 32 }
+    ensures { IfOk result (λ t. t.characters ≡ characters_of done.now ++ leaf) }
+{
+    match done {
+        Done::Nothing => make_leaf(alloc, leaf),
+        Done::Open(text) => {
+            if leaf.len() == 0 {
+                text.try_copy()
+            } else {
+                text.append(&make_leaf(alloc, leaf)?)
+            }
+        }
+        Done::Ended(text) => append_lines(text, &make_leaf(alloc, leaf)?),
+    }
+}
+
+/// Leaves nothing of what was put in.
+fn forget(done: &mut Done, last: &mut LeafBuilder, len: &mut u32, alloc: Global)
+    ensures done { characters_of done.new ≡ [] }
+    ensures last { last.new ≡ [] }
+    ensures len { len.new ≡ 0 }
+{
+    *done = Done::Nothing;
+    *last = LeafBuilder::new(alloc);
+    *len = 0;
 }
 
 impl TextBuilder {
@@ -86,50 +93,10 @@ impl TextBuilder {
         ensures { result ≡ [] }
     {
         TextBuilder {
-            done: Vec::new(alloc),
-            last: Vec::new(alloc),
+            done: Done::Nothing,
+            last: LeafBuilder::new(alloc),
             len: 0,
-        }
-    }
-
-    /// Ends the line.
-    fn push_break(&mut self) -> Result<(), AllocError>
-        requires { length self.old + 1 < 2 ^ 32 }
-        ensures { OnOk result (self.new ≡ self.old ++ line_feed ∷ []) }
-    {
-        let line = std::mem::replace(&mut self.last, Vec::new(*self.done.allocator()));
-        match self.done.push(LineText { chars: line }) {
-            Ok(()) => {
-                self.len += 1;
-                Ok(())
-            }
-            Err(refused) => {
-                self.last = refused.value.chars;
-                Err(AllocError)
-            }
-        }
-    }
-
-    /// Adds characters of the line.
-    fn push_run(&mut self, run: &[char]) -> Result<(), AllocError>
-        requires in_line { HasNoBreak run.now }
-        requires fits { length self.old + length run.now < 2 ^ 32 }
-        ensures { OnOk result (self.new ≡ self.old ++ run.now) }
-    {
-        self.last.extend_from_slice(run)?;
-        self.len += run.len() as u32;
-        Ok(())
-    }
-
-    /// Adds a character, which ends the line if it is LF. `Err`: out of memory.
-    pub fn push(&mut self, c: char) -> Result<(), AllocError>
-        requires { length self.old + 1 < 2 ^ 32 }
-        ensures { OnOk result (self.new ≡ self.old ++ c ∷ []) }
-    {
-        if c == '\n' {
-            self.push_break()
-        } else {
-            self.push_run(&[c])
+            alloc,
         }
     }
 
@@ -140,6 +107,75 @@ impl TextBuilder {
         self.len
     }
 
+    /// The text so far.
+    fn text(&self) -> Result<Text, AllocError>
+        ensures { IfOk result (λ t. t.characters ≡ self.now) }
+    {
+        with_leaf(self.alloc, &self.done, self.last.leaf()?)
+    }
+
+    /// Adds characters of the last line.
+    fn push_run(&mut self, run: &[char]) -> Result<(), AllocError>
+        requires in_line { HasNoBreak run.now }
+        requires fits { length self.old + length run.now < 2 ^ 32 }
+        ensures { OnOk result (self.new ≡ self.old ++ run.now) }
+    {
+        match self.last.push_all(run) {
+            Ok(()) => {
+                self.len += run.len() as u32;
+                Ok(())
+            }
+            Err(error) => {
+                forget(&mut self.done, &mut self.last, &mut self.len, self.alloc);
+                Err(error)
+            }
+        }
+    }
+
+    /// Ends the line, where the last lines are fewer than a leaf may have.
+    fn push_line_end(&mut self) -> Result<(), AllocError>
+        requires room { length self.old + 1 < 2 ^ 32 }
+        ensures { OnOk result (self.new ≡ self.old ++ line_feed ∷ []) }
+    {
+        if self.last.breaks() >= 63 {
+            return self.push_leaf_end();
+        }
+        match self.last.push_all(&['\n']) {
+            Ok(()) => {
+                self.len += 1;
+                Ok(())
+            }
+            Err(error) => {
+                forget(&mut self.done, &mut self.last, &mut self.len, self.alloc);
+                Err(error)
+            }
+        }
+    }
+
+    /// Ends the line and the leaf.
+    fn push_leaf_end(&mut self) -> Result<(), AllocError>
+        requires { length self.old + 1 < 2 ^ 32 }
+        ensures { OnOk result (self.new ≡ self.old ++ line_feed ∷ []) }
+    {
+        let text = self.text()?;
+        self.done = Done::Ended(text);
+        self.last = LeafBuilder::new(self.alloc);
+        self.len += 1;
+        Ok(())
+    }
+
+    /// Adds a character, which ends the line if it is LF. `Err`: out of memory.
+    pub fn push(&mut self, c: char) -> Result<(), AllocError>
+        requires { length self.old + 1 < 2 ^ 32 }
+        ensures { OnOk result (self.new ≡ self.old ++ c ∷ []) }
+    {
+        if c == '\n' {
+            self.push_line_end()
+        } else {
+            self.push_run(&[c])
+        }
+    }
+
     /// Adds characters, with LF where a line ends. `Err`: out of memory.
     pub fn push_all(&mut self, chars: &[char]) -> Result<(), AllocError>
         requires { length self.old + length chars.now < 2 ^ 32 }
@@ -147,44 +183,66 @@ impl TextBuilder {
     {
         let mut rest = chars;
         loop {
-            let (line, behind) = rest.split_at(line_len(rest));
+            let (line, after) = rest.split_at(line_len(rest));
             self.push_run(line)?;
-            match behind.split_first() {
+            match after.split_first() {
                 None => return Ok(()),
                 Some((_, next)) => {
-                    self.push_break()?;
+                    self.push_line_end()?;
                     rest = next;
                 }
             }
         }
     }
 
-    /// Adds the characters of a text. `Err`: out of memory.
+    /// Adds a leaf to the last lines.
+    fn push_lines(&mut self, leaf: &Leaf) -> Result<(), AllocError>
+        requires few { count_breaks leaf.now < 64 }
+        requires fits { length self.old + length leaf.now < 2 ^ 32 }
+        ensures { OnOk result (self.new ≡ self.old ++ leaf.now) }
+    {
+        if self.last.breaks() + leaf.breaks() > 63 {
+            return self.push_tree(&make_leaf(self.alloc, leaf.part(0, leaf.len())?)?);
+        }
+        match self.last.push_whole(leaf) {
+            Ok(()) => {
+                self.len += leaf.len();
+                Ok(())
+            }
+            Err(error) => {
+                forget(&mut self.done, &mut self.last, &mut self.len, self.alloc);
+                Err(error)
+            }
+        }
+    }
+
+    /// Adds a text after those that were put in, as a tree.
+    fn push_tree(&mut self, text: &Text) -> Result<(), AllocError>
+        requires { length self.old + length text.now.characters < 2 ^ 32 }
+        ensures { OnOk result (self.new ≡ self.old ++ text.now.characters) }
+    {
+        let whole = self.text()?.append(text)?;
+        self.len = whole.len();
+        self.done = Done::Open(whole);
+        self.last = LeafBuilder::new(self.alloc);
+        Ok(())
+    }
+
+    /// Adds the characters of a text, and shares its parts where it has several. `Err`: out of memory.
     pub fn push_text(&mut self, text: &Text) -> Result<(), AllocError>
         requires { length self.old + length text.now.characters < 2 ^ 32 }
         ensures { OnOk result (self.new ≡ self.old ++ text.now.characters) }
     {
-        let chars = text.chars()?;
-        self.push_all(chars.as_slice())
+        match &*text.node {
+            Node::Leaf(leaf) => self.push_lines(leaf),
+            Node::Branch(_) => self.push_tree(text),
+        }
     }
 
     /// The text of the characters that were put in. `Err`: out of memory.
     pub fn finish(self) -> Result<Text, AllocError>
         ensures { IfOk result (λ t. t.characters ≡ self) }
     {
-        let (lines, len) = self.finished_lines()?;
-        Ok(Text::kept(lines, len))
-    }
-
-    fn finished_lines(self) -> Result<(Vec<LineText>, u32), AllocError>
-        ensures { IfOk result (λ r. (0 < length r.0.items) × (joined r.0.items ≡ self) × AreLines r.0.items × (r.1 ≡ length self)) }
-    {
-        let TextBuilder {
-            mut done,
-            last,
-            len,
-        } = self;
-        done.push(LineText { chars: last })?;
-        Ok((done, len))
+        self.text()
     }
 }

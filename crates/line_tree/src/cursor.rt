@@ -5,6 +5,33 @@ use crate::text::Text;
 use std::alloc::AllocError;
 use std::marker::Model;
 
+/// So many characters or fewer are copied where they are put into a text, and not shared.
+const COPIED: u32 = 1024;
+
+/// Puts characters of the text into the builder.
+fn copy_characters(
+    text: &Text,
+    from: u32,
+    count: u32,
+    builder: &mut TextBuilder,
+) -> Result<(), AllocError>
+    requires within { from + count ≤ length text.now.characters }
+    requires fits { length builder.old + count < 2 ^ 32 }
+    ensures { OnOk result (builder.new ≡ builder.old ++ take count (drop from text.now.characters)) }
+{
+    let _fits = text.len();
+    let mut pos = from;
+    let mut left = count;
+    while left > 0 {
+        let run = text.run_at(pos);
+        let now = run.len().min(left as usize);
+        builder.push_all(&run[..now])?;
+        pos += now as u32;
+        left -= now as u32;
+    }
+    Ok(())
+}
+
 /// Goes over the characters of a text once, from its start to its end. Contracts see it as the list of the characters
 /// that are left.
 #[derive(Drop)]
@@ -58,8 +85,11 @@ impl<'a> TextCursor<'a> {
         ensures left { OnOk result (self.new ≡ drop count self.old) }
         ensures copied { OnOk result (builder.new ≡ builder.old ++ take count self.old) }
     {
-        let part = self.text.slice(self.pos, self.pos + count)?;
-        builder.push_text(&part)?;
+        if count <= COPIED {
+            copy_characters(self.text, self.pos, count, builder)?;
+        } else {
+            builder.push_text(&self.text.slice(self.pos, self.pos + count)?)?;
+        }
         self.pos += count;
         Ok(())
     }

@@ -1,33 +1,65 @@
-ghost use Rattle.std.specs.Prelude.{◌≡◌, ◌++◌, ◌+◌, ◌-◌, ◌^◌, ◌≤◌, ◌<◌, ◌↔◌, [], length, IfOk, IsTrue};
-ghost use Rattle.line_tree.specs.Text.{cut, slice, replaced};
-ghost use Rattle.line_tree.specs.Joined.{joined, AreLines};
+ghost use Rattle.std.specs.Prelude.{◌≡◌, ◌++◌, ◌+◌, ◌-◌, ◌^◌, ◌≤◌, ◌<◌, ◌↔◌, [], length, take, drop, IfOk, OnOk, IsTrue, true, false, string_bytes, encode_utf8_all};
+ghost use Rattle.line_tree.specs.Text.{cut, cut_after, slice, replaced, HasNoReturn, BeginsWithReturn};
 ghost use Rattle.line_tree.specs.Lines.{lines_of, IsLineOf};
+ghost use Rattle.line_tree.specs.Parts.{ArePartsOf};
+ghost use Rattle.line_tree.specs.Breaks.{count_breaks, IsBreakAt};
+ghost use Rattle.line_tree.specs.LineEnds.{StartsLine, EndsLine};
 
-use crate::builder::{LineText, TextBuilder};
+use crate::builder::TextBuilder;
+use crate::glue::{after_parts, append_glued, before_parts};
+use crate::leaf::Leaf;
 use crate::line::Line;
+use crate::parts::{part_at, part_of_break};
+use crate::tree::make_leaf;
 use std::alloc::{AllocError, Global};
 use std::marker::Model;
+use std::rc::Rc;
 
 /// The greatest length of a document, in characters.
 pub const MAX_LEN: u32 = 16_777_216;
 
 /// A text. A position counts characters, from 0 to the length, and a line break is one character.
-#[derive(Debug, Drop)]
+#[cycle(text)]
+#[derive(Drop)]
 pub struct Text {
-    lines: Vec<LineText>,
-    len: u32,
+    pub(crate) node: Rc<Node>,
+}
+
+/// What a text is kept as: some lines, or other texts with a break between each two.
+#[cycle(text)]
+#[derive(Drop)]
+pub(crate) enum Node {
+    Leaf(Leaf),
+    Branch(Branch),
+}
+
+/// Texts of one height, and how many characters and breaks there are in all.
+#[cycle(text)]
+#[derive(Drop)]
+pub(crate) struct Branch {
+    pub(crate) parts: Vec<Text>,
+    pub(crate) len: u32,
+    pub(crate) breaks: u32,
+    pub(crate) height: u32,
 }
 
 impl Model for Text {
-    ghost use Rattle.std.specs.Prelude.{◌≡◌, ◌<◌, ◌^◌, length};
     ghost use Rattle.line_tree.specs.Text.{TextView};
-    ghost use Rattle.line_tree.specs.Joined.{joined, AreLines};
 
     ghost Value = { TextView };
 
-    ghost view = { λ t. record { characters = joined t.lines.items; height = 0 } };
+    ghost use Rattle.line_tree.specs.Tree.{view_of, IsSound};
 
-    ghost invariant = { λ t. (0 < length t.lines.items) × AreLines t.lines.items × (t.len ≡ length (joined t.lines.items)) × (t.len < 2 ^ 32) };
+    ghost view = { λ t. view_of t.node.value };
+
+    ghost invariant = { λ t. IsSound t.node.value };
+
+    ghost size = { λ v. v.height };
+
+    ghost use Rattle.line_tree.specs.TreeFalls.{deep_le-height};
+    ghost use Rattle.std.proofs.Common.{arith};
+
+    ghost size_decreases = { λ t h. Prim.omega (arith, deep_le-height t.node.value h) };
 }
 
 /// How long the text of these characters is, in characters: CRLF, CR and LF count one each.
@@ -46,51 +78,60 @@ pub fn cut_len(characters: &[char]) -> usize
     len
 }
 
-/// Whether both have the same lines in the same order.
-fn same_lines(left: &[LineText], right: &[LineText]) -> bool
-    ensures { IsTrue result ↔ (left.now ≡ right.now) }
+/// How many characters stand before the first CR, or in all.
+fn until_return(characters: &[char]) -> usize
+    ensures within { result ≤ length characters.now }
+    ensures run { HasNoReturn (take result characters.now) }
+    ensures after { BeginsWithReturn (drop result characters.now) }
 {
-    if left.len() != right.len() {
-        return false;
-    }
-    for (a, b) in left.iter().zip(right) {
-        if !a.same(b) {
-            return false;
+    for (index, c) in characters.iter().enumerate() {
+        if *c == '\r' {
+            return index;
         }
     }
-    true
+    characters.len()
+}
+
+/// The characters after a CR, without the LF that belongs to it.
+fn after_return(characters: &[char]) -> &[char]
+    ensures value { cut_after false result.now ≡ cut_after true characters.now }
+    ensures shorter { length result.now ≤ length characters.now }
+{
+    match characters.split_first() {
+        Some(('\n', rest)) => rest,
+        _ => characters,
+    }
+}
+
+/// Adds the characters in UTF-8.
+fn push_characters(text: &mut String, characters: &[char]) -> Result<(), AllocError>
+    ensures { OnOk result (string_bytes text.new ≡ string_bytes text.old ++ encode_utf8_all characters.now) }
+{
+    for c in characters {
+        text.push(*c)?;
+    }
+    Ok(())
 }
 
 impl Text {
-    /// The text that is kept as these lines.
-    pub(crate) fn kept(lines: Vec<LineText>, len: u32) -> Text
-        requires some { 0 < length lines.items }
-        requires lines { AreLines lines.items }
-        requires len { len ≡ length (joined lines.items) }
-        ensures { result.characters ≡ joined lines.items }
-    {
-        Text { lines, len }
-    }
-
     /// The text of some characters, cut into lines at CRLF, CR and LF (Text.of). `Err`: out of memory.
     pub fn of(alloc: Global, characters: &[char]) -> Result<Text, AllocError>
         requires { length (cut characters.now) < 2 ^ 32 }
         ensures { IfOk result (λ t. t.characters ≡ cut characters.now) }
     {
         let mut builder = TextBuilder::new(alloc);
-        let mut after_return = false;
-        for c in characters {
-            if *c == '\r' {
-                builder.push('\n')?;
-                after_return = true;
-            } else {
-                if !(*c == '\n' && after_return) {
-                    builder.push(*c)?;
+        let mut rest = characters;
+        loop {
+            let (run, after) = rest.split_at(until_return(rest));
+            builder.push_all(run)?;
+            match after.split_first() {
+                None => return builder.finish(),
+                Some((_, next)) => {
+                    builder.push('\n')?;
+                    rest = after_return(next);
                 }
-                after_return = false;
             }
         }
-        builder.finish()
     }
 
     /// The text without characters, which has one line (Text.empty). `Err`: out of memory.
@@ -100,11 +141,32 @@ impl Text {
         TextBuilder::new(alloc).finish()
     }
 
+    pub(crate) fn alloc(&self) -> Global {
+        match &*self.node {
+            Node::Leaf(leaf) => leaf.alloc(),
+            Node::Branch(branch) => *branch.parts.allocator(),
+        }
+    }
+
     /// The length in characters (Text.length).
     pub fn len(&self) -> u32
         ensures { result ≡ length self.now.characters }
     {
-        self.len
+        match &*self.node {
+            Node::Leaf(leaf) => leaf.len(),
+            Node::Branch(branch) => branch.len,
+        }
+    }
+
+    /// How many breaks there are.
+    pub(crate) fn breaks(&self) -> u32
+        ensures value { result ≡ count_breaks self.now.characters }
+        ensures tall { 2 ^ self.now.height ≤ result + 1 }
+    {
+        match &*self.node {
+            Node::Leaf(leaf) => leaf.breaks(),
+            Node::Branch(branch) => branch.breaks,
+        }
     }
 
     /// How many lines there are, at least one (Text.lines).
@@ -112,7 +174,97 @@ impl Text {
         ensures value { result ≡ length (lines_of self.now.characters) }
         ensures some { 0 < result }
     {
-        self.lines.len() as u64
+        u64::from(self.breaks()) + 1
+    }
+
+    /// How many levels of parts stand above the leaves: none of a text without parts. A text of height h has at least
+    /// 2 ^ h lines.
+    pub fn height(&self) -> u32
+        ensures value { result ≡ self.now.height }
+        ensures tall { 2 ^ result ≤ length (lines_of self.now.characters) }
+    {
+        let _breaks = self.breaks();
+        self.levels()
+    }
+
+    pub(crate) fn levels(&self) -> u32
+        ensures { result ≡ self.now.height }
+    {
+        match &*self.node {
+            Node::Leaf(_) => 0,
+            Node::Branch(branch) => branch.height,
+        }
+    }
+
+    /// The parts that the text is kept as, 2 to 32 of them, each lower by one, with a break between each two; of a text
+    /// of at most 64 lines there may be none (Text.children).
+    pub fn parts(&self) -> &[Text]
+        ensures { ArePartsOf self.now result.now }
+    {
+        match &*self.node {
+            Node::Leaf(_) => &[],
+            Node::Branch(branch) => branch.parts.as_slice(),
+        }
+    }
+
+    /// How many breaks stand before a place.
+    fn breaks_before(&self, pos: u32) -> u32
+        requires { pos ≤ length self.now.characters }
+        ensures { result ≡ count_breaks (take pos self.now.characters) }
+    {
+        match &*self.node {
+            Node::Leaf(leaf) => leaf.breaks_before(pos),
+            Node::Branch(branch) => {
+                let found = part_at(branch.parts.as_slice(), pos);
+                let part = &branch.parts[found.index];
+                found.breaks + part.breaks_before(pos - found.from)
+            }
+        }
+    }
+
+    /// The place of the break after so many others.
+    fn break_place(&self, before: u32) -> u32
+        requires { before < count_breaks self.now.characters }
+        ensures { IsBreakAt self.now.characters before result }
+    {
+        match &*self.node {
+            Node::Leaf(leaf) => leaf.break_place(before),
+            Node::Branch(branch) => {
+                let found = part_of_break(branch.parts.as_slice(), before);
+                let part = &branch.parts[found.index];
+                let inside = before - found.breaks;
+                if inside == part.breaks() {
+                    found.from + part.len()
+                } else {
+                    found.from + part.break_place(inside)
+                }
+            }
+        }
+    }
+
+    /// Where the line after so many breaks starts.
+    fn line_start(&self, breaks: u32) -> u32
+        requires { breaks ≤ count_breaks self.now.characters }
+        ensures { StartsLine self.now.characters breaks result }
+    {
+        if breaks == 0 {
+            0
+        } else {
+            let _fits = self.len();
+            self.break_place(breaks - 1) + 1
+        }
+    }
+
+    /// Where the line after so many breaks ends.
+    fn line_end(&self, breaks: u32) -> u32
+        requires { breaks ≤ count_breaks self.now.characters }
+        ensures { EndsLine self.now.characters breaks result }
+    {
+        if breaks == self.breaks() {
+            self.len()
+        } else {
+            self.break_place(breaks)
+        }
     }
 
     /// The line with this number, which counts from 1 (Text.line).
@@ -124,15 +276,13 @@ impl Text {
         ensures order { result.from ≤ result.to }
         ensures within { result.to ≤ length self.now.characters }
     {
-        let mut from = 0;
-        for (index, line) in self.lines.iter().enumerate() {
-            let to = from + line.len();
-            if index as u64 + 1 == number {
-                return Line { number, from, to };
-            }
-            from = to + 1;
+        let _breaks = self.breaks();
+        let breaks = (number - 1) as u32;
+        Line {
+            number,
+            from: self.line_start(breaks),
+            to: self.line_end(breaks),
         }
-        unreachable!()
     }
 
     /// The line that a place stands in; the place after a line's last character is in that line (Text.lineAt).
@@ -143,33 +293,125 @@ impl Text {
         ensures ends { pos ≤ result.to }
         ensures within { result.to ≤ length self.now.characters }
     {
-        let mut from = 0;
-        for (index, line) in self.lines.iter().enumerate() {
-            let to = from + line.len();
-            if pos <= to {
-                return Line {
-                    number: index as u64 + 1,
-                    from,
-                    to,
-                };
-            }
-            from = to + 1;
+        let breaks = self.breaks_before(pos);
+        Line {
+            number: u64::from(breaks) + 1,
+            from: self.line_start(breaks),
+            to: self.line_end(breaks),
         }
-        unreachable!()
+    }
+
+    /// Some of the characters from a place on: those of a piece, or one break.
+    pub(crate) fn run_at(&self, pos: u32) -> &[char]
+        requires { pos < length self.now.characters }
+        ensures some { 0 < length result.now }
+        ensures run { result.now ≡ take (length result.now) (drop pos self.now.characters) }
+        ensures short { pos + length result.now ≤ length self.now.characters }
+    {
+        match &*self.node {
+            Node::Leaf(leaf) => leaf.run_at(pos),
+            Node::Branch(branch) => {
+                let found = part_at(branch.parts.as_slice(), pos);
+                let part = &branch.parts[found.index];
+                let place = pos - found.from;
+                if place == part.len() {
+                    &['\n']
+                } else {
+                    part.run_at(place)
+                }
+            }
+        }
     }
 
     /// The characters, with LF between lines. `Err`: out of memory.
     pub fn chars(&self) -> Result<Vec<char>, AllocError>
         ensures { IfOk result (λ v. v.items ≡ self.now.characters) }
     {
-        let mut chars = Vec::with_capacity(*self.lines.allocator(), self.len as usize)?;
-        for (number, line) in self.lines.iter().enumerate() {
-            if number > 0 {
-                chars.push('\n')?;
-            }
-            chars.extend_from_slice(line.chars.as_slice())?;
+        let len = self.len();
+        let mut characters = Vec::with_capacity(self.alloc(), len as usize)?;
+        let mut pos = 0;
+        while pos < len {
+            let run = self.run_at(pos);
+            characters.extend_from_slice(run)?;
+            pos += run.len() as u32;
         }
-        Ok(chars)
+        Ok(characters)
+    }
+
+    /// The text in UTF-8, with LF between lines. `Err`: out of memory.
+    pub fn text(&self) -> Result<String, AllocError>
+        ensures { IfOk result (λ s. string_bytes s ≡ encode_utf8_all self.now.characters) }
+    {
+        let len = self.len();
+        let mut text = String::with_capacity(self.alloc(), len as usize)?;
+        let mut pos = 0;
+        while pos < len {
+            let run = self.run_at(pos);
+            push_characters(&mut text, run)?;
+            pos += run.len() as u32;
+        }
+        Ok(text)
+    }
+
+    /// Whether both have the same characters (Text.eq).
+    pub fn same(&self, other: &Text) -> bool
+        ensures { IsTrue result ↔ (self.now.characters ≡ other.now.characters) }
+    {
+        let len = self.len();
+        if other.len() != len {
+            return false;
+        }
+        let mut pos = 0;
+        while pos < len {
+            let mine = self.run_at(pos);
+            let theirs = other.run_at(pos);
+            let count = mine.len().min(theirs.len());
+            if mine[..count] != theirs[..count] {
+                return false;
+            }
+            pos += count as u32;
+        }
+        true
+    }
+
+    /// The characters before a place.
+    pub(crate) fn front(&self, pos: u32) -> Result<Text, AllocError>
+        requires { pos ≤ length self.now.characters }
+        ensures { IfOk result (λ t. t.characters ≡ take pos self.now.characters) }
+    {
+        match &*self.node {
+            Node::Leaf(leaf) => make_leaf(leaf.alloc(), leaf.part(0, pos)?),
+            Node::Branch(branch) => {
+                let found = part_at(branch.parts.as_slice(), pos);
+                let part = branch.parts[found.index].front(pos - found.from)?;
+                after_parts(
+                    branch.parts.as_slice(),
+                    found.index,
+                    branch.height - 1,
+                    part,
+                )
+            }
+        }
+    }
+
+    /// The characters from a place on.
+    pub(crate) fn back(&self, pos: u32) -> Result<Text, AllocError>
+        requires { pos ≤ length self.now.characters }
+        ensures { IfOk result (λ t. t.characters ≡ drop pos self.now.characters) }
+    {
+        match &*self.node {
+            Node::Leaf(leaf) => make_leaf(leaf.alloc(), leaf.part(pos, leaf.len() - pos)?),
+            Node::Branch(branch) => {
+                let found = part_at(branch.parts.as_slice(), pos);
+                let part = branch.parts[found.index].back(pos - found.from)?;
+                before_parts(
+                    branch.parts.as_slice(),
+                    found.index + 1,
+                    branch.height - 1,
+                    part,
+                )
+            }
+        }
     }
 
     /// The text with another in place of the characters from `from` to `to` (Text.replace). `Err`: out of memory.
@@ -179,12 +421,9 @@ impl Text {
         requires fits { length self.now.characters - (to - from) + length inserted.now.characters < 2 ^ 32 }
         ensures { IfOk result (λ t. t.characters ≡ replaced from to inserted.now.characters self.now.characters) }
     {
-        let chars = self.chars()?;
-        let mut builder = TextBuilder::new(*self.lines.allocator());
-        builder.push_all(chars.split_at(from as usize).0)?;
-        builder.push_all(inserted.chars()?.as_slice())?;
-        builder.push_all(chars.split_at(to as usize).1)?;
-        builder.finish()
+        let front = self.front(from)?;
+        let back = self.back(to)?;
+        front.append(inserted)?.append(&back)
     }
 
     /// The characters of this text, then those of the other (Text.append). `Err`: out of memory.
@@ -192,10 +431,7 @@ impl Text {
         requires { length self.now.characters + length other.now.characters < 2 ^ 32 }
         ensures { IfOk result (λ t. t.characters ≡ self.now.characters ++ other.now.characters) }
     {
-        let mut builder = TextBuilder::new(*self.lines.allocator());
-        builder.push_all(self.chars()?.as_slice())?;
-        builder.push_all(other.chars()?.as_slice())?;
-        builder.finish()
+        append_glued(self, other)
     }
 
     /// The characters from one place to another as a text of their own (Text.slice). `Err`: out of memory.
@@ -204,31 +440,15 @@ impl Text {
         requires within { to ≤ length self.now.characters }
         ensures { IfOk result (λ t. t.characters ≡ slice from to self.now.characters) }
     {
-        let chars = self.chars()?;
-        let rest = chars.split_at(from as usize).1;
-        let mut builder = TextBuilder::new(*self.lines.allocator());
-        builder.push_all(rest.split_at((to - from) as usize).0)?;
-        builder.finish()
+        self.front(to)?.back(from)
     }
 
-    /// Whether both have the same characters (Text.eq).
-    pub fn same(&self, other: &Text) -> bool
-        ensures { IsTrue result ↔ (self.now.characters ≡ other.now.characters) }
-    {
-        same_lines(self.lines.as_slice(), other.lines.as_slice())
-    }
-
-    /// The same text once more. `Err`: out of memory.
+    /// The same text once more, which shares all its parts. `Err`: out of memory.
     pub fn try_copy(&self) -> Result<Text, AllocError>
         ensures { IfOk result (λ t. t ≡ self.now) }
     {
-        let mut lines = Vec::with_capacity(*self.lines.allocator(), self.lines.len())?;
-        for line in &self.lines {
-            lines.push(line.try_copy()?)?;
-        }
         Ok(Text {
-            lines,
-            len: self.len,
+            node: self.node.clone()?,
         })
     }
 }

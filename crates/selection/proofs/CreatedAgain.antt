@@ -5,47 +5,27 @@ use Rattle.selection.specs.declared.range.Range.{Range}
 use Rattle.selection.specs.declared.marked.Marked.{Marked}
 use Rattle.selection.specs.Ranges.{low, high, is_empty, meet}
 use Rattle.selection.specs.Selections.{IsSelection, SelectionView, all_joined, are_apart, begins_before, joined_from, main_of, marked_from, normal_form, range_of, selection_of}
+use Rattle.selection.proofs.Apart.{and_left, apart_rest, high_before, not_true}
+use Rattle.selection.proofs.Normals.{ranges-marked}
 use Rattle.selection.proofs.SelectionOrder.{begins_before-order}
 use Rattle.stable_order.proofs.StableSort.{NoneBelow, Rises, stable_sort-risen}
 
-and_left : (a b : Bool) → (a && b) ≡ true → a ≡ true
-and_left true b h = refl
-and_left false b h = cc
-
-and_right : (a b : Bool) → (a && b) ≡ true → b ≡ true
-and_right true b h = h
-and_right false b h = cc
-
-not_true : (b : Bool) → not b ≡ true → b ≡ false
-not_true false h = refl
-not_true true h = cc
-
-ends_apart : (ha lb : ℕ) (c : Bool) → (ltb lb ha || (eqb lb ha && c)) ≡ false → ha ≤ lb
-ends_apart ha lb c h = grind (arith, nat_tests)
+not_less : (x y : ℕ) → y ≤ x → ltb x y ≡ false
+not_less x y h = grind (arith, nat_tests)
 
 -- each range begins after the end of those before it
-none_below : (a : Marked) (i main l : ℕ) (r : Range) (rs : List Range) → low a.range ≤ low r → are_apart (r ∷ rs) ≡ true → NoneBelow begins_before a (marked_from i main (r ∷ rs))
-none_below a i main l r [] h p = (not_less (low r) (low a.range) h, tt)
-  where
-    not_less : (x y : ℕ) → y ≤ x → ltb x y ≡ false
-    not_less x y h = grind (arith, nat_tests)
-none_below a i main l r (q ∷ rs) h p =
-    let e = not_true (meet r q) (and_left (not (meet r q)) (are_apart (q ∷ rs)) p) in
-    let k = ends_apart (high r) (low q) (is_empty r || is_empty q) e in
-    (not_less (low r) (low a.range) h, none_below a (suc i) main l q rs (omega (arith, k, h)) (and_right (not (meet r q)) (are_apart (q ∷ rs)) p))
-  where
-    not_less : (x y : ℕ) → y ≤ x → ltb x y ≡ false
-    not_less x y h = grind (arith, nat_tests)
+none_below : (a : Marked) (i main : ℕ) (r : Range) (rs : List Range) → low a.range ≤ low r → are_apart (r ∷ rs) ≡ true → NoneBelow begins_before a (marked_from i main (r ∷ rs))
+none_below a i main r [] h p = (not_less (low r) (low a.range) h, tt)
+none_below a i main r (q ∷ rs) h p =
+    (not_less (low r) (low a.range) h, none_below a (suc i) main q rs (omega (arith, high_before r q rs p, h)) (apart_rest r q rs p))
 
 rises : (i main : ℕ) (rs : List Range) → are_apart rs ≡ true → Rises begins_before (marked_from i main rs)
 rises i main [] p = tt
 rises i main (r ∷ []) p = (tt, tt)
-rises i main (r ∷ q ∷ rs) p =
-    let e = not_true (meet r q) (and_left (not (meet r q)) (are_apart (q ∷ rs)) p) in
-    let k = ends_apart (high r) (low q) (is_empty r || is_empty q) e in (
-      none_below (record { range = r; is_main = eqb i main }) (suc i) main 0 q rs (omega (arith, k)) (and_right (not (meet r q)) (are_apart (q ∷ rs)) p),
-      rises (suc i) main (q ∷ rs) (and_right (not (meet r q)) (are_apart (q ∷ rs)) p),
-    )
+rises i main (r ∷ q ∷ rs) p = (
+  none_below (record { range = r; is_main = eqb i main }) (suc i) main q rs (omega (arith, high_before r q rs p)) (apart_rest r q rs p),
+  rises (suc i) main (q ∷ rs) (apart_rest r q rs p),
+)
 
 joined_apart : (i main : ℕ) (r : Range) (rs : List Range) → are_apart (r ∷ rs) ≡ true →
     joined_from (record { range = r; is_main = eqb i main }) (marked_from (suc i) main rs) ≡ marked_from i main (r ∷ rs)
@@ -53,15 +33,11 @@ joined_apart i main r [] p = refl
 joined_apart i main r (q ∷ rs) p =
     let m : Marked = record { range = r; is_main = eqb i main } in
     let e = not_true (meet r q) (and_left (not (meet r q)) (are_apart (q ∷ rs)) p) in
-    rw e (ap (λ ms. m ∷ ms) (joined_apart (suc i) main q rs (and_right (not (meet r q)) (are_apart (q ∷ rs)) p)))
+    rw e (ap (λ ms. m ∷ ms) (joined_apart (suc i) main q rs (apart_rest r q rs p)))
 
 all_apart : (i main : ℕ) (rs : List Range) → are_apart rs ≡ true → all_joined (marked_from i main rs) ≡ marked_from i main rs
 all_apart i main [] p = refl
 all_apart i main (r ∷ rs) p = joined_apart i main r rs p
-
-ranges-marked : (i main : ℕ) (rs : List Range) → map range_of (marked_from i main rs) ≡ rs
-ranges-marked i main [] = refl
-ranges-marked i main (r ∷ rs) = ap (λ s. r ∷ s) (ranges-marked (suc i) main rs)
 
 main-marked : (i k : ℕ) (rs : List Range) → k < length rs → main_of (marked_from i (i + k) rs) ≡ k
 main-marked i k [] l = absurd (omega arith)

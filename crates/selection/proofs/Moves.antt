@@ -1,18 +1,18 @@
 -- Mapped ranges lie in the new document.
 use Rattle.std.proofs.Common.{◌≡◌, ℕ, ◌≤◌, Bool, true, false, cond, ltb, refl, List, [], ◌∷◌, map, Option, Some, None, arith}
 use Rattle.std.proofs.lemmas.Bool.Decides.{nat_tests}
-use Rattle.std.specs.Prelude.{IfSome}
+use Rattle.std.specs.Prelude.{IfSome, unwrap_or}
 use Rattle.change_desc.specs.declared.section.Section.{Section}
 use Rattle.change_desc.specs.declared.map_mode.MapMode.TheVariants.{Simple}
 use Rattle.change_desc.specs.Sections.{counted, new_size}
 use Rattle.change_desc.specs.Positions.{map_pos}
 use Rattle.change_desc.proofs.Bounds.{map_pos-within}
 use Rattle.selection.specs.declared.range.Range.{Range}
-use Rattle.selection.specs.Ranges.{low, high, is_empty, is_backward, cursor, ordered_range, or_zero, place_in, uncrossed, moved_range}
+use Rattle.selection.specs.Ranges.{low, high, is_empty, is_backward, cursor, ordered_range, place_in, uncrossed, moved_range}
 use Rattle.selection.specs.Selections.{LieIn}
 use Rattle.selection.proofs.Normals.{high-ordered}
 
-zero_within : (n : ℕ) (o : Option ℕ) → IfSome o (λ q. q ≤ n) → or_zero o ≤ n
+zero_within : (n : ℕ) (o : Option ℕ) → IfSome o (λ q. q ≤ n) → unwrap_or o 0 ≤ n
 zero_within n (Some q) h = h
 zero_within n None h = omega arith
 

@@ -1,17 +1,20 @@
 -- The normal form has one main range, neighbours that don't meet, and no end past those of the ranges that it was made of.
-use Rattle.std.proofs.Common.{◌≡◌, ℕ, zero, suc, ◌+◌, ◌≤◌, ◌<◌, max, Bool, true, false, ◌&&◌, ◌||◌, cond, eqb, ltb, List, [], ◌∷◌, map, length, get_or, refl, sym, ap, ◌∙◌, arith}
+use Rattle.std.proofs.Common.{◌≡◌, ℕ, zero, suc, ◌+◌, ◌≤◌, ◌<◌, max, Bool, true, false, ◌&&◌, ◌||◌, cond, eqb, ltb, List, [], ◌∷◌, map, length, take, drop, Some, refl, sym, ap, ◌∙◌, arith}
 use Rattle.std.proofs.lemmas.Bool.Decides.{nat_tests}
+use Rattle.std.specs.Prelude.{slice_get}
 use Rattle.selection.specs.declared.range.Range.{Range}
 use Rattle.selection.specs.declared.marked.Marked.{Marked}
 use Rattle.stable_order.specs.StableSort.{insert_by, stable_sort}
+use Rattle.stable_order.proofs.StableSort.{list_any-stable_sort}
+use Rattle.std.specs.List.{list_any}
 use Rattle.selection.specs.Ranges.{low, high, is_empty, is_backward, ordered_range, meet, joined_range}
-use Rattle.selection.specs.Selections.{IsSelection, LieIn, all_joined, are_apart, begins_before, joined, joined_from, main_of, marked_from, normal_form, range_at, range_of}
+use Rattle.selection.specs.Selections.{IsSelection, LieIn, all_joined, are_apart, begins_before, joined, joined_from, main_of, marked_from, normal_form, range_of}
 
 -- the one range at an index
-pub range_at-get : (i : ℕ) (rs : List Range) (d : Range) → i < length rs → range_at i rs ≡ get_or rs i d ∷ []
-range_at-get i [] d l = absurd (omega arith)
-range_at-get zero (r ∷ rs) d l = refl
-range_at-get (suc i) (r ∷ rs) d l = range_at-get i rs d (omega arith)
+pub one_at : (i : ℕ) (rs : List Range) (r : Range) → slice_get rs i ≡ Some r → take 1 (drop i rs) ≡ r ∷ []
+one_at i [] r e = cc
+one_at zero (q ∷ rs) r e = let same : q ≡ r = cc in ap (λ x. x ∷ []) same
+one_at (suc i) (q ∷ rs) r e = one_at i rs r e
 
 -- neighbours
 low-ordered : (from to : ℕ) (b : Bool) → from ≤ to → low (ordered_range from to b) ≡ from
@@ -22,13 +25,13 @@ pub high-ordered : (from to : ℕ) (b : Bool) → from ≤ to → high (ordered_
 high-ordered from to true l = omega (arith, l)
 high-ordered from to false l = omega (arith, l)
 
-low_high : (r : Range) → low r ≤ high r
+pub low_high : (r : Range) → low r ≤ high r
 low_high r = omega arith
 
-low-joined : (a b : Range) → low (joined_range a b) ≡ low a
+pub low-joined : (a b : Range) → low (joined_range a b) ≡ low a
 low-joined a b = low-ordered (low a) (max (high a) (high b)) (is_backward b) (omega (arith, low_high a))
 
-high-joined : (a b : Range) → high (joined_range a b) ≡ max (high a) (high b)
+pub high-joined : (a b : Range) → high (joined_range a b) ≡ max (high a) (high b)
 high-joined a b = high-ordered (low a) (max (high a) (high b)) (is_backward b) (omega (arith, low_high a))
 
 empty_ends : (r : Range) → is_empty r ≡ eqb (low r) (high r)
@@ -67,18 +70,12 @@ all_apart [] = refl
 all_apart (m ∷ ms) = joined_apart m ms
 
 -- the main range
-abbrev has_main : List Marked → Bool
-has_main [] = false
-has_main (m ∷ ms) = m.is_main || has_main ms
+abbrev pub has_main : List Marked → Bool
+has_main = list_any (λ (m : Marked). m.is_main)
 
 or-assoc : (a b c : Bool) → ((a || b) || c) ≡ (a || (b || c))
 or-assoc true b c = refl
 or-assoc false b c = refl
-
-or-swap : (a b c : Bool) → (a || (b || c)) ≡ (b || (a || c))
-or-swap true true c = refl
-or-swap true false c = refl
-or-swap false b c = refl
 
 has_main-joined : (m : Marked) (ms : List Marked) → has_main (joined_from m ms) ≡ (m.is_main || has_main ms)
 has_main-joined m [] = refl
@@ -88,19 +85,6 @@ has_main-joined m (k ∷ ms) = cases (meet m.range k.range) (has_main-joined (jo
         has_main (cond b (joined_from (joined m k) ms) (m ∷ joined_from k ms)) ≡ (m.is_main || (k.is_main || has_main ms))
     cases true e f = e ∙ or-assoc m.is_main k.is_main (has_main ms)
     cases false e f = ap (λ b. m.is_main || b) f
-
-has_main-insert : (m : Marked) (ms : List Marked) → has_main (insert_by begins_before m ms) ≡ (m.is_main || has_main ms)
-has_main-insert m [] = refl
-has_main-insert m (k ∷ ms) = cases (begins_before k m) (has_main-insert m ms)
-  where
-    cases : (b : Bool) → has_main (insert_by begins_before m ms) ≡ (m.is_main || has_main ms) →
-        has_main (cond b (k ∷ insert_by begins_before m ms) (m ∷ k ∷ ms)) ≡ (m.is_main || (k.is_main || has_main ms))
-    cases true e = ap (λ b. k.is_main || b) e ∙ or-swap k.is_main m.is_main (has_main ms)
-    cases false e = refl
-
-has_main-sorted : (ms : List Marked) → has_main (stable_sort begins_before ms) ≡ has_main ms
-has_main-sorted [] = refl
-has_main-sorted (m ∷ ms) = has_main-insert m (stable_sort begins_before ms) ∙ ap (λ b. m.is_main || b) (has_main-sorted ms)
 
 has_main-marked : (i k : ℕ) (rs : List Range) → k < length rs → has_main (marked_from i (i + k) rs) ≡ true
 has_main-marked i k [] l = absurd (omega arith)
@@ -125,15 +109,21 @@ has_main-all : (ms : List Marked) → has_main (all_joined ms) ≡ has_main ms
 has_main-all [] = refl
 has_main-all (m ∷ ms) = has_main-joined m ms
 
+pub normal-has_main : (ranges : List Range) (main : ℕ) → main < length ranges → has_main (all_joined (stable_sort begins_before (marked_from 0 main ranges))) ≡ true
+normal-has_main ranges main l =
+    let marks : List Marked = marked_from 0 main ranges in
+    let e : 0 + main ≡ main = omega arith in
+    has_main-all (stable_sort begins_before marks)
+    ∙ (list_any-stable_sort begins_before (λ (m : Marked). m.is_main) marks ∙ (ap (λ n. has_main (marked_from 0 n ranges)) (sym e) ∙ has_main-marked 0 main ranges l))
+
 pub normal-is_selection : (ranges : List Range) (main : ℕ) → main < length ranges → IsSelection (normal_form ranges main)
 normal-is_selection ranges main l =
     let sorted : List Marked = stable_sort begins_before (marked_from 0 main ranges) in
-    let e : 0 + main ≡ main = omega arith in
-    record {
-      apart = all_apart sorted;
-      within = main_within (all_joined sorted)
-          (has_main-all sorted ∙ (has_main-sorted (marked_from 0 main ranges) ∙ (ap (λ n. has_main (marked_from 0 n ranges)) (sym e) ∙ has_main-marked 0 main ranges l)));
-    }
+    record { apart = all_apart sorted; within = main_within (all_joined sorted) (normal-has_main ranges main l) }
+
+pub ranges-marked : (i main : ℕ) (rs : List Range) → map range_of (marked_from i main rs) ≡ rs
+ranges-marked i main [] = refl
+ranges-marked i main (r ∷ rs) = ap (λ s. r ∷ s) (ranges-marked (suc i) main rs)
 
 -- ends
 abbrev MarksIn : ℕ → List Marked → Type 0
@@ -173,7 +163,8 @@ normal-inside len ranges main h =
     let sorted : List Marked = stable_sort begins_before (marked_from 0 main ranges) in
     ranges_in len (all_joined sorted) (all_joined_in len sorted (sorted_in len (marked_from 0 main ranges) (marks_in len 0 main ranges h)))
 
-pub range_at-inside : (len i : ℕ) (rs : List Range) → LieIn len rs → LieIn len (range_at i rs)
-range_at-inside len i [] h = tt
-range_at-inside len zero (r ∷ rs) h = (h.0, tt)
-range_at-inside len (suc i) (r ∷ rs) h = range_at-inside len i rs h.1
+pub one_at-inside : (len i : ℕ) (rs : List Range) → LieIn len rs → LieIn len (take 1 (drop i rs))
+one_at-inside len zero [] h = tt
+one_at-inside len (suc i) [] h = tt
+one_at-inside len zero (r ∷ rs) h = (h.0, tt)
+one_at-inside len (suc i) (r ∷ rs) h = one_at-inside len i rs h.1

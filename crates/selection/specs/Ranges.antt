@@ -1,5 +1,5 @@
 -- Ranges of a selection: their ends, their direction, and where changes move them (manual: SelectionRange).
-use Rattle.std.specs.Prelude.{ℕ, min, max, Bool, true, false, cond, ◌&&◌, ◌||◌, eqb, ltb, List, Option, Some, None}
+use Rattle.std.specs.Prelude.{ℕ, min, max, Bool, true, false, cond, ◌&&◌, ◌||◌, eqb, leb, ltb, List, unwrap_or}
 use Rattle.change_desc.specs.declared.section.Section.{Section}
 use Rattle.change_desc.specs.declared.map_mode.MapMode.TheVariants.{Simple}
 use Rattle.change_desc.specs.Sections.{counted}
@@ -28,6 +28,11 @@ abbrev pub ordered_range : (from to : ℕ) → (backward : Bool) → Range
 ordered_range from to true = record { anchor = to; head = from }
 ordered_range from to false = record { anchor = from; head = to }
 
+-- Covering: a range covers each place from its lesser to its greater end, both ends included. So a cursor covers its own place,
+-- and where two ranges touch, both cover the place at which they do.
+abbrev pub covers : (place : ℕ) → Range → Bool
+covers place r = leb (low r) place && leb place (high r)
+
 -- Meeting: two ranges, the second of which doesn't begin before the first, overlap, or touch where one is empty.
 abbrev pub meet : Range → Range → Bool
 meet a b = ltb (low b) (high a) || (eqb (low b) (high a) && (is_empty a || is_empty b))
@@ -37,12 +42,8 @@ abbrev pub joined_range : Range → Range → Range
 joined_range a b = ordered_range (low a) (max (high a) (high b)) (is_backward b)
 
 -- Mapped place: where a position goes whatever was deleted around it (in that mode there always is an answer).
-abbrev pub or_zero : Option ℕ → ℕ
-or_zero (Some n) = n
-or_zero None = 0
-
 abbrev pub place_in : List (Section ℕ) → ℕ → (negative : Bool) → ℕ
-place_in changes p negative = or_zero (map_pos counted changes p negative Simple)
+place_in changes p negative = unwrap_or (map_pos counted changes p negative Simple) 0
 
 -- the range between two mapped ends, a cursor at the second where they crossed
 abbrev pub uncrossed : (from to : ℕ) → (backward : Bool) → Range

@@ -1,12 +1,13 @@
 -- Selections: a list of ranges, one of which is the main one, and their normal form (manual: EditorSelection).
-use Rattle.std.specs.Prelude.{◌≡◌, ℕ, zero, suc, ◌<◌, ◌≤◌, Bool, true, not, cond, ◌&&◌, ◌||◌, eqb, ltb, leb, List, [], ◌∷◌, map, length, Option, Some, None}
+use Rattle.std.specs.Prelude.{◌≡◌, ℕ, suc, ◌<◌, ◌≤◌, Bool, true, not, cond, ◌&&◌, ◌||◌, eqb, ltb, leb, List, [], ◌∷◌, map, length, take, drop, Option, Some, None}
+use Rattle.std.specs.List.{list_any}
 use Rattle.change_desc.specs.declared.section.Section.{Section}
 use Rattle.selection.specs.declared.range.Range.{Range}
 use Rattle.selection.specs.declared.marked.Marked.{Marked}
 use Rattle.selection.specs.declared.error.SelectionError.{SelectionError}
 use Rattle.selection.specs.declared.error.SelectionError.TheVariants.{NoRanges, BadMain}
 use Rattle.stable_order.specs.StableSort.{stable_sort}
-use Rattle.selection.specs.Ranges.{low, high, meet, joined_range, moved_range}
+use Rattle.selection.specs.Ranges.{low, high, covers, meet, joined_range, moved_range}
 
 -- A selection as plain data: its ranges, and which of them, counted from 0, is the main one.
 pub record SelectionView : Type 0 where
@@ -82,10 +83,13 @@ abbrev pub moved_selection : List (Section ℕ) → SelectionView → SelectionV
 moved_selection changes s = normal_form (map (moved_range changes) s.ranges) s.main
 
 -- the main range alone (manual: EditorSelection.asSingle)
-abbrev pub range_at : ℕ → List Range → List Range
-range_at i [] = []
-range_at zero (r ∷ rs) = r ∷ []
-range_at (suc i) (r ∷ rs) = range_at i rs
-
 abbrev pub single_of : SelectionView → SelectionView
-single_of s = record { ranges = range_at s.main s.ranges; main = 0 }
+single_of s = record { ranges = take 1 (drop s.main s.ranges); main = 0 }
+
+-- Covered: whether one of the ranges covers a place.
+abbrev pub is_covered : (place : ℕ) → List Range → Bool
+is_covered place = list_any (covers place)
+
+-- whether the range with an index covers it
+abbrev pub is_covered_at : (index place : ℕ) → List Range → Bool
+is_covered_at index place ranges = is_covered place (take 1 (drop index ranges))

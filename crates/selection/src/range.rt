@@ -3,7 +3,7 @@ ghost use Rattle.change_desc.specs.Positions.{is_negative};
 ghost use Rattle.change_desc.specs.Sections.{old_size};
 ghost use Rattle.selection.specs.Ranges.{high, is_backward, is_empty, low, meet, moved_range, ordered_range, place_in, joined_range};
 
-use change_desc::{Desc, MapMode};
+use change_desc::{MapMode, PositionWalker};
 
 /// A range of a selection, from where it began to where it ends now (Reference Manual, SelectionRange). Both are positions in
 /// a document, in characters; the head may lie before the anchor, and an empty range is a cursor.
@@ -74,20 +74,22 @@ impl Range {
         Range::ordered(self.from(), self.to().max(next.to()), next.is_backward())
     }
 
-    /// Where it lies after changes.
-    pub(crate) fn map(&self, changes: &Desc) -> Range
-        requires { high self.now ≤ old_size changes.now }
-        ensures { result ≡ moved_range changes.now self.now }
+    /// Where it lies after the changes of a walk, which hasn't come past its lesser end.
+    pub(crate) fn map(&self, walker: &mut PositionWalker) -> Range
+        requires inside { high self.now ≤ old_size walker.old.desc }
+        requires ascending { walker.old.reached ≤ low self.now }
+        ensures value { result ≡ moved_range walker.old.desc self.now }
+        ensures walk { walker.new ≡ record { desc = walker.old.desc; reached = high self.now } }
     {
         if self.is_empty() {
-            let place = place_in(changes, self.head, -1);
+            let place = place_in(walker, self.head, -1);
             return Range {
                 anchor: place,
                 head: place,
             };
         }
-        let from = place_in(changes, self.from(), 1);
-        let to = place_in(changes, self.to(), -1);
+        let from = place_in(walker, self.from(), 1);
+        let to = place_in(walker, self.to(), -1);
         if to < from {
             return Range {
                 anchor: to,
@@ -99,9 +101,11 @@ impl Range {
 }
 
 /// Where a place of the old document goes, whatever was deleted around it.
-fn place_in(changes: &Desc, pos: u32, side: i32) -> u32
-    requires { pos ≤ old_size changes.now }
-    ensures { result ≡ place_in changes.now pos (is_negative side) }
+fn place_in(walker: &mut PositionWalker, pos: u32, side: i32) -> u32
+    requires inside { pos ≤ old_size walker.old.desc }
+    requires ascending { walker.old.reached ≤ pos }
+    ensures value { result ≡ place_in walker.old.desc pos (is_negative side) }
+    ensures walk { walker.new ≡ record { desc = walker.old.desc; reached = pos } }
 {
-    changes.map_pos(pos, side, MapMode::Simple).unwrap_or(0)
+    walker.map_pos(pos, side, MapMode::Simple).unwrap_or(0)
 }

@@ -1,12 +1,12 @@
-ghost use Rattle.std.specs.Prelude.{IfErr, IfOk, IsTrue, MatchOption, [], length, map, ℕ, ◌<◌, ◌≡◌, ◌≢◌, ◌∷◌, ◌↔◌};
+ghost use Rattle.std.specs.Prelude.{IfErr, IfOk, IsTrue, MatchOption, [], length, map, slice_get, true, ℕ, ◌<◌, ◌≡◌, ◌≢◌, ◌∷◌, ◌↔◌};
 ghost use Rattle.change_desc.specs.Sections.{counted, new_size, old_size};
 ghost use Rattle.selection.specs.Ranges.{moved_range};
-ghost use Rattle.selection.specs.Selections.{IsSelection, LieIn, SelectionView, first_outside, moved_selection, normal_form, range_at, selection_refusal, single_of};
+ghost use Rattle.selection.specs.Selections.{IsSelection, LieIn, SelectionView, are_apart, first_outside, is_covered, is_covered_at, moved_selection, normal_form, selection_refusal, single_of};
 
 use crate::error::SelectionError;
 use crate::marked::{join_all, main_of, ranges_of, with_main};
 use crate::range::Range;
-use change_desc::Desc;
+use change_desc::{Desc, PositionWalker};
 use stable_order::sort_stably;
 use std::alloc::{AllocError, Global};
 use std::marker::Model;
@@ -31,9 +31,13 @@ impl Model for Selection {
 
 impl Selection {
     /// The normal form of these ranges, where the one with index `main`, counted from 0, is the main one. It is refused where
-    /// there is no range, or where `main` is none of them.
+    /// there is no range, or where `main` is none of them. It covers the places that the ranges cover, and no others; its main
+    /// range covers each place that the range with index `main` covers; and ranges in normal form stay as they are.
     pub fn create(alloc: Global, ranges: &[Range], main: usize) -> Result<Selection, SelectionError>
         ensures selection { IfOk result (λ selection. selection ≡ normal_form ranges.now main) }
+        ensures covered { IfOk result (λ selection. (place : ℕ) → is_covered place selection.ranges ≡ is_covered place ranges.now) }
+        ensures main { IfOk result (λ selection. (place : ℕ) → IsTrue (is_covered_at main place ranges.now) → IsTrue (is_covered_at selection.main place selection.ranges)) }
+        ensures unchanged { IfOk result (λ selection. let given : SelectionView = record { ranges = ranges.now; main = main } in IsSelection given → selection ≡ given) }
         ensures inside { IfOk result (λ selection. (len : ℕ) → LieIn len ranges.now → LieIn len selection.ranges) }
         ensures accepted { IfOk result (λ _. selection_refusal ranges.now main ≡ None) }
         ensures refused { IfErr result (λ error. error ≢ SelectionError.NoMemory → selection_refusal ranges.now main ≡ Some error) }
@@ -91,7 +95,7 @@ impl Selection {
 
     /// The main range.
     pub fn main(&self) -> Range
-        ensures { result ∷ [] ≡ range_at self.now.main self.now.ranges }
+        ensures { slice_get self.now.ranges self.now.main ≡ Some result }
     {
         self.ranges[self.main]
     }
@@ -158,14 +162,17 @@ fn same_ranges(left: &[Range], right: &[Range]) -> bool
     true
 }
 
-/// The ranges after changes to their document.
+/// The ranges, which stand in order, after changes to their document. Both of their ends are mapped in one pass over the
+/// changes.
 fn moved_ranges(alloc: Global, ranges: &[Range], changes: &Desc) -> Result<Vec<Range>, AllocError>
-    requires { LieIn (old_size changes.now) ranges.now }
+    requires inside { LieIn (old_size changes.now) ranges.now }
+    requires apart { are_apart ranges.now ≡ true }
     ensures { IfOk result (λ moved. moved.items ≡ map (moved_range changes.now) ranges.now) }
 {
     let mut moved = Vec::new(alloc);
+    let mut walker = PositionWalker::new(changes);
     for range in ranges {
-        moved.push(range.map(changes))?;
+        moved.push(range.map(&mut walker))?;
     }
     Ok(moved)
 }
@@ -182,8 +189,3 @@ pub fn first_outside(ranges: &[Range], len: u32) -> Option<u32>
     }
     None
 }
-
-/// A selection made again of its ranges and its main index is the same, since it is in normal form.
-pub fn created_again()
-    ensures { (s : SelectionView) → IsSelection s → normal_form s.ranges s.main ≡ s }
-{}

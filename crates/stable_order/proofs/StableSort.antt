@@ -1,10 +1,10 @@
 -- A stable sort has one answer only, that of `stable_sort`.
-use Rattle.std.proofs.Common.{◌≡◌, ℕ, suc, ◌<◌, ◌≤◌, Bool, true, false, not, ◌&&◌, cond, List, [], ◌∷◌, ◌++◌, length, get_or, refl, sym, ◌∙◌, ap, arith}
+use Rattle.std.proofs.Common.{◌≡◌, ℕ, suc, ◌<◌, ◌≤◌, Bool, true, false, not, ◌&&◌, ◌||◌, cond, List, [], ◌∷◌, ◌++◌, length, get_or, refl, sym, ◌∙◌, ap, arith}
 use Rattle.std.proofs.lemmas.List.Elements.{filter-append}
 use Rattle.std.proofs.lemmas.Grind.{common_steps}
 use Rattle.std.proofs.lemmas.List.Sorted.{sorted_far}
 use Rattle.std.specs.Cmp.{IsStrictWeakOrder}
-use Rattle.std.specs.List.{filter}
+use Rattle.std.specs.List.{filter, list_any}
 use Rattle.std.specs.List.Sorted.{IsSortedBy, IsStableBy, ties}
 use Rattle.stable_order.specs.StableSort.{insert_by, stable_sort}
 
@@ -29,6 +29,25 @@ module _ {X : Type 0} (lt : X → X → Bool) where
     NoneBelow-from_index x xs (λ k l. h 0 (suc k) x (omega arith) (omega arith)),
     Rises-from_index xs (λ i j d le l. h (suc i) (suc j) d (omega arith) (omega arith)),
   )
+
+  or_swap : (a b c : Bool) → (a || (b || c)) ≡ (b || (a || c))
+  or_swap true true c = refl
+  or_swap true false c = refl
+  or_swap false b c = refl
+
+  list_any-placed : (q : X → Bool) (x y : X) (ys : List X) → list_any q (insert_by lt x ys) ≡ (q x || list_any q ys)
+      → (b : Bool) → list_any q (cond b (y ∷ insert_by lt x ys) (x ∷ y ∷ ys)) ≡ (q x || (q y || list_any q ys))
+  list_any-placed q x y ys e true = ap (λ b. q y || b) e ∙ or_swap (q y) (q x) (list_any q ys)
+  list_any-placed q x y ys e false = refl
+
+  list_any-insert : (q : X → Bool) (x : X) (xs : List X) → list_any q (insert_by lt x xs) ≡ (q x || list_any q xs)
+  list_any-insert q x [] = refl
+  list_any-insert q x (y ∷ ys) = list_any-placed q x y ys (list_any-insert q x ys) (lt y x)
+
+  -- sorting changes no answer to whether some element passes a test
+  pub list_any-stable_sort : (q : X → Bool) (xs : List X) → list_any q (stable_sort lt xs) ≡ list_any q xs
+  list_any-stable_sort q [] = refl
+  list_any-stable_sort q (x ∷ xs) = list_any-insert q x (stable_sort lt xs) ∙ ap (λ b. q x || b) (list_any-stable_sort q xs)
 
 module _ {X : Type 0} (lt : X → X → Bool) (o : IsStrictWeakOrder lt) where
   pub Rises-from_sorted : (xs : List X) → IsSortedBy lt xs → Rises lt xs

@@ -1,8 +1,8 @@
--- The stable sort of a list by an order: what is below stands first, and elements that rank alike keep their order.
+-- The stable sort of a list by an order: lesser elements stand first, and elements that rank alike keep their order.
 use Rattle.std.specs.Prelude.{Bool, List, [], ◌∷◌, if◌then◌else◌}
 
 module _ {X : Type 0} (lt : X → X → Bool) where
-  -- with x after each element at the head that is less than x
+  -- the list with x put before its first element that isn't less than x
   abbrev pub insert_by : X → List X → List X
   insert_by x [] = x ∷ []
   insert_by x (y ∷ ys) = if lt y x then y ∷ insert_by x ys else x ∷ y ∷ ys

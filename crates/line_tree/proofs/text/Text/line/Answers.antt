@@ -1,56 +1,17 @@
-use Rattle.std.proofs.Common.{ap, arith, length}
-use Rattle.line_tree.specs.Text.{TextView}
-use Rattle.line_tree.proofs.Numbers.{here, count}
+use Rattle.std.proofs.Common.{◌≡◌, ◌-◌, ◌+◌, ℕ, ap, ◌∙◌, arith}
+use Rattle.line_tree.proofs.LineCounts.{length-lines}
+use Rattle.line_tree.proofs.LineOf.{line_numbered, line_order}
 use Rattle.line_tree.proofs.text.Text.line.Goals as goal
 
-pub len-requires : goal.len-requires
-len-requires c =
-    let e = ap (λ (t : TextView). t.characters) c.self.view_is in
-    let k = here c.self.inside.lines.items c.deref-line-items.result.now c.args.self.now.characters c.loop-index.index c.line-item.result
-    c.deref-line-items.ensures.value c.self.invariant.0 c.self.invariant.1 e c.loop-index-test.true c.line-item.is in
-    omega (arith, k.ends, ap length e, c.self.invariant.2, c.self.invariant.3)
+pub overflow_cast-breaks : goal.overflow_cast-breaks
+overflow_cast-breaks c = omega (arith, length-lines c.args.self.now.characters, c.requires.last, c.breaks-breaks.ensures.value)
 
-pub overflow_add-to : goal.overflow_add-to
-overflow_add-to c =
-    let e = ap (λ (t : TextView). t.characters) c.self.view_is in
-    let k = here c.self.inside.lines.items c.deref-line-items.result.now c.args.self.now.characters c.loop-index.index c.line-item.result
-    c.deref-line-items.ensures.value c.self.invariant.0 c.self.invariant.1 e c.loop-index-test.true c.line-item.is in
-    omega (arith, k.ends, c.loop-index.invariant.0, c.len.ensures, ap length e, c.self.invariant.2, c.self.invariant.3)
+pub line_start-requires : goal.line_start-requires
+line_start-requires c = omega (arith, length-lines c.args.self.now.characters, c.requires.last)
 
-pub returns-then-index-number-clause-line : goal.returns-then-index-number-clause-line
-returns-then-index-number-clause-line c =
-    let e = ap (λ (t : TextView). t.characters) c.self.view_is in
-    let k = here c.self.inside.lines.items c.deref-line-items.result.now c.args.self.now.characters c.loop-index.index c.line-item.result
-    c.deref-line-items.ensures.value c.self.invariant.0 c.self.invariant.1 e c.loop-index-test.true c.line-item.is in
-    rw (← c.if-index-number.true, c.loop-index.invariant.0, c.len.ensures) k.is
+pub returns-clause-line : goal.returns-clause-line
+returns-clause-line c =
+    line_numbered c.args.self.now.characters c.args.number _ _ _ (omega (arith, c.requires.first)) c.line_start.ensures c.line_end.ensures
 
-pub returns-then-index-number-clause-within : goal.returns-then-index-number-clause-within
-returns-then-index-number-clause-within c =
-    let e = ap (λ (t : TextView). t.characters) c.self.view_is in
-    let k = here c.self.inside.lines.items c.deref-line-items.result.now c.args.self.now.characters c.loop-index.index c.line-item.result
-    c.deref-line-items.ensures.value c.self.invariant.0 c.self.invariant.1 e c.loop-index-test.true c.line-item.is in
-    omega (arith, k.ends, c.loop-index.invariant.0, c.len.ensures)
-
-pub overflow_add-from : goal.overflow_add-from
-overflow_add-from c =
-    let e = ap (λ (t : TextView). t.characters) c.self.view_is in
-    let k = here c.self.inside.lines.items c.deref-line-items.result.now c.args.self.now.characters c.loop-index.index c.line-item.result
-    c.deref-line-items.ensures.value c.self.invariant.0 c.self.invariant.1 e c.loop-index-test.true c.line-item.is in
-    let n = count c.self.inside.lines.items c.deref-line-items.result.now c.args.self.now.characters
-    c.deref-line-items.ensures.value c.self.invariant.0 c.self.invariant.1 e in
-    let more = k.more (omega (arith, n, c.requires.last, c.loop-index.invariant.1, c.if-index-number.false)) in
-    omega (arith, more, c.loop-index.invariant.0, c.len.ensures, ap length e, c.self.invariant.2, c.self.invariant.3)
-
-pub loop-index-preserved : goal.loop-index-preserved
-loop-index-preserved c =
-    let e = ap (λ (t : TextView). t.characters) c.self.view_is in
-    let k = here c.self.inside.lines.items c.deref-line-items.result.now c.args.self.now.characters c.loop-index.index c.line-item.result
-    c.deref-line-items.ensures.value c.self.invariant.0 c.self.invariant.1 e c.loop-index-test.true c.line-item.is in
-    (omega (arith, k.next, c.loop-index.invariant.0, c.len.ensures), omega (arith, c.loop-index.invariant.1, c.if-index-number.false))
-
-pub unreachable-requires : goal.unreachable-requires
-unreachable-requires c =
-    let e = ap (λ (t : TextView). t.characters) c.self.view_is in
-    let n = count c.self.inside.lines.items c.deref-line-items.result.now c.args.self.now.characters
-    c.deref-line-items.ensures.value c.self.invariant.0 c.self.invariant.1 e in
-    omega (arith, n, c.requires.last, c.loop-index.invariant.1, c.loop-index-test.false)
+pub returns-clause-order : goal.returns-clause-order
+returns-clause-order c = line_order c.args.self.now.characters _ _ _ c.line_start.ensures c.line_end.ensures

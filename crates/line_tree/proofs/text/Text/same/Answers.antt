@@ -1,15 +1,18 @@
-use Rattle.std.proofs.Common.{ap, sym, ◌∙◌}
-use Rattle.line_tree.specs.Text.{TextView}
-use Rattle.line_tree.specs.Joined.{joined}
-use Rattle.line_tree.proofs.Numbers.{joined-inj}
+use Rattle.std.proofs.Common.{◌≡◌, ◌++◌, take, drop, sym, ◌∙◌, ap, arith, rules}
+use Rattle.std.proofs.Math.Seq.{take-add}
+use Rattle.line_tree.proofs.Inside.{run_part}
 use Rattle.line_tree.proofs.text.Text.same.Goals as goal
 
-pub returns : goal.returns
-returns c =
-    let mine = ap (λ (t : TextView). t.characters) c.self.view_is in
-    let theirs = ap (λ (t : TextView). t.characters) c.other.view_is in
-    let a = c.as_slice.ensures.value in
-    let b = c.as_slice-2.ensures.value in (
-      λ r. sym mine ∙ ap joined (sym a ∙ c.same_lines.ensures.0 r ∙ b) ∙ theirs,
-      λ e. c.same_lines.ensures.1 (a ∙ joined-inj _ _ c.self.invariant.0 c.other.invariant.0 c.self.invariant.1 c.other.invariant.1 (mine ∙ e ∙ sym theirs) ∙ sym b),
-    )
+pub loop-pos-preserved : goal.loop-pos-preserved
+loop-pos-preserved c =
+    let a = c.args.self.now.characters in
+    let b = c.args.other.now.characters in
+    let pos = c.loop-pos.pos in
+    let n = c.min-count.result in
+    let mine = run_part a c.run_at-mine.result.now pos n c.run_at-mine.ensures.run (omega arith) in
+    let theirs = run_part b c.run_at-theirs.result.now pos n c.run_at-theirs.ensures.run (omega arith) in
+    let equal : take n c.run_at-mine.result.now ≡ take n c.run_at-theirs.result.now = search rules in
+    record {
+      within = omega (arith, c.run_at-mine.ensures.short);
+      same = take-add pos n a ∙ ap (λ r. r ++ take n (drop pos a)) c.loop-pos.invariant.same ∙ ap (λ r. take pos b ++ r) (sym mine ∙ equal ∙ theirs) ∙ sym (take-add pos n b);
+    }

@@ -1,0 +1,73 @@
+#!/usr/bin/env python3
+"""Measures `ccm replay` on edits of large documents, and what such a document takes of memory.
+
+Usage: bench/documents.py [EDITS]     20,000 edits where no number is given
+
+Each document is made by lines of at most 1 MiB, and then so many lines each replace one character at places far apart.
+The script prints the processor time of these edits (the run with them less the run without) in a document of 400 lines,
+in one of 400,000 lines of 20 characters, and in one of a single line of 8,000,000 characters, with the ratios to the
+first; and for a document of a million lines of 40 characters the memory of the run for each character. A time is the least
+of three runs.
+"""
+import os
+import subprocess
+import sys
+import tempfile
+
+ROOT = os.path.dirname(os.path.dirname(os.path.abspath(__file__)))
+PIECE = 1_000_000
+
+
+def document(unit, count):
+    """The lines that make a document of so many times the unit."""
+    text = unit * max(1, PIECE // len(unit))
+    yield '{"start":{"doc":""}}\n'
+    left, at = count * len(unit), 0
+    while left > 0:
+        piece = text[: min(left, len(text))]
+        yield '{"update":[{"changes":[{"from":%d,"insert":"%s"}]}]}\n' % (at, piece.replace("\n", "\\n"))
+        left -= len(piece)
+        at += len(piece)
+
+
+def edits(length, count):
+    """Lines that each replace one character, at places far apart."""
+    step = int(length * 0.61803398875)
+    place = 0
+    for i in range(count):
+        place = (place + step) % length
+        yield '{"update":[{"changes":[{"from":%d,"to":%d,"insert":"%s"}]}]}\n' % (place, place + 1, chr(ord("a") + i % 26))
+
+
+def run(lines):
+    """Processor seconds and greatest memory, in bytes, of a run over some lines."""
+    with tempfile.TemporaryFile("w+", encoding="utf-8") as script:
+        script.writelines(lines)
+        script.seek(0)
+        child = subprocess.Popen([f"{ROOT}/ccm", "replay"], stdin=script, stdout=subprocess.DEVNULL)
+        _, status, usage = os.wait4(child.pid, 0)
+        child.returncode = os.waitstatus_to_exitcode(status)
+        if child.returncode != 0:
+            sys.exit(f"bench/documents.py: ccm ended with status {child.returncode}")
+    return usage.ru_utime + usage.ru_stime, usage.ru_maxrss * 1024
+
+
+def seconds_of_edits(unit, count, number):
+    made = list(document(unit, count))
+    changed = made + list(edits(count * len(unit), number))
+    return max(0.0, min(run(changed)[0] for _ in range(3)) - min(run(made)[0] for _ in range(3)))
+
+
+def main():
+    number = int(sys.argv[1]) if len(sys.argv) > 1 else 20_000
+    small = seconds_of_edits("x" * 19 + "\n", 400, number)
+    print(f"{number} edits in 400 lines: {small:.2f} s")
+    for name, unit, count in (("400,000 lines", "x" * 19 + "\n", 400_000), ("one line of 8,000,000 characters", "x" * 20, 400_000)):
+        large = seconds_of_edits(unit, count, number)
+        print(f"{number} edits in {name}: {large:.2f} s, {large / small:.1f} times")
+    empty = run(['{"start":{"doc":""}}\n'])[1]
+    full = run(document("x" * 40 + "\n", 1_000_000))[1]
+    print(f"a million lines of 40 characters: {(full - empty) / 41_000_000:.1f} bytes a character")
+
+
+main()

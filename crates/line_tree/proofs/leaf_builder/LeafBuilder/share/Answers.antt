@@ -1,0 +1,20 @@
+use Rattle.std.proofs.Common.{◌≡◌, ◌++◌, ◌∷◌, [], ◌+◌, ◌<◌, ◌^◌, length, ◌∙◌, ap, sym, subst, arith}
+use Rattle.std.proofs.lemmas.List.{append-nil}
+use Rattle.std.specs.List.{concat}
+use Rattle.line_tree.specs.Breaks.{count_breaks, IsCounted}
+use Rattle.line_tree.proofs.Concats.{shared_more, counted_more}
+use Rattle.line_tree.proofs.leaf_builder.LeafBuilder.share.Goals as goal
+
+pub invariant_of-self-2 : goal.invariant_of-self-2
+invariant_of-self-2 c =
+    let e = shared_more c.end_piece.new.pieces.items c.push.new.self.items c.end_piece.new.last.items c.in_ok-copy.copy c.in_ok-push.ensures.items c.in_ok-end_piece.ensures.ended in
+    let run : c.in_ok-copy.copy ≡ c.args.piece.now = c.in_ok-copy.ensures in
+    let n = counted_more _ _ c.args.piece.now _ _ c.self.invariant (e ∙ ap (λ r. r ++ c.in_ok-copy.copy) c.end_piece.ensures.same ∙ ap (λ r. (concat c.self.inside.pieces.items ++ c.self.inside.last.items) ++ r) run)
+    (omega (arith, c.requires, ap length c.self.view_is)) in
+    rw (c.len.ensures, c.breaks.ensures) n
+
+pub returns : goal.returns
+returns c =
+    let e = shared_more c.end_piece.new.pieces.items c.push.new.self.items c.end_piece.new.last.items c.in_ok-copy.copy c.in_ok-push.ensures.items c.in_ok-end_piece.ensures.ended in
+    let run : c.in_ok-copy.copy ≡ c.args.piece.now = c.in_ok-copy.ensures in
+    e ∙ ap (λ r. r ++ c.in_ok-copy.copy) (c.end_piece.ensures.same ∙ c.self.view_is) ∙ ap (λ r. c.args.self.now ++ r) run

@@ -1,0 +1,25 @@
+use Rattle.std.proofs.Common.{◌≡◌, ◌∷◌, ◌++◌, ◌+◌, ◌-◌, take, drop, length, ap, ◌∙◌, arith}
+use Rattle.line_tree.specs.Breaks.{count_breaks}
+use Rattle.line_tree.proofs.Breaking.{cut_at}
+use Rattle.line_tree.proofs.Seams.{adds_two}
+use Rattle.line_tree.proofs.tree.add_lines.Goals as goal
+
+pub make_leaf-requires-3-clause-few : goal.make_leaf-requires-3-clause-few
+make_leaf-requires-3-clause-few c =
+    let k = cut_at c.args.leaf _ _ c.break_place-place.ensures in
+    let back : c.in_ok-back.back ≡ drop (c.break_place-place.result + 1) c.args.leaf = c.in_ok-back.ensures ∙ rw c.len.ensures k.rest in
+    rw back (omega (arith, k.second, c.requires.few, c.breaks-2.ensures, c.breaks.ensures))
+
+pub returns : goal.returns
+returns c =
+    let cs = c.args.leaf in
+    let place = c.break_place-place.result in
+    let k = cut_at cs _ _ c.break_place-place.ensures in
+    let f = c.in_ok-make_leaf-2.ensures in
+    let b = c.in_ok-make_leaf-3.ensures in
+    let front : c.in_ok-make_leaf-2.field-0.characters ≡ take place cs = f.0 ∙ c.in_ok-front.ensures in
+    let rest : c.in_ok-back.back ≡ drop (place + 1) cs = c.in_ok-back.ensures ∙ rw c.len.ensures k.rest in
+    let back : c.in_ok-make_leaf-3.field-0.characters ≡ drop (place + 1) cs = b.0 ∙ rest in
+    adds_two 0 cs _ _ _ c.in_ok-make_leaf-2.field-0 c.in_ok-make_leaf-3.field-0 f.1 b.1
+    (k.whole ∙ rw (← front, ← back))
+    c.in_ok-push-2.ensures.items c.in_ok-push-3.ensures.items

@@ -1,0 +1,132 @@
+ghost use Rattle.std.specs.Prelude.{◌≡◌, ◌++◌, ◌+◌, ◌^◌, ◌<◌, ◌≤◌, length, IfOk, OnOk};
+ghost use Rattle.line_tree.specs.Breaks.{count_breaks};
+ghost use Rattle.line_tree.specs.Parts.{joined, HaveHeight};
+ghost use Rattle.line_tree.specs.Places.{AddsPieces};
+
+use crate::leaf::Leaf;
+use crate::parts::{breaks_of, len_of};
+use crate::text::{Branch, Node, Text};
+use std::alloc::{AllocError, Global};
+use std::rc::Rc;
+
+/// The text of a leaf of at most 64 lines.
+pub(crate) fn make_leaf(alloc: Global, leaf: Leaf) -> Result<Text, AllocError>
+    requires few { count_breaks leaf < 64 }
+    requires fits { length leaf < 2 ^ 32 }
+    ensures { IfOk result (λ t. (t.characters ≡ leaf) × (t.height ≡ 0)) }
+{
+    let node = Rc::new(alloc, Node::Leaf(leaf))?;
+    Ok(Text { node })
+}
+
+/// The text of 2 to 32 parts of one height.
+pub(crate) fn make_branch(alloc: Global, parts: Vec<Text>, height: u32) -> Result<Text, AllocError>
+    requires several { 2 ≤ length parts.items }
+    requires few { length parts.items ≤ 32 }
+    requires same { HaveHeight height parts.items }
+    requires fits { length (joined parts.items) < 2 ^ 32 }
+    ensures { IfOk result (λ t. (t.characters ≡ joined parts.items) × (t.height ≡ height + 1)) }
+{
+    let len = len_of(parts.as_slice());
+    let breaks = breaks_of(parts.as_slice(), height);
+    let height = height + 1;
+    let node = Rc::new(
+        alloc,
+        Node::Branch(Branch {
+            parts,
+            len,
+            breaks,
+            height,
+        }),
+    )?;
+    Ok(Text { node })
+}
+
+/// Adds one or two leaves of these characters, which have at most 127 lines.
+pub(crate) fn add_lines(alloc: Global, leaf: Leaf, out: &mut Vec<Text>) -> Result<(), AllocError>
+    requires few { count_breaks leaf < 127 }
+    requires fits { length leaf < 2 ^ 32 }
+    ensures { OnOk result (AddsPieces 0 leaf out.old.items out.new.items) }
+{
+    if leaf.breaks() < 64 {
+        out.push(make_leaf(alloc, leaf)?)?;
+        return Ok(());
+    }
+    let place = leaf.break_place(leaf.breaks() / 2);
+    let front = leaf.part(0, place)?;
+    let back = leaf.part(place + 1, leaf.len() - place - 1)?;
+    out.push(make_leaf(alloc, front)?)?;
+    out.push(make_leaf(alloc, back)?)?;
+    Ok(())
+}
+
+/// Adds one or two texts over these parts, of which there are 2 to 64.
+pub(crate) fn add_level(
+    alloc: Global,
+    mut parts: Vec<Text>,
+    height: u32,
+    out: &mut Vec<Text>,
+) -> Result<(), AllocError>
+    requires several { 2 ≤ length parts.items }
+    requires few { length parts.items ≤ 64 }
+    requires same { HaveHeight height parts.items }
+    requires fits { length (joined parts.items) < 2 ^ 32 }
+    ensures { OnOk result (AddsPieces (height + 1) (joined parts.items) out.old.items out.new.items) }
+{
+    if parts.len() <= 32 {
+        out.push(make_branch(alloc, parts, height)?)?;
+        return Ok(());
+    }
+    let half = parts.len() / 2;
+    let rest = parts.split_off(half)?;
+    out.push(make_branch(alloc, parts, height)?)?;
+    out.push(make_branch(alloc, rest, height)?)?;
+    Ok(())
+}
+
+/// Adds the parts, which are shared.
+pub(crate) fn add_copies(parts: &[Text], out: &mut Vec<Text>) -> Result<(), AllocError>
+    ensures { OnOk result (out.new.items ≡ out.old.items ++ parts.now) }
+{
+    for part in parts {
+        out.push(part.try_copy()?)?;
+    }
+    Ok(())
+}
+
+/// One or two texts of one height, as one text.
+pub(crate) fn one_text(
+    alloc: Global,
+    mut pieces: Vec<Text>,
+    height: u32,
+) -> Result<Text, AllocError>
+    requires some { 0 < length pieces.items }
+    requires few { length pieces.items ≤ 2 }
+    requires same { HaveHeight height pieces.items }
+    requires fits { length (joined pieces.items) < 2 ^ 32 }
+    ensures { IfOk result (λ t. t.characters ≡ joined pieces.items) }
+{
+    if pieces.len() == 2 {
+        return make_branch(alloc, pieces, height);
+    }
+    match pieces.pop() {
+        Some(piece) => Ok(piece),
+        None => unreachable!(),
+    }
+}
+
+/// The parts as one text.
+pub(crate) fn join_copies(alloc: Global, parts: &[Text], height: u32) -> Result<Text, AllocError>
+    requires some { 0 < length parts.now }
+    requires few { length parts.now ≤ 32 }
+    requires same { HaveHeight height parts.now }
+    requires fits { length (joined parts.now) < 2 ^ 32 }
+    ensures { IfOk result (λ t. t.characters ≡ joined parts.now) }
+{
+    if parts.len() == 1 {
+        return parts[0].try_copy();
+    }
+    let mut copies = Vec::with_capacity(alloc, parts.len())?;
+    add_copies(parts, &mut copies)?;
+    make_branch(alloc, copies, height)
+}

@@ -1,0 +1,3 @@
+pub mod KeyTable
+pub mod Spelling
+pub mod Characters

@@ -1,0 +1,4 @@
+pub mod Keys
+pub mod Modes
+pub mod Table
+pub mod Typed
