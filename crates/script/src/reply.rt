@@ -117,12 +117,10 @@ fn refusal_value(alloc: Global, refusal: &Refusal) -> Result<Value, AllocError>
     }
 }
 
-fn text_value(alloc: Global, text: &InsertedText) -> Result<Value, AllocError>
+fn text_value(text: &InsertedText) -> Result<Value, AllocError>
     ensures { IfOk result (λ v. view v ≡ string (encode_utf8_all text.now)) }
 {
-    let characters = text.text().chars()?;
-    let text = Str::of(alloc, characters.as_slice())?.text()?;
-    Ok(Value::String(text))
+    Ok(Value::String(text.text().text()?))
 }
 
 fn section_value(alloc: Global, section: &Section<InsertedText>) -> Result<Value, AllocError>
@@ -131,7 +129,7 @@ fn section_value(alloc: Global, section: &Section<InsertedText>) -> Result<Value
     match section {
         Section::Keep(len) => json!(in alloc; *len),
         Section::Replace(len, text) => {
-            let text = text_value(alloc, text)?;
+            let text = text_value(text)?;
             json!(in alloc; [*len, text])
         }
     }
@@ -177,7 +175,7 @@ fn mapped_value(alloc: Global, mapped: &MappedParts) -> Result<Value, AllocError
     ensures { IfOk result (λ v. view v ≡ mapped_data mapped.now) }
 {
     let sections = Value::Array(section_values(alloc, mapped.set.sections())?);
-    let text = text_value(alloc, &mapped.text)?;
+    let text = text_value(&mapped.text)?;
     match mapped.place {
         MappedPlace::NotAsked => json!(in alloc; {"sections": sections, "text": text}),
         MappedPlace::Deleted => {
@@ -194,7 +192,7 @@ fn answer_value(alloc: Global, answer: &Answer) -> Result<Value, AllocError>
 {
     match answer {
         Answer::Length(len) => json!(in alloc; {"length": *len}),
-        Answer::Text(text) => text_value(alloc, text),
+        Answer::Text(text) => text_value(text),
         Answer::Selection(selection) => selection_value(alloc, selection),
         Answer::Mapped(mapped) => mapped_value(alloc, mapped.parts()),
     }
