@@ -8,21 +8,21 @@ use crate::effect_maps::EffectMaps;
 use crate::error::TransactionError;
 use crate::frame::Frame;
 use change_desc::Desc;
-use ext_tree::{ExtId, ExtIds};
 use listed::Listed;
 use std::alloc::{AllocError, Global};
 
-/// What a transaction asks for beside its changes (Reference Manual, StateEffect). `V` is the type of values.
+/// What a transaction asks for beside its changes (Reference Manual, StateEffect). `V` is the type of values; nodes of the
+/// extension tree stand by their ids.
 #[derive(Drop)]
 pub enum Effect<V> {
     /// A value for those that listen to a declared effect kind.
     Kind { id: u32, value: V },
     /// The content of a compartment is this node from now on (Reference Manual, Compartment.reconfigure).
-    Reconfigure { compartment: u32, to: ExtId },
+    Reconfigure { compartment: u32, to: u32 },
     /// The configuration is made of these nodes from now on (Reference Manual, StateEffect.reconfigure).
-    Root(ExtIds),
+    Root(Listed<u32>),
     /// This node is added to the configuration (Reference Manual, StateEffect.appendConfig).
-    Append(ExtId),
+    Append(u32),
 }
 
 /// The effect after changes: its kind's map may change its value or drop it, and without a map it stays, as an effect on the
