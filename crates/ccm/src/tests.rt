@@ -1,10 +1,10 @@
-use change_set::{Change, ChangeSet};
+use change_set::{Change, ChangeSet, InsertedText};
 use line_tree::Text;
 use std::test::Fail;
 
 #[test]
 fn a_change_set_is_copied_with_its_texts(rt: HostRuntime) -> Result<(), Fail> {
-    let insert = Text::of(rt.alloc(), &['x'])?;
+    let insert = InsertedText::of(Text::of(rt.alloc(), &['x'])?);
     let changes = [Change::Span {
         from: 1,
         to: 2,

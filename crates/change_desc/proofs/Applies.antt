@@ -5,7 +5,8 @@ use Rattle.change_desc.specs.declared.section.Section.{Section}
 use Rattle.change_desc.specs.declared.section.Section.TheVariants.{Keep, Replace}
 use Rattle.change_desc.specs.Sections.{Texts, spelled, counted, is_blank, put, normal, apply, invert, old_size, new_size}
 use Rattle.change_desc.specs.Columns.{width, Row, last, next, Fate, stays, leaves, follows, Origin, old, new, more, in_front, times, mores, spell, along_old, along_new}
-use Rattle.change_desc.specs.Algebra.{Piece, whole, part, closed, gather, sections, is_cut_new, is_cut_old, count_of, between, in_gap, composed, compose}
+use Rattle.change_desc.specs.Pieces.{Piece, single, stretch, closed, gather, sections}
+use Rattle.change_desc.specs.Compose.{is_cut_new, is_cut_old, count_of, between, in_gap, composed, compose}
 
 module _ {C : Type 0} where
   pub invert-apply : (s : List (Section (List C))) (doc : List C) → old_size s ≡ length doc → apply (invert s doc) (apply s doc) ≡ doc
@@ -66,20 +67,20 @@ module _ {C : Type 0} where
   -- the text that pieces give
   abbrev pub replay : List (Piece (List C)) → List C → List C
   replay [] doc = []
-  replay (whole (Keep n) ∷ ps) doc = take n doc ++ replay ps (drop n doc)
-  replay (whole (Replace n t) ∷ ps) doc = t ++ replay ps (drop n doc)
-  replay (part _ n t ∷ ps) doc = t ++ replay ps (drop n doc)
+  replay (single (Keep n) ∷ ps) doc = take n doc ++ replay ps (drop n doc)
+  replay (single (Replace n t) ∷ ps) doc = t ++ replay ps (drop n doc)
+  replay (stretch _ n t ∷ ps) doc = t ++ replay ps (drop n doc)
 
   pub apply-gather : (ps : List (Piece (List C))) (doc : List C) → apply (closed spelled (gather spelled ps)) doc ≡ replay ps doc
   apply-gather [] doc = refl
-  apply-gather (whole (Keep zero) ∷ ps) doc = apply-gather ps doc
-  apply-gather (whole (Keep (suc n)) ∷ ps) doc = ap (λ r. take (suc n) doc ++ r) (apply-gather ps (drop (suc n) doc))
-  apply-gather (whole (Replace zero []) ∷ ps) doc = apply-gather ps doc
-  apply-gather (whole (Replace zero (c ∷ t)) ∷ ps) doc = ap (λ r. (c ∷ t) ++ r) (apply-gather ps doc)
-  apply-gather (whole (Replace (suc n) t) ∷ ps) doc = ap (λ r. t ++ r) (apply-gather ps (drop (suc n) doc))
-  apply-gather (part true n t ∷ ps) doc =
+  apply-gather (single (Keep zero) ∷ ps) doc = apply-gather ps doc
+  apply-gather (single (Keep (suc n)) ∷ ps) doc = ap (λ r. take (suc n) doc ++ r) (apply-gather ps (drop (suc n) doc))
+  apply-gather (single (Replace zero []) ∷ ps) doc = apply-gather ps doc
+  apply-gather (single (Replace zero (c ∷ t)) ∷ ps) doc = ap (λ r. (c ∷ t) ++ r) (apply-gather ps doc)
+  apply-gather (single (Replace (suc n) t) ∷ ps) doc = ap (λ r. t ++ r) (apply-gather ps (drop (suc n) doc))
+  apply-gather (stretch true n t ∷ ps) doc =
       rw (← (drop-drop (gather spelled ps).count n doc), append_assoc t (gather spelled ps).text (apply (gather spelled ps).rest (drop (gather spelled ps).count (drop n doc))), apply-gather ps (drop n doc)) refl
-  apply-gather (part false n t ∷ ps) doc =
+  apply-gather (stretch false n t ∷ ps) doc =
       rw (← (drop-drop (gather spelled ps).count n doc), append_assoc t (gather spelled ps).text (apply (gather spelled ps).rest (drop (gather spelled ps).count (drop n doc))), apply-gather ps (drop n doc)) refl
 
   pub apply-sections : (ps : List (Piece (List C))) (doc : List C) → apply (sections spelled ps) doc ≡ replay ps doc

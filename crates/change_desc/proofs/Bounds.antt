@@ -1,12 +1,13 @@
 -- A mapped position lies in the new text.
-use Rattle.std.proofs.Common.{◌≡◌, ℕ, zero, suc, ◌+◌, ◌≤◌, Bool, true, false, cond, List, [], ◌∷◌, ◌++◌, map, Option, Some, None, subst, arith}
+use Rattle.std.proofs.Common.{◌≡◌, ℕ, zero, suc, ◌+◌, ◌≤◌, Bool, true, false, cond, List, [], ◌∷◌, ◌++◌, Option, Some, None, subst, arith}
 use Rattle.std.specs.Prelude.{IfSome}
 use Rattle.std.specs.List.{filter}
+use Rattle.std.specs.Option.{option_or}
 use Rattle.change_desc.specs.declared.section.Section.{Section}
 use Rattle.change_desc.specs.declared.section.Section.TheVariants.{Keep, Replace}
 use Rattle.change_desc.specs.declared.map_mode.MapMode.{MapMode}
 use Rattle.change_desc.specs.Sections.{counted, new_size}
-use Rattle.change_desc.specs.Positions.{Pair, shift, diagonal, cuts, or_else, first_new, last_new, at, before, after, moved, is_lost, map_pos}
+use Rattle.change_desc.specs.Positions.{Pair, shift, diagonal, cuts, first_new, last_new, at, before, after, moved, is_lost, map_pos}
 
 -- all new places of these pairs are at most n
 abbrev Below : ℕ → List Pair → Type 0
@@ -41,7 +42,7 @@ filtered n f [] h = tt
 filtered n f (c ∷ cs) h =
     elim (f c) as (λ b. Below n (cond b (c ∷ filter f cs) (filter f cs))) [ true ↦ (h.0, filtered n f cs h.1) | false ↦ filtered n f cs h.1 ]
 
-or_within : (n : ℕ) (o p : Option ℕ) → IfSome o (λ q. q ≤ n) → IfSome p (λ q. q ≤ n) → IfSome (or_else o p) (λ q. q ≤ n)
+or_within : (n : ℕ) (o p : Option ℕ) → IfSome o (λ q. q ≤ n) → IfSome p (λ q. q ≤ n) → IfSome (option_or o p) (λ q. q ≤ n)
 or_within n (Some m) p h k = h
 or_within n None p h k = k
 

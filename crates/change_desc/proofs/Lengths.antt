@@ -5,7 +5,9 @@ use Rattle.change_desc.specs.declared.section.Section.{Section}
 use Rattle.change_desc.specs.declared.section.Section.TheVariants.{Keep, Replace}
 use Rattle.change_desc.specs.Sections.{Texts, spelled, counted, is_blank, kind, joins, joined, put, normal, measured, lengths}
 use Rattle.change_desc.specs.Columns.{Row, last, next, Fate, stays, leaves, follows, Origin, old, new, more, in_front, times, mores, spell, along_old, along_new}
-use Rattle.change_desc.specs.Algebra.{Piece, whole, part, Open, closed, add, gather, sections, is_cut_new, is_cut_old, between, in_gap, composed, compose, ordered, inserted, character, text_size, mapped, map_over}
+use Rattle.change_desc.specs.Pieces.{Piece, single, stretch, Open, closed, add, gather, sections}
+use Rattle.change_desc.specs.Compose.{is_cut_new, is_cut_old, between, in_gap, composed, compose}
+use Rattle.change_desc.specs.Map.{ordered, inserted, character, text_size, mapped, map_over}
 
 -- what the lemmas ask of texts
 pub record Sizes {T C : Type 0} (X : Texts T C) : Type 0 where
@@ -51,21 +53,21 @@ module _ {T C : Type 0} (X : Texts T C) (S : Sizes X) where
 
   -- pieces
   abbrev piece_length : Piece T → Piece ℕ
-  piece_length (whole x) = whole (measured X x)
-  piece_length (part b n t) = part b n (X.size t)
+  piece_length (single x) = single (measured X x)
+  piece_length (stretch b n t) = stretch b n (X.size t)
 
   abbrev open_length : Open T → Open ℕ
   open_length o = record { count = o.count; text = X.size o.text; rest = lengths X o.rest }
 
   add-lengths : (p : Piece T) (o : Open T) → open_length (add X p o) ≡ add counted (piece_length p) (open_length o)
-  add-lengths (whole x) o = rw (is_blank-measured x) (cases (is_blank X x))
+  add-lengths (single x) o = rw (is_blank-measured x) (cases (is_blank X x))
     where
       cases : (b : Bool) → open_length (cond b o (record { count = 0; text = X.none; rest = x ∷ closed X o })) ≡
           cond b (open_length o) (record { count = 0; text = 0; rest = measured X x ∷ closed counted (open_length o) })
       cases true = refl
       cases false = rw S.size-none refl
-  add-lengths (part true n t) o = rw (S.size-none, S.size-join t o.text) refl
-  add-lengths (part false n t) o = rw (S.size-join t o.text) refl
+  add-lengths (stretch true n t) o = rw (S.size-none, S.size-join t o.text) refl
+  add-lengths (stretch false n t) o = rw (S.size-join t o.text) refl
 
   pub gather-lengths : (ps : List (Piece T)) → open_length (gather X ps) ≡ gather counted (map piece_length ps)
   gather-lengths [] = rw S.size-none refl
@@ -190,15 +192,15 @@ module _ {T C : Type 0} (X : Texts T C) (S : Sizes X) where
   ordered-lengths false ps qs = map-append piece_length ps qs
 
   mapped-lengths : (b : Bool) (r : Row ℕ (Fate ℕ)) (s : Row T (Fate T)) → map piece_length (mapped X b r s) ≡ mapped counted b r (row_old_length s)
-  mapped-lengths b (last i) (last j) = ordered-lengths b (whole (Keep i) ∷ []) (whole (Replace 0 j) ∷ [])
+  mapped-lengths b (last i) (last j) = ordered-lengths b (single (Keep i) ∷ []) (single (Replace 0 j) ∷ [])
   mapped-lengths b (last i) (next j y s) = refl
   mapped-lengths b (next i x r) (last j) = refl
   mapped-lengths b (next i x r) (next j y s) =
-      let here : List (Piece T) = ordered b (whole (Keep (i + text_size x)) ∷ []) (inserted X j y) in
+      let here : List (Piece T) = ordered b (single (Keep (i + text_size x)) ∷ []) (inserted X j y) in
       rw (
         map-append piece_length here (character X x y ++ mapped X b r s),
         map-append piece_length (character X x y) (mapped X b r s),
-        ordered-lengths b (whole (Keep (i + text_size x)) ∷ []) (inserted X j y),
+        ordered-lengths b (single (Keep (i + text_size x)) ∷ []) (inserted X j y),
         inserted-lengths j y,
         character-lengths x y,
         mapped-lengths b r s,

@@ -15,3 +15,4 @@ pub mod MapArms
 pub mod MapLengths
 pub mod Measures
 pub mod Bounds
+pub mod Walks

@@ -3,13 +3,17 @@ use Rattle.std.proofs.Common.{◌≡◌, ℕ, zero, suc, ◌+◌, ◌^◌, ◌�
 use Rattle.std.proofs.lemmas.List.{drop_all}
 use Rattle.change_desc.specs.declared.section.Section.{Section}
 use Rattle.change_desc.specs.declared.section.Section.TheVariants.{Keep, Replace}
-use Rattle.change_desc.specs.declared.part.Part.{Part}
-use Rattle.change_desc.specs.declared.part.Part.TheVariants.{Kept, Fresh, Opened}
+use Rattle.change_desc.specs.declared.tail.Tail.{Tail}
+use Rattle.change_desc.specs.declared.tail.Tail.TheVariants.{Kept, Fresh, Opened}
 use Rattle.change_desc.specs.declared.weave.Weave.{Weave}
 use Rattle.change_desc.specs.Sections.{counted, old_size, new_size, IsSet}
 use Rattle.change_desc.specs.Columns.{last, next, Fate, stays, leaves, follows, in_front, times, along_old}
-use Rattle.change_desc.specs.Algebra.{Piece, whole, part, closed, gather, ordered, inserted, character, text_size, text_of, mapped, map_over}
-use Rattle.change_desc.specs.Weaving.{pieces_new, woven, row_old, left_old, still_new, is_fresh, next_len, Level, new_done}
+use Rattle.change_desc.specs.Pieces.{Piece, single, stretch, closed, gather}
+use Rattle.change_desc.specs.Compose.{text_of}
+use Rattle.change_desc.specs.Map.{ordered, inserted, character, text_size, mapped, map_over}
+use Rattle.change_desc.specs.Tails.{row_old, left_old, still_new, is_fresh}
+use Rattle.change_desc.specs.Weaving.{woven, new_done}
+use Rattle.change_desc.specs.MapSteps.{pieces_new, next_len, Level}
 use Rattle.change_desc.proofs.Normal.{counted_laws, normal-normal}
 use Rattle.change_desc.proofs.Applies.{width-along_old}
 use Rattle.change_desc.proofs.Weaves.{new_size-normal, new_size-append}
@@ -20,26 +24,26 @@ use Rattle.change_desc.proofs.MapArms.{rows_level}
 
 pub new_size-gather : (ps : List (Piece ℕ)) → new_size counted (closed counted (gather counted ps)) ≡ pieces_new ps
 new_size-gather [] = refl
-new_size-gather (whole (Keep zero) ∷ ps) = omega (arith, new_size-gather ps)
-new_size-gather (whole (Keep (suc n)) ∷ ps) = omega (arith, new_size-gather ps)
-new_size-gather (whole (Replace zero zero) ∷ ps) = omega (arith, new_size-gather ps)
-new_size-gather (whole (Replace zero (suc t)) ∷ ps) = omega (arith, new_size-gather ps)
-new_size-gather (whole (Replace (suc n) t) ∷ ps) = omega (arith, new_size-gather ps)
-new_size-gather (part true n t ∷ ps) = omega (arith, new_size-gather ps)
-new_size-gather (part false n t ∷ ps) = omega (arith, new_size-gather ps)
+new_size-gather (single (Keep zero) ∷ ps) = omega (arith, new_size-gather ps)
+new_size-gather (single (Keep (suc n)) ∷ ps) = omega (arith, new_size-gather ps)
+new_size-gather (single (Replace zero zero) ∷ ps) = omega (arith, new_size-gather ps)
+new_size-gather (single (Replace zero (suc t)) ∷ ps) = omega (arith, new_size-gather ps)
+new_size-gather (single (Replace (suc n) t) ∷ ps) = omega (arith, new_size-gather ps)
+new_size-gather (stretch true n t ∷ ps) = omega (arith, new_size-gather ps)
+new_size-gather (stretch false n t ∷ ps) = omega (arith, new_size-gather ps)
 
 pub new_size-woven : (w : Weave) (ps : List (Piece ℕ)) → new_size counted (woven w ps) ≡ new_done w + pieces_new ps
 new_size-woven w ps =
-    new_size-normal counted counted_laws (w.sections.items ++ closed counted (gather counted (part false w.count w.len ∷ ps))) ∙
-    omega (arith, new_size-append w.sections.items (closed counted (gather counted (part false w.count w.len ∷ ps))), new_size-gather (part false w.count w.len ∷ ps))
+    new_size-normal counted counted_laws (w.sections.items ++ closed counted (gather counted (stretch false w.count w.len ∷ ps))) ∙
+    omega (arith, new_size-append w.sections.items (closed counted (gather counted (stretch false w.count w.len ∷ ps))), new_size-gather (stretch false w.count w.len ∷ ps))
 
 pub pieces_new-append : (ps qs : List (Piece ℕ)) → pieces_new (ps ++ qs) ≡ pieces_new ps + pieces_new qs
 pieces_new-append [] qs = omega arith
-pieces_new-append (whole x ∷ ps) qs = omega (arith, pieces_new-append ps qs)
-pieces_new-append (part b n t ∷ ps) qs = omega (arith, pieces_new-append ps qs)
+pieces_new-append (single x ∷ ps) qs = omega (arith, pieces_new-append ps qs)
+pieces_new-append (stretch b n t ∷ ps) qs = omega (arith, pieces_new-append ps qs)
 
 pieces_new-ordered : (before : Bool) (n j : ℕ) (y : Fate ℕ) (ps : List (Piece ℕ)) →
-    pieces_new (ordered before (whole (Keep n) ∷ []) (inserted counted j y) ++ ps) ≡ n + (j + (text_of counted y + pieces_new ps))
+    pieces_new (ordered before (single (Keep n) ∷ []) (inserted counted j y) ++ ps) ≡ n + (j + (text_of counted y + pieces_new ps))
 pieces_new-ordered false n j stays ps = omega arith
 pieces_new-ordered false n j (leaves t) ps = omega arith
 pieces_new-ordered false n j follows ps = omega arith
@@ -82,7 +86,7 @@ both_len before zero n r s = omega arith
 both_len before (suc m) zero r s = omega arith
 both_len before (suc m) (suc n) r s = omega (arith, both_len before m n r s, column_new before 0 stays (times counted m stays r) 0 stays (times counted n stays s))
 
-next_second : (before : Bool) (a b : Part) (r s : Along_old) → Level a b r s → is_fresh b ≡ true → still_new b ≤ pieces_new (mapped counted before (row_old a r) (row_old b s))
+next_second : (before : Bool) (a b : Tail) (r s : Along_old) → Level a b r s → is_fresh b ≡ true → still_new b ≤ pieces_new (mapped counted before (row_old a r) (row_old b s))
 next_second before a (Kept n) r s h f = cc
 next_second before a (Opened n) r s h f = cc
 next_second before a (Fresh zero u) r s h f = second_len before u (row_old a r) s (in_front_level (row_old a r) s (rows_level a (Fresh zero u) r s h))
@@ -94,7 +98,7 @@ next_second before a (Fresh zero u) r s h f = second_len before u (row_old a r) 
     in_front_level (next i x r) (next j y s) a = tt
 next_second before a (Fresh (suc n) u) r s h f = second_leaves before u (row_old a r) (times counted n follows s) (rows_level a (Fresh (suc n) u) r s h)
 
-next_first : (before : Bool) (a b : Part) (r s : Along_old) → Level a b r s → is_fresh a ≡ true → still_new a ≤ pieces_new (mapped counted before (row_old a r) (row_old b s))
+next_first : (before : Bool) (a b : Tail) (r s : Along_old) → Level a b r s → is_fresh a ≡ true → still_new a ≤ pieces_new (mapped counted before (row_old a r) (row_old b s))
 next_first before (Kept n) b r s h f = cc
 next_first before (Opened n) b r s h f = cc
 next_first before (Fresh zero t) b r s h f = first_len before t r (row_old b s) (in_front_level r (row_old b s) (rows_level (Fresh zero t) b r s h))
@@ -106,14 +110,14 @@ next_first before (Fresh zero t) b r s h f = first_len before t r (row_old b s) 
     in_front_level (next i x r) (next j y s) a = tt
 next_first before (Fresh (suc n) t) b r s h f = first_leaves before t (times counted n follows r) (row_old b s) (rows_level (Fresh (suc n) t) b r s h)
 
-next_both : (before : Bool) (a b : Part) (r s : Along_old) → is_fresh a ≡ false → is_fresh b ≡ false → min (still_new a) (still_new b) ≤ pieces_new (mapped counted before (row_old a r) (row_old b s))
+next_both : (before : Bool) (a b : Tail) (r s : Along_old) → is_fresh a ≡ false → is_fresh b ≡ false → min (still_new a) (still_new b) ≤ pieces_new (mapped counted before (row_old a r) (row_old b s))
 next_both before (Fresh n t) b r s f g = cc
 next_both before a (Fresh n t) r s f g = cc
 next_both before (Kept m) (Kept n) r s f g = both_len before m n r s
 next_both before (Kept m) (Opened n) r s f g = omega arith
 next_both before (Opened m) b r s f g = omega arith
 
-next_len-le : (before : Bool) (a b : Part) (r s : Along_old) → Level a b r s → next_len before a b ≤ pieces_new (mapped counted before (row_old a r) (row_old b s))
+next_len-le : (before : Bool) (a b : Tail) (r s : Along_old) → Level a b r s → next_len before a b ≤ pieces_new (mapped counted before (row_old a r) (row_old b s))
 next_len-le before a b r s h = cases (is_fresh b) refl (is_fresh a) refl before
   where
     cases : (f : Bool) → is_fresh b ≡ f → (g : Bool) → is_fresh a ≡ g → (before : Bool) →
@@ -125,8 +129,8 @@ next_len-le before a b r s h = cases (is_fresh b) refl (is_fresh a) refl before
     cases false f true g before = next_first before a b r s h g
     cases false f false g before = next_both before a b r s g f
 
--- what is done and what comes next fit where the whole does
-pub next_fits : (before : Bool) (w : Weave) (a b : Part) (r s : Along_old) (all : List (Section ℕ)) → Level a b r s →
+-- what is done and what comes next fit where all does
+pub next_fits : (before : Bool) (w : Weave) (a b : Tail) (r s : Along_old) (all : List (Section ℕ)) → Level a b r s →
     woven w (mapped counted before (row_old a r) (row_old b s)) ≡ all → new_done w + next_len before a b ≤ new_size counted all
 next_fits before w a b r s all h e =
     omega (arith, next_len-le before a b r s h, new_size-woven w (mapped counted before (row_old a r) (row_old b s)), ap (new_size counted) e)
@@ -134,7 +138,7 @@ next_fits before w a b r s all h e =
 pub done_fits : (w : Weave) (ps : List (Piece ℕ)) (all : List (Section ℕ)) → woven w ps ≡ all → new_done w ≤ new_size counted all
 done_fits w ps all e = omega (arith, new_size-woven w ps, ap (new_size counted) e)
 
-pub level_of : (first second : List (Section ℕ)) (a b : Part) (i j : ℕ) → (a ≡ Kept 0 → i ≡ length first) → (b ≡ Kept 0 → j ≡ length second) →
+pub level_of : (first second : List (Section ℕ)) (a b : Tail) (i j : ℕ) → (a ≡ Kept 0 → i ≡ length first) → (b ≡ Kept 0 → j ≡ length second) →
     left_old a + old_size (drop i first) ≡ left_old b + old_size (drop j second) → Level a b (along_old counted (drop i first)) (along_old counted (drop j second))
 level_of first second a b i j h k l = record {
   level = omega (arith, width-along_old counted (drop i first), width-along_old counted (drop j second));

@@ -2,20 +2,23 @@
 use Rattle.std.proofs.Common.{◌≡◌, ℕ, zero, suc, ◌+◌, ◌-◌, ◌≤◌, ◌<◌, min, Bool, true, false, List, [], ◌∷◌, ◌++◌, refl, sym, ap, ◌∙◌, arith, zero-add}
 use Rattle.change_desc.specs.declared.section.Section.{Section}
 use Rattle.change_desc.specs.declared.section.Section.TheVariants.{Keep, Replace}
-use Rattle.change_desc.specs.declared.part.Part.{Part}
-use Rattle.change_desc.specs.declared.part.Part.TheVariants.{Kept, Fresh, Opened}
+use Rattle.change_desc.specs.declared.tail.Tail.{Tail}
+use Rattle.change_desc.specs.declared.tail.Tail.TheVariants.{Kept, Fresh, Opened}
 use Rattle.change_desc.specs.declared.weave.Weave.{Weave}
 use Rattle.change_desc.specs.Sections.{counted, is_blank, normal, old_of, new_of, new_size}
 use Rattle.change_desc.specs.Columns.{last, next, stays, leaves, follows, in_front, times, along_old}
-use Rattle.change_desc.specs.Algebra.{whole, part, closed, gather, mapped, map_over}
-use Rattle.change_desc.specs.Weaving.{CanMap, Takes, pieces_new, merged_len, Measures, Maps, row_old, left_old, still_new, opened, is_fresh, second_next, beyond, IsPart, new_done}
-use Rattle.change_desc.proofs.Weaves.{new_size-normal, takes_whole, takes_start, takes_on}
+use Rattle.change_desc.specs.Pieces.{single, stretch, closed, gather}
+use Rattle.change_desc.specs.Map.{mapped, map_over}
+use Rattle.change_desc.specs.Tails.{row_old, left_old, still_new, opened, is_fresh, beyond, IsTail}
+use Rattle.change_desc.specs.Weaving.{Takes, new_done}
+use Rattle.change_desc.specs.MapSteps.{CanMap, pieces_new, merged_len, Measures, Maps, second_next}
+use Rattle.change_desc.proofs.Weaves.{new_size-normal, takes_single, takes_start, takes_on}
 use Rattle.change_desc.proofs.Compositions.{Along_old}
 use Rattle.change_desc.proofs.MapArms.{second_text_step, first_text_step, characters_step}
 use Rattle.change_desc.proofs.MapLengths.{new_size-gather, new_size-woven, column_new, ends_new}
 use Rattle.change_desc.proofs.Normal.{counted_laws}
 
--- a weave to which nothing was done, and one with sections and an open part
+-- a weave to which nothing was done, and one with sections and an open Replace
 abbrev nothing : Weave
 nothing = record { sections = record { items = []; capacity = 0 }; count = 0; len = 0 }
 
@@ -23,22 +26,22 @@ abbrev done : List (Section ℕ) → ℕ → ℕ → Weave
 done s n t = record { sections = record { items = s; capacity = 0 }; count = n; len = t }
 
 -- what comes of it by one piece
-by_whole : (x : Section ℕ) → is_blank counted x ≡ false → (v : Weave) × Takes nothing v (whole x) (old_of x) (new_of counted x)
-by_whole x b =
+by_single : (x : Section ℕ) → is_blank counted x ≡ false → (v : Weave) × Takes nothing v (single x) (old_of x) (new_of counted x)
+by_single x b =
     let v = done (normal counted (normal counted (Replace 0 0 ∷ []) ++ x ∷ [])) 0 0 in
-    (v, takes_whole nothing v x b refl refl refl)
+    (v, takes_single nothing v x b refl refl refl)
 
-by_start : (u : ℕ) → (v : Weave) × Takes nothing v (part true 0 u) 0 u
+by_start : (u : ℕ) → (v : Weave) × Takes nothing v (stretch true 0 u) 0 u
 by_start u =
     let v = done (normal counted (Replace 0 0 ∷ [])) 0 u in
     (v, takes_start nothing v 0 u refl refl refl)
 
-by_going_on : (k : ℕ) → (v : Weave) × Takes nothing v (part false k 0) k 0
+by_going_on : (k : ℕ) → (v : Weave) × Takes nothing v (stretch false k 0) k 0
 by_going_on k =
     let v = done [] k 0 in
     (v, takes_on nothing v k 0 refl refl (sym (zero-add k)) refl)
 
-measures-maps : (v : Weave) (n : ℕ) (a b c d : Part) → Maps false nothing v a b c d → new_done v ≡ n → Measures a b c d n
+measures-maps : (v : Weave) (n : ℕ) (a b c d : Tail) → Maps false nothing v a b c d → new_done v ≡ n → Measures a b c d n
 measures-maps v n a b c d m e = record {
   goes = λ r s h.
       omega (
@@ -48,18 +51,18 @@ measures-maps v n a b c d m e = record {
         new_size-woven nothing (mapped counted false (row_old a r) (row_old b s)),
         e,
       );
-  is_part = m.is_part;
+  is_tail = m.is_tail;
   level = m.level;
   lighter = m.lighter;
 }
 
 -- the second set's text
-pub measures_second : (a b : Part) → second_next false a b ≡ true → IsPart a → IsPart b → Measures a b a (opened (left_old b)) (still_new b)
+pub measures_second : (a b : Tail) → second_next false a b ≡ true → IsTail a → IsTail b → Measures a b a (opened (left_old b)) (still_new b)
 measures_second a (Kept n) e p q = cc
 measures_second a (Opened n) e p q = cc
 measures_second a (Fresh zero zero) e p q = absurd (omega (arith, q))
 measures_second a (Fresh zero (suc u)) e p q =
-    let t = by_whole (Replace 0 (suc u)) refl in
+    let t = by_single (Replace 0 (suc u)) refl in
     measures-maps t.0 (suc u) a (Fresh 0 (suc u)) a (opened 0)
     (second_text_step false nothing t.0 a (Fresh 0 (suc u)) 0 (suc u) e p q refl refl (λ h. t.1) (λ h. absurd (omega (arith, h))))
     (omega (arith, t.1.new))
@@ -70,26 +73,26 @@ measures_second a (Fresh (suc n) u) e p q =
     (omega (arith, t.1.new))
 
 -- the first set's text
-pub measures_first : (a b : Part) → second_next false a b ≡ false → is_fresh a ≡ true → IsPart a → IsPart b → Measures a b (opened (left_old a)) b (still_new a)
+pub measures_first : (a b : Tail) → second_next false a b ≡ false → is_fresh a ≡ true → IsTail a → IsTail b → Measures a b (opened (left_old a)) b (still_new a)
 measures_first (Kept n) b e f p q = cc
 measures_first (Opened n) b e f p q = cc
 measures_first (Fresh n zero) b e f p q =
     measures-maps nothing 0 (Fresh n 0) b (opened n) b
     (first_text_step false nothing nothing (Fresh n 0) b n 0 e f p q refl refl refl (λ h. refl) (λ h. absurd (omega (arith, h)))) refl
 measures_first (Fresh n (suc t)) b e f p q =
-    let k = by_whole (Keep (suc t)) refl in
+    let k = by_single (Keep (suc t)) refl in
     measures-maps k.0 (suc t) (Fresh n (suc t)) b (opened n) b
     (first_text_step false nothing k.0 (Fresh n (suc t)) b n (suc t) e f p q refl refl refl (λ h. absurd (omega (arith, h))) (λ h. k.1))
     (omega (arith, k.1.new))
 
 -- characters
-pub measures_characters : (a b : Part) (k : ℕ) → is_fresh a ≡ false → is_fresh b ≡ false → 0 < k → k ≡ min (left_old a) (left_old b) →
+pub measures_characters : (a b : Tail) (k : ℕ) → is_fresh a ≡ false → is_fresh b ≡ false → 0 < k → k ≡ min (left_old a) (left_old b) →
     Measures a b (beyond k a) (beyond k b) (min (still_new a) (still_new b))
 measures_characters (Fresh n t) b k f g p e = cc
 measures_characters a (Fresh n t) k f g p e = cc
 measures_characters (Kept m) (Kept n) zero f g p e = absurd (omega (arith, p))
 measures_characters (Kept m) (Kept n) (suc k) f g p e =
-    let t = by_whole (Keep (suc k)) refl in
+    let t = by_single (Keep (suc k)) refl in
     measures-maps t.0 (min m n) (Kept m) (Kept n) (Kept (m - suc k)) (Kept (n - suc k))
     (characters_step false nothing t.0 (Kept m) (Kept n) (suc k) f g refl p (omega (arith, e)) (omega (arith, e)) (λ h. cc) (λ h i. cc) (λ h i. t.1))
     (omega (arith, t.1.new, e))
@@ -107,7 +110,7 @@ measures_characters (Opened m) (Opened n) k f g p e =
     (characters_step false nothing nothing (Opened m) (Opened n) k f g refl p (omega (arith, e)) (omega (arith, e)) (λ h. refl) (λ h i. cc) (λ h i. cc))
     (omega arith)
 
--- how long it is of whole rows: the new text of the mapped set, whichever texts stand first
+-- how long it is of rows from their start: the new text of the mapped set, whichever texts stand first
 pieces-before : (r s : Along_old) → pieces_new (mapped counted true r s) ≡ merged_len r s
 pieces-before (last i) (last j) = omega (arith, ends_new true i j, ends_new false i j)
 pieces-before (last i) (next j y s) = refl
@@ -172,8 +175,8 @@ row_texts-along (Replace (suc n) t ∷ s) = omega (arith, row_texts-follows n (a
 pub merged_len-sets : (a b : List (Section ℕ)) → merged_len (along_old counted a) (along_old counted b) ≤ new_size counted a + new_size counted b
 merged_len-sets a b = omega (arith, merged_len-le (along_old counted a) (along_old counted b), row_texts-along a, row_texts-along b)
 
--- the least of what two parts have left, where both have some
-pub some_left : (a b : Part) → is_fresh a ≡ false → is_fresh b ≡ false → IsPart a → IsPart b → CanMap a b → 0 < min (left_old a) (left_old b)
+-- the least of what two tails have left, where both have some
+pub some_left : (a b : Tail) → is_fresh a ≡ false → is_fresh b ≡ false → IsTail a → IsTail b → CanMap a b → 0 < min (left_old a) (left_old b)
 some_left (Fresh n t) b f g p q m = cc
 some_left a (Fresh n t) f g p q m = cc
 some_left (Opened x) (Opened y) f g p q m = omega (arith, p, q)
@@ -186,7 +189,7 @@ some_left (Kept zero) (Kept (suc y)) f g p q m = absurd (omega (arith, m.end_fir
 some_left (Kept (suc x)) (Kept zero) f g p q m = absurd (omega (arith, m.end_second refl))
 some_left (Kept (suc x)) (Kept (suc y)) f g p q m = omega arith
 
-pub second_fresh : (a b : Part) → second_next false a b ≡ false → is_fresh a ≡ false → is_fresh b ≡ false
+pub second_fresh : (a b : Tail) → second_next false a b ≡ false → is_fresh a ≡ false → is_fresh b ≡ false
 second_fresh (Kept n) (Fresh m t) e f = cc
 second_fresh (Opened n) (Fresh m t) e f = cc
 second_fresh (Fresh n t) (Fresh m u) e f = cc

@@ -6,7 +6,9 @@ use Rattle.change_desc.specs.declared.kind.Kind.TheVariants.{Keeps, Deletes, Rep
 use Rattle.change_desc.specs.declared.section.Section.TheVariants.{Keep, Replace}
 use Rattle.change_desc.specs.Sections.{Texts, spelled, counted, is_empty_text, is_blank, is_zero, kind, joins, joined, put, normal, apply, old_size, new_size, lengths}
 use Rattle.change_desc.specs.Columns.{width, Row, last, next, Fate, stays, leaves, follows, in_front, times, along_old}
-use Rattle.change_desc.specs.Algebra.{Piece, whole, part, Open, closed, gather, sections, text_of, ordered, staying, merged, merge, inserted, character, text_size, mapped, map_over, compose}
+use Rattle.change_desc.specs.Pieces.{Piece, single, stretch, Open, closed, gather, sections}
+use Rattle.change_desc.specs.Compose.{text_of, compose}
+use Rattle.change_desc.specs.Map.{ordered, staying, merged, merge, inserted, character, text_size, mapped, map_over}
 use Rattle.change_desc.proofs.Applies.{replay, apply-sections, run_old, run_old-along, width-along_old, apply-compose}
 
 module _ {C : Type 0} where
@@ -67,11 +69,11 @@ module _ {C : Type 0} where
 
   -- what A gives at a place is kept, and what B gives is inserted
   replay-ordered : (before : Bool) (u : List C) (n : ℕ) (j : List C) (y : Fate (List C)) (ps : List (Piece (List C))) (rest : List C) → length u ≡ n →
-      replay (ordered before (whole (Keep n) ∷ []) (inserted spelled j y) ++ ps) (u ++ rest) ≡ ordered before u (j ++ text_of spelled y) ++ replay ps rest
+      replay (ordered before (single (Keep n) ∷ []) (inserted spelled j y) ++ ps) (u ++ rest) ≡ ordered before u (j ++ text_of spelled y) ++ replay ps rest
   replay-ordered false u n j y ps rest l =
       rw (take_at u rest n l, drop_at u rest n l, replay-inserted j y ps rest) (sym (append_assoc u (j ++ text_of spelled y) (replay ps rest)))
   replay-ordered true u n j y ps rest l =
-      rw (append_assoc (inserted spelled j y) (whole (Keep n) ∷ []) ps, replay-inserted j y (whole (Keep n) ∷ ps) (u ++ rest), take_at u rest n l, drop_at u rest n l)
+      rw (append_assoc (inserted spelled j y) (single (Keep n) ∷ []) ps, replay-inserted j y (single (Keep n) ∷ ps) (u ++ rest), take_at u rest n l, drop_at u rest n l)
       (sym (append_assoc (j ++ text_of spelled y) u (replay ps rest)))
 
   pub replay-mapped : (before : Bool) (r s : Row (List C) (Fate (List C))) (doc : List C) → width r ≡ length doc → width s ≡ length doc →
@@ -168,29 +170,29 @@ module _ {T C : Type 0} (X : Texts T C) where
 
   abbrev pub pieces_size : List (Piece T) → ℕ
   pieces_size [] = 0
-  pieces_size (whole (Keep n) ∷ ps) = n + pieces_size ps
-  pieces_size (whole (Replace n t) ∷ ps) = n + pieces_size ps
-  pieces_size (part b n t ∷ ps) = n + pieces_size ps
+  pieces_size (single (Keep n) ∷ ps) = n + pieces_size ps
+  pieces_size (single (Replace n t) ∷ ps) = n + pieces_size ps
+  pieces_size (stretch b n t ∷ ps) = n + pieces_size ps
 
-  add-whole : (b : Bool) (x : Section T) (o : Open T) (n : ℕ) → (b ≡ true → n ≡ 0) → old_size (x ∷ []) ≡ n →
+  add-single : (b : Bool) (x : Section T) (o : Open T) (n : ℕ) → (b ≡ true → n ≡ 0) → old_size (x ∷ []) ≡ n →
       old_size (closed X (cond b o (record { count = 0; text = X.none; rest = x ∷ closed X o }))) ≡ n + old_size (closed X o)
-  add-whole true x o n h e = omega (arith, h refl)
-  add-whole false (Keep m) o n h e = omega arith
-  add-whole false (Replace m t) o n h e = omega arith
+  add-single true x o n h e = omega (arith, h refl)
+  add-single false (Keep m) o n h e = omega arith
+  add-single false (Replace m t) o n h e = omega arith
 
   pub old_size-gather : (ps : List (Piece T)) → old_size (closed X (gather X ps)) ≡ pieces_size ps
   old_size-gather [] = refl
-  old_size-gather (whole (Keep n) ∷ ps) =
-      omega (arith, old_size-gather ps, add-whole (is_zero n) (Keep n) (gather X ps) n (is_zero-true n) (add-zero n))
-  old_size-gather (whole (Replace n t) ∷ ps) =
+  old_size-gather (single (Keep n) ∷ ps) =
+      omega (arith, old_size-gather ps, add-single (is_zero n) (Keep n) (gather X ps) n (is_zero-true n) (add-zero n))
+  old_size-gather (single (Replace n t) ∷ ps) =
       omega (
         arith,
         old_size-gather ps,
-        add-whole (is_zero n && is_empty_text X t) (Replace n t) (gather X ps) n
+        add-single (is_zero n && is_empty_text X t) (Replace n t) (gather X ps) n
             (λ h. is_zero-true n (and-left (is_zero n) (is_empty_text X t) h)) (add-zero n),
       )
-  old_size-gather (part true n t ∷ ps) = omega (arith, old_size-gather ps)
-  old_size-gather (part false n t ∷ ps) = omega (arith, old_size-gather ps)
+  old_size-gather (stretch true n t ∷ ps) = omega (arith, old_size-gather ps)
+  old_size-gather (stretch false n t ∷ ps) = omega (arith, old_size-gather ps)
 
   pub old_size-sections : (ps : List (Piece T)) → old_size (sections X ps) ≡ pieces_size ps
   old_size-sections ps = old_size-normal (closed X (gather X ps)) ∙ old_size-gather ps
@@ -201,10 +203,10 @@ module _ {T C : Type 0} (X : Texts T C) where
   pieces_size-inserted j follows ps = omega arith
 
   pieces_size-ordered : (before : Bool) (n : ℕ) (j : T) (y : Fate T) (ps : List (Piece T)) →
-      pieces_size (ordered before (whole (Keep n) ∷ []) (inserted X j y) ++ ps) ≡ n + pieces_size ps
+      pieces_size (ordered before (single (Keep n) ∷ []) (inserted X j y) ++ ps) ≡ n + pieces_size ps
   pieces_size-ordered false n j y ps = omega (arith, pieces_size-inserted j y ps)
   pieces_size-ordered true n j y ps =
-      rw (append_assoc (inserted X j y) (whole (Keep n) ∷ []) ps) (pieces_size-inserted j y (whole (Keep n) ∷ ps))
+      rw (append_assoc (inserted X j y) (single (Keep n) ∷ []) ps) (pieces_size-inserted j y (single (Keep n) ∷ ps))
 
   pub pieces_size-mapped : (before : Bool) (r : Row ℕ (Fate ℕ)) (s : Row T (Fate T)) → width r ≡ width s → pieces_size (mapped X before r s) ≡ given_size r
   pieces_size-mapped false (last i) (last j) w = omega arith

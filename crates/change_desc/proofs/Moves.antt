@@ -2,29 +2,30 @@
 use Rattle.std.proofs.Common.{◌≡◌, ℕ, zero, suc, ◌+◌, ◌-◌, ◌≤◌, ◌<◌, Bool, true, false, cond, not, ◌&&◌, eqb, ltb, ◌⊎◌, inl, inr, eq-or-lt_of_le, List, [], ◌∷◌, ◌++◌, filter, refl, sym, ap, ◌∙◌, Some, None, Option, MatchOption, ◌≢◌, arith, one-add, add-zero, zero-add}
 use Rattle.std.proofs.lemmas.List.Elements.{filter-append}
 use Rattle.std.proofs.lemmas.Bool.Decides.{nat_tests}
+use Rattle.std.specs.Option.{option_or}
 use Rattle.change_desc.specs.declared.section.Section.{Section}
 use Rattle.change_desc.specs.declared.section.Section.TheVariants.{Keep, Replace}
 use Rattle.change_desc.specs.declared.map_mode.MapMode.{MapMode}
 use Rattle.change_desc.specs.declared.map_mode.MapMode.TheVariants.{Simple, TrackDel, TrackBefore, TrackAfter}
 use Rattle.change_desc.specs.Sections.{Texts, counted, old_size}
-use Rattle.change_desc.specs.Positions.{Pair, shift, diagonal, cuts, kept, or_else, first_new, last_new, at, before, after, moved, is_there, is_lost}
+use Rattle.change_desc.specs.Positions.{Pair, shift, diagonal, cuts, kept, first_new, last_new, at, before, after, moved, is_there, is_lost}
 use Rattle.change_desc.specs.Steps.{plus, loses, StopsAt, GoesOn, DecidesLoss, LeavesLoss}
 
-first_new-append : (xs ys : List Pair) → first_new (xs ++ ys) ≡ or_else (first_new xs) (first_new ys)
+first_new-append : (xs ys : List Pair) → first_new (xs ++ ys) ≡ option_or (first_new xs) (first_new ys)
 first_new-append [] ys = refl
 first_new-append (x ∷ xs) ys = refl
 
-or_else-none : (o : Option ℕ) → or_else o None ≡ o
-or_else-none None = refl
-or_else-none (Some n) = refl
+option_or-none : (o : Option ℕ) → option_or o None ≡ o
+option_or-none None = refl
+option_or-none (Some n) = refl
 
-or_else-assoc : (a b c : Option ℕ) → or_else (or_else a b) c ≡ or_else a (or_else b c)
-or_else-assoc None b c = refl
-or_else-assoc (Some n) b c = refl
+option_or-assoc : (a b c : Option ℕ) → option_or (option_or a b) c ≡ option_or a (option_or b c)
+option_or-assoc None b c = refl
+option_or-assoc (Some n) b c = refl
 
-last_new-append : (xs ys : List Pair) → last_new (xs ++ ys) ≡ or_else (last_new ys) (last_new xs)
-last_new-append [] ys = sym (or_else-none (last_new ys))
-last_new-append (x ∷ xs) ys = ap (λ o. or_else o (Some x.1)) (last_new-append xs ys) ∙ or_else-assoc (last_new ys) (last_new xs) (Some x.1)
+last_new-append : (xs ys : List Pair) → last_new (xs ++ ys) ≡ option_or (last_new ys) (last_new xs)
+last_new-append [] ys = sym (option_or-none (last_new ys))
+last_new-append (x ∷ xs) ys = ap (λ o. option_or o (Some x.1)) (last_new-append xs ys) ∙ option_or-assoc (last_new ys) (last_new xs) (Some x.1)
 
 first_new-shift : (o n : ℕ) (cs : List Pair) → first_new (shift o n cs) ≡ plus n (first_new cs)
 first_new-shift o n [] = refl
@@ -32,9 +33,9 @@ first_new-shift o n (c ∷ cs) = refl
 
 last_new-shift : (o n : ℕ) (cs : List Pair) → last_new (shift o n cs) ≡ plus n (last_new cs)
 last_new-shift o n [] = refl
-last_new-shift o n (c ∷ cs) = ap (λ v. or_else v (Some (n + c.1))) (last_new-shift o n cs) ∙ plus-or (last_new cs) c.1
+last_new-shift o n (c ∷ cs) = ap (λ v. option_or v (Some (n + c.1))) (last_new-shift o n cs) ∙ plus-or (last_new cs) c.1
   where
-    plus-or : (v : Option ℕ) (m : ℕ) → or_else (plus n v) (Some (n + m)) ≡ plus n (or_else v (Some m))
+    plus-or : (v : Option ℕ) (m : ℕ) → option_or (plus n v) (Some (n + m)) ≡ plus n (option_or v (Some m))
     plus-or None m = refl
     plus-or (Some k) m = refl
 
@@ -121,13 +122,13 @@ after-diagonal-none (suc n) zero l = absurd (omega arith)
 after-diagonal-none (suc n) (suc p) l =
     rw (ltb-suc-zero (suc p), after-shift (suc p) 1 1 (diagonal n) (omega arith), suc-sub-one p, after-diagonal-none n p (omega arith)) refl
 
-or_else-some : (o : Option ℕ) (n : ℕ) → (v : ℕ) × (or_else o (Some n) ≡ Some v)
-or_else-some None n = (n, refl)
-or_else-some (Some m) n = (m, refl)
+option_or-some : (o : Option ℕ) (n : ℕ) → (v : ℕ) × (option_or o (Some n) ≡ Some v)
+option_or-some None n = (n, refl)
+option_or-some (Some m) n = (m, refl)
 
 last_from_first : (cs : List Pair) (v : ℕ) → first_new cs ≡ Some v → (w : ℕ) × (last_new cs ≡ Some w)
 last_from_first [] v h = cc
-last_from_first (c ∷ cs) v h = or_else-some (last_new cs) c.1
+last_from_first (c ∷ cs) v h = option_or-some (last_new cs) c.1
 
 module _ {T C : Type 0} (X : Texts T C) where
   first_new-cuts : (s : List (Section T)) → first_new (cuts X s) ≡ Some 0
@@ -154,7 +155,7 @@ module _ {T C : Type 0} (X : Texts T C) where
 
   last_new-prefix : (cs : List Pair) (q : ℕ) → 0 < q → (w : ℕ) × (last_new (before q ((0, 0) ∷ cs)) ≡ Some w)
   last_new-prefix cs q l =
-      let h : (w : ℕ) × (or_else (last_new (before q cs)) (Some 0) ≡ Some w) = or_else-some (last_new (before q cs)) 0 in
+      let h : (w : ℕ) × (option_or (last_new (before q cs)) (Some 0) ≡ Some w) = option_or-some (last_new (before q cs)) 0 in
       (h.0, ap last_new (cond-true (ltb 0 q) ((0, 0) ∷ before q cs) (before q cs) (ltb-zero q l)) ∙ h.1)
 
   last_new-before : (s : List (Section T)) (q : ℕ) → 0 < q → (w : ℕ) × (last_new (before q (cuts X s)) ≡ Some w)
@@ -171,19 +172,19 @@ module _ {T C : Type 0} (X : Texts T C) where
   moved-some s zero = (0, rw (first_new-at_zero s) refl)
   moved-some s (suc q) =
       let h : (w : ℕ) × (last_new (before (suc q) (cuts X s)) ≡ Some w) = last_new-before s (suc q) (omega arith) in
-      rw h.1 (or_else-some (first_new (at (suc q) (cuts X s))) h.0)
+      rw h.1 (option_or-some (first_new (at (suc q) (cuts X s))) h.0)
 
   -- moving on past one section
-  or-plus-negative : (a b r : Option ℕ) (n w : ℕ) → or_else a b ≡ Some w → or_else (plus n a) (or_else (plus n b) r) ≡ plus n (or_else a b)
+  or-plus-negative : (a b r : Option ℕ) (n w : ℕ) → option_or a b ≡ Some w → option_or (plus n a) (option_or (plus n b) r) ≡ plus n (option_or a b)
   or-plus-negative (Some m) b r n w h = refl
   or-plus-negative None (Some m) r n w h = refl
   or-plus-negative None None r n w h = cc
 
-  or-plus : (a b : Option ℕ) (n : ℕ) → or_else (plus n a) (plus n b) ≡ plus n (or_else a b)
+  or-plus : (a b : Option ℕ) (n : ℕ) → option_or (plus n a) (plus n b) ≡ plus n (option_or a b)
   or-plus (Some m) b n = refl
   or-plus None b n = refl
 
-  or-plus-some : (a b r : Option ℕ) (n w : ℕ) → a ≡ Some w → or_else (or_else (plus n a) r) (plus n b) ≡ plus n (or_else a b)
+  or-plus-some : (a b r : Option ℕ) (n w : ℕ) → a ≡ Some w → option_or (option_or (plus n a) r) (plus n b) ≡ plus n (option_or a b)
   or-plus-some (Some m) b r n w h = refl
   or-plus-some None b r n w h = cc
 
@@ -397,7 +398,7 @@ module _ {T C : Type 0} (X : Texts T C) where
       tests : (m : ℕ) → ltb p (n + m) ≡ ltb (p - n) m
       tests m = grind (arith, nat_tests)
 
--- one section's part of the way
+-- one section of the way
 pub stops_keep : (x : Section ℕ) (n p : ℕ) (negative : Bool) → x ≡ Keep n → p < n → StopsAt x p negative p
 stops_keep x n p negative e l = rw e (record { goes = λ s. moved-keep_in counted negative n s p l; within = omega arith })
 

@@ -4,7 +4,7 @@ use Rattle.change_desc.specs.declared.section.Section.{Section}
 use Rattle.change_desc.specs.declared.section.Section.TheVariants.{Keep, Replace}
 use Rattle.change_desc.specs.declared.weave.Weave.{Weave}
 use Rattle.change_desc.specs.Sections.{Texts, counted, is_blank, is_zero, kind, joins, joined, put, normal, old_of, old_size, new_of, new_size}
-use Rattle.change_desc.specs.Algebra.{Piece, whole, part, closed, gather}
+use Rattle.change_desc.specs.Pieces.{Piece, single, stretch, closed, gather}
 use Rattle.change_desc.specs.Weaving.{Takes}
 use Rattle.change_desc.proofs.Normal.{Laws, counted_laws, normal-prefix, normal-normal, Together, together, both_keep, both_insert, both_delete}
 use Rattle.change_desc.proofs.Merges.{old_size-normal}
@@ -58,16 +58,16 @@ new_size-after : (s t : List (Section ℕ)) → new_size counted (normal counted
 new_size-after s t = new_size-normal counted counted_laws (s ++ t) ∙ new_size-append s t
 
 -- the open Replace without what is open
-closed_none : (ps : List (Piece ℕ)) → closed counted (gather counted (part false 0 0 ∷ ps)) ≡ closed counted (gather counted ps)
+closed_none : (ps : List (Piece ℕ)) → closed counted (gather counted (stretch false 0 0 ∷ ps)) ≡ closed counted (gather counted ps)
 closed_none ps = rw (zero-add (gather counted ps).count, zero-add (gather counted ps).text) refl
 
-gather-whole : (x : Section ℕ) (ps : List (Piece ℕ)) → is_blank counted x ≡ false → gather counted (whole x ∷ ps) ≡ record { count = 0; text = 0; rest = x ∷ closed counted (gather counted ps) }
-gather-whole x ps b = rw b refl
+gather-single : (x : Section ℕ) (ps : List (Piece ℕ)) → is_blank counted x ≡ false → gather counted (single x ∷ ps) ≡ record { count = 0; text = 0; rest = x ∷ closed counted (gather counted ps) }
+gather-single x ps b = rw b refl
 
-pub takes_whole : (w v : Weave) (x : Section ℕ) → is_blank counted x ≡ false →
+pub takes_single : (w v : Weave) (x : Section ℕ) → is_blank counted x ≡ false →
     v.sections.items ≡ normal counted (normal counted (w.sections.items ++ Replace w.count w.len ∷ []) ++ x ∷ []) → v.count ≡ 0 → v.len ≡ 0 →
-    Takes w v (whole x) (old_of x) (new_of counted x)
-takes_whole w v x b e c t = record {
+    Takes w v (single x) (old_of x) (new_of counted x)
+takes_single w v x b e c t = record {
   goes = λ ps.
       let tail : List (Section ℕ) = closed counted (gather counted ps) in
       let front : List (Section ℕ) = w.sections.items ++ Replace w.count w.len ∷ [] in
@@ -76,7 +76,7 @@ takes_whole w v x b e c t = record {
         c,
         t,
         closed_none ps,
-        gather-whole x ps b,
+        gather-single x ps b,
         add-zero w.count,
         add-zero w.len,
         normal-prefix counted counted_laws (normal counted front ++ x ∷ []) tail,
@@ -90,7 +90,7 @@ takes_whole w v x b e c t = record {
 }
 
 pub takes_start : (w v : Weave) (n u : ℕ) → v.sections.items ≡ normal counted (w.sections.items ++ Replace w.count w.len ∷ []) → v.count ≡ n → v.len ≡ u →
-    Takes w v (part true n u) n u
+    Takes w v (stretch true n u) n u
 takes_start w v n u e c t = record {
   goes = λ ps.
       let tail : List (Section ℕ) = Replace (n + (gather counted ps).count) (u + (gather counted ps).text) ∷ (gather counted ps).rest in
@@ -109,7 +109,7 @@ takes_start w v n u e c t = record {
 }
 
 pub takes_on : (w v : Weave) (n u : ℕ) → normal counted w.sections.items ≡ w.sections.items → v.sections.items ≡ w.sections.items → v.count ≡ w.count + n → v.len ≡ w.len + u →
-    Takes w v (part false n u) n u
+    Takes w v (stretch false n u) n u
 takes_on w v n u h e c t = record {
   goes = λ ps. rw (e, c, t, add_assoc w.count n (gather counted ps).count, add_assoc w.len u (gather counted ps).text) refl;
   is_normal = rw e h;

@@ -1,17 +1,15 @@
 -- Worked examples of the definitions on short texts, each by computation. Characters stand as their codes: 97 is 'a', 120 is 'x'.
-use Rattle.std.specs.Prelude.{◌≡◌, ℕ, true, false, List, [], ◌∷◌, refl, Some, None}
-use Rattle.change_desc.specs.declared.section.Section.{Section}
+use Rattle.std.specs.Prelude.{◌≡◌, true, false, [], ◌∷◌, refl, Some, None}
 use Rattle.change_desc.specs.declared.section.Section.TheVariants.{Keep, Replace}
 use Rattle.change_desc.specs.declared.map_mode.MapMode.TheVariants.{Simple, TrackDel, TrackBefore, TrackAfter}
-use Rattle.change_desc.specs.Sections.{spelled, counted, apply, invert, lengths}
+use Rattle.change_desc.specs.Sections.{Sections, spelled, counted, apply, invert, lengths}
 use Rattle.change_desc.specs.Positions.{map_pos}
 use Rattle.change_desc.specs.declared.touch.Touch.TheVariants.{No, Yes, Cover}
 use Rattle.change_desc.specs.Ranges.{changed_ranges, changes_nothing, replaced, touches}
-use Rattle.change_desc.specs.Algebra.{compose, merge, map_over, of, span, filter_kept, filter_dropped}
-
--- sections with texts by their characters' codes
-abbrev pub Sections : Type 0
-Sections = List (Section (List ℕ))
+use Rattle.change_desc.specs.Compose.{compose}
+use Rattle.change_desc.specs.Map.{merge, map_over}
+use Rattle.change_desc.specs.Of.{of, span}
+use Rattle.change_desc.specs.Filter.{filter_kept, filter_dropped}
 
 -- 'abc' with '!' after it and its 'a' deleted, in one list of changes: 'bc!'
 abbrev pub insert_and_delete : Sections
@@ -72,28 +70,28 @@ pub overlapping-text : apply overlapping (97 ∷ 98 ∷ 99 ∷ []) ≡ (120 ∷ 
 overlapping-text = refl
 
 -- 'abcd' with 'xy' for all: inside, a negative side gives the start and any other the end; at the end both give the end
-abbrev pub whole_text : Sections
-whole_text = of spelled 4 (span spelled 4 0 4 (120 ∷ 121 ∷ []) ∷ [])
+abbrev pub all_replaced : Sections
+all_replaced = of spelled 4 (span spelled 4 0 4 (120 ∷ 121 ∷ []) ∷ [])
 
-pub inside-left : map_pos spelled whole_text 2 true Simple ≡ Some 0
+pub inside-left : map_pos spelled all_replaced 2 true Simple ≡ Some 0
 inside-left = refl
 
-pub inside-right : map_pos spelled whole_text 2 false Simple ≡ Some 2
+pub inside-right : map_pos spelled all_replaced 2 false Simple ≡ Some 2
 inside-right = refl
 
-pub inside-del : map_pos spelled whole_text 2 false TrackDel ≡ None
+pub inside-del : map_pos spelled all_replaced 2 false TrackDel ≡ None
 inside-del = refl
 
-pub end-left : map_pos spelled whole_text 4 true Simple ≡ Some 2
+pub end-left : map_pos spelled all_replaced 4 true Simple ≡ Some 2
 end-left = refl
 
-pub end-right : map_pos spelled whole_text 4 false Simple ≡ Some 2
+pub end-right : map_pos spelled all_replaced 4 false Simple ≡ Some 2
 end-right = refl
 
-pub end-after : map_pos spelled whole_text 4 false TrackAfter ≡ Some 2
+pub end-after : map_pos spelled all_replaced 4 false TrackAfter ≡ Some 2
 end-after = refl
 
-pub end-before : map_pos spelled whole_text 4 false TrackBefore ≡ None
+pub end-before : map_pos spelled all_replaced 4 false TrackBefore ≡ None
 end-before = refl
 
 -- 'ab' with 'x' in the middle and with 'y' there: each moved over the other, and the merge of both

@@ -1,24 +1,26 @@
--- The laws of change sets, over the definitions alone.
-use Rattle.std.specs.Prelude.{◌≡◌, ℕ, true, false, List, length}
+-- The laws of change sets, as facts of what the calls answer.
+use Rattle.std.specs.Prelude.{◌≡◌, ℕ, Bool, List, length}
 use Rattle.change_desc.specs.declared.section.Section.{Section}
-use Rattle.change_desc.specs.Sections.{spelled, apply, invert, lengths, old_size, new_size}
-use Rattle.change_desc.specs.Algebra.{compose, map_over, merge}
+use Rattle.change_desc.specs.Sections.{Sections, spelled, counted, apply, lengths, old_size}
+use Rattle.change_desc.specs.Compose.{compose}
+use Rattle.change_desc.specs.Map.{map_over, merge}
 
--- sections over a text of characters
-abbrev pub Sections : Type 0
-Sections = List (Section (List ℕ))
+-- Composed: applied, it is the second applied to the first applied.
+abbrev pub AppliesInTurn : (first second both : Sections) → Type 0
+AppliesInTurn first second both = (doc : List ℕ) → old_size first ≡ length doc → apply both doc ≡ apply second (apply first doc)
 
--- a composed set applied is the second applied to the first applied
-abbrev pub ComposesInTurn : Type 0
-ComposesInTurn = (a b : Sections) (doc : List ℕ) → old_size a ≡ length doc → new_size spelled a ≡ old_size b →
-    apply (compose spelled a b) doc ≡ apply b (apply a doc)
+-- Mapped: applied after the other set, it gives the merge of both.
+abbrev pub Merges : (own mapped : Sections) (over : List (Section ℕ)) (before : Bool) → Type 0
+Merges own mapped over before = (other : Sections) (doc : List ℕ) → lengths spelled other ≡ over → old_size other ≡ length doc →
+    apply mapped (apply other doc) ≡ merge other own before doc
 
--- two sets over one text come to their merge, whichever is applied first
-abbrev pub MergesEitherWay : Type 0
-MergesEitherWay = (a b : Sections) (doc : List ℕ) → old_size a ≡ length doc → old_size b ≡ length doc →
-    (apply (compose spelled a (map_over spelled b (lengths spelled a) false)) doc ≡ merge a b false doc) ×
-    (apply (compose spelled b (map_over spelled a (lengths spelled b) true)) doc ≡ merge a b false doc)
+-- Inverted: applied after the set, it gives the old text.
+abbrev pub LeadsBack : (set back : Sections) (doc : List ℕ) → Type 0
+LeadsBack set back doc = apply back (apply set doc) ≡ doc
 
--- the inverse over the old text leads back to it
-abbrev pub LeadsBack : Type 0
-LeadsBack = (a : Sections) (doc : List ℕ) → old_size a ≡ length doc → apply (invert a doc) (apply a doc) ≡ doc
+-- The description of a composed or mapped set is the composed or mapped description.
+abbrev pub DescribesComposed : (first second both : Sections) → Type 0
+DescribesComposed first second both = lengths spelled both ≡ compose counted (lengths spelled first) (lengths spelled second)
+
+abbrev pub DescribesMapped : (own mapped : Sections) (over : List (Section ℕ)) (before : Bool) → Type 0
+DescribesMapped own mapped over before = lengths spelled mapped ≡ map_over counted (lengths spelled own) over before

@@ -2,8 +2,16 @@ pub mod Sections
 pub mod Positions
 pub mod Ranges
 pub mod Columns
+pub mod Pieces
+pub mod Compose
+pub mod Map
+pub mod Of
+pub mod Filter
 pub mod Algebra
 pub mod Examples
 pub mod Steps
+pub mod Tails
 pub mod Weaving
+pub mod MapSteps
 pub mod Laws
+pub mod Walker

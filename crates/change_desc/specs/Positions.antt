@@ -1,6 +1,7 @@
 -- Cuts, kept pairs, and where a position goes (manual: ChangeDesc.mapPos, MapMode).
 use Rattle.std.specs.Prelude.{ℕ, zero, suc, ◌+◌, ◌-◌, Bool, true, false, cond, not, ◌&&◌, eqb, ltb, List, [], ◌∷◌, ◌++◌, map, Some, None, ℤ, pos, int_lt}
 use Rattle.std.specs.List.{filter}
+use Rattle.std.specs.Option.{option_or}
 use Rattle.std.specs.declared.option.Option.{Option}
 use Rattle.change_desc.specs.declared.section.Section.{Section}
 use Rattle.change_desc.specs.declared.section.Section.TheVariants.{Keep, Replace}
@@ -34,17 +35,13 @@ module _ {T C : Type 0} (X : Texts T C) where
   kept (Replace n t ∷ s) = shift n (X.size t) (kept s)
 
 -- the new place of the first or last pair, if there is one
-abbrev pub or_else : Option ℕ → Option ℕ → Option ℕ
-or_else (Some n) o = Some n
-or_else None o = o
-
 abbrev pub first_new : List Pair → Option ℕ
 first_new [] = None
 first_new (c ∷ cs) = Some c.1
 
 abbrev pub last_new : List Pair → Option ℕ
 last_new [] = None
-last_new (c ∷ cs) = or_else (last_new cs) (Some c.1)
+last_new (c ∷ cs) = option_or (last_new cs) (Some c.1)
 
 abbrev pub at : ℕ → List Pair → List Pair
 at p = filter (λ (c : Pair). eqb c.0 p)
@@ -62,8 +59,8 @@ is_negative side = int_lt side (pos 0)
 -- Position without a mode. Cuts stand in order. For a negative side the first new place of the cuts at p, or where there is none that of
 -- the last cut before; for any other the last of those at p, or that of the first cut after.
 abbrev pub moved : (negative : Bool) → ℕ → List Pair → Option ℕ
-moved true p cs = or_else (first_new (at p cs)) (last_new (before p cs))
-moved false p cs = or_else (last_new (at p cs)) (first_new (after p cs))
+moved true p cs = option_or (first_new (at p cs)) (last_new (before p cs))
+moved false p cs = option_or (last_new (at p cs)) (first_new (after p cs))
 
 abbrev pub is_there : List Pair → Bool
 is_there [] = false

@@ -6,6 +6,10 @@ use Rattle.change_desc.specs.declared.kind.Kind.{Kind}
 use Rattle.change_desc.specs.declared.kind.Kind.TheVariants.{Keeps, Inserts, Deletes, Replaces}
 use Rattle.change_desc.specs.declared.section.Section.TheVariants.{Keep, Replace}
 
+-- sections whose texts are known by their characters
+abbrev pub Sections : Type 0
+Sections = List (Section (List ℕ))
+
 -- What the definitions ask of texts T with characters C: the empty one, two in a row, the length,
 -- the characters, and the text of one.
 pub record Texts (T C : Type 0) : Type 0 where

@@ -1,6 +1,7 @@
 ghost use Rattle.std.specs.Prelude.{Bool, IfOk, IfSome, IsOk, List, OnErr, OnOk, [], length, ℕ, ◌+◌, ◌++◌, ◌<◌, ◌^◌, ◌∷◌, ◌≡◌, ◌≤◌};
 ghost use Rattle.change_desc.specs.declared.section.Section.{Section};
-ghost use Rattle.change_desc.specs.Algebra.{compose, map_over};
+ghost use Rattle.change_desc.specs.Compose.{compose};
+ghost use Rattle.change_desc.specs.Map.{map_over};
 ghost use Rattle.change_desc.specs.Positions.{is_negative, map_pos};
 ghost use Rattle.change_desc.specs.Ranges.{changed_ranges, changes_nothing, replaced, touches};
 ghost use Rattle.change_desc.specs.Sections.{IsSet, counted, inverted, new_of, new_size, normal, old_of, old_size};
@@ -24,7 +25,7 @@ use std::marker::Model;
 /// take no memory.
 #[derive(Drop)]
 pub struct Desc {
-    sections: SmallVec<Section<u32>, 8>,
+    pub(crate) sections: SmallVec<Section<u32>, 8>,
 }
 
 impl Model for Desc {

@@ -2,7 +2,7 @@
 //! its length alone. A description maps positions, is put after another, is moved over another, and is turned round.
 //! A layer above may rely on each description being in normal form, with both lengths less than 2 ^ 32, and on each call
 //! giving exactly what the definitions of sections, cuts, compose, merge and map say. The definitions stand here once,
-//! also for change sets with whole texts.
+//! also for change sets, which have the texts.
 #![tactic(auto)]
 
 mod changed_range;
@@ -11,11 +11,13 @@ mod desc;
 mod kind;
 mod map;
 mod map_mode;
-mod part;
+mod passed;
+mod position_walker;
 mod positions;
 mod ranges;
 mod section;
 mod sections;
+mod tail;
 #[cfg(test)]
 mod tests;
 mod touch;
@@ -24,5 +26,6 @@ mod weave;
 pub use crate::changed_range::ChangedRange;
 pub use crate::desc::Desc;
 pub use crate::map_mode::MapMode;
+pub use crate::position_walker::PositionWalker;
 pub use crate::section::Section;
 pub use crate::touch::Touch;

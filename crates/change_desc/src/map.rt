@@ -1,17 +1,20 @@
 ghost use Rattle.std.specs.Prelude.{min, IfOk, IsTrue, IsFalse, ◌≡◌, ◌<◌, ◌+◌, ◌^◌};
 ghost use Rattle.change_desc.specs.Sections.{counted, old_size, new_size, IsSet, normal};
-ghost use Rattle.change_desc.specs.Algebra.{whole, map_over};
+ghost use Rattle.change_desc.specs.Pieces.{single};
+ghost use Rattle.change_desc.specs.Map.{map_over};
 ghost use Rattle.change_desc.specs.Columns.{along_old};
-ghost use Rattle.change_desc.specs.Weaving.{Measures, merged_len, Maps, CanMap, next_len, second_next, is_fresh, old_done, new_done, IsPart, left_old, still_new};
+ghost use Rattle.change_desc.specs.Tails.{is_fresh, IsTail, left_old, still_new};
+ghost use Rattle.change_desc.specs.Weaving.{old_done, new_done};
+ghost use Rattle.change_desc.specs.MapSteps.{Measures, merged_len, Maps, CanMap, next_len, second_next};
 
-use crate::part::Part;
 use crate::section::Section;
+use crate::tail::Tail;
 use crate::weave::Weave;
 use smallvec::SmallVec;
 use std::alloc::{AllocError, Global};
 
 /// Whether the text of the second set is next where two sets meet.
-fn is_second_next(before: bool, a: Part, b: Part) -> bool
+fn is_second_next(before: bool, a: Tail, b: Tail) -> bool
     ensures { result ≡ second_next before a b }
 {
     b.is_fresh() && (before || !a.is_fresh())
@@ -19,9 +22,9 @@ fn is_second_next(before: bool, a: Part, b: Part) -> bool
 
 impl Weave {
     /// A text that the mapped set puts in.
-    fn second_text(&mut self, before: bool, a: Part, b: Part) -> Result<Part, AllocError>
+    fn second_text(&mut self, before: bool, a: Tail, b: Tail) -> Result<Tail, AllocError>
         requires is_normal { normal counted self.old.sections.items ≡ self.old.sections.items }
-        requires parts { IsPart a × IsPart b }
+        requires tails { IsTail a × IsTail b }
         requires next { IsTrue (second_next before a b) }
         requires old_fits { old_done self.old < 2 ^ 32 }
         requires new_fits { new_done self.old + still_new b < 2 ^ 32 }
@@ -30,17 +33,17 @@ impl Weave {
         let count = b.left_old();
         let len = b.still_new();
         if count == 0 {
-            self.whole(Section::Replace(0, len))?;
+            self.single(Section::Replace(0, len))?;
         } else {
-            self.part(true, 0, len)?;
+            self.stretch(true, 0, len)?;
         }
-        Ok(Part::opened(count))
+        Ok(Tail::opened(count))
     }
 
     /// A text that the other set has put in, which is kept.
-    fn first_text(&mut self, before: bool, a: Part, b: Part) -> Result<Part, AllocError>
+    fn first_text(&mut self, before: bool, a: Tail, b: Tail) -> Result<Tail, AllocError>
         requires is_normal { normal counted self.old.sections.items ≡ self.old.sections.items }
-        requires parts { IsPart a × IsPart b }
+        requires tails { IsTail a × IsTail b }
         requires next { IsFalse (second_next before a b) }
         requires fresh { IsTrue (is_fresh a) }
         requires old_fits { old_done self.old + still_new a < 2 ^ 32 }
@@ -50,13 +53,13 @@ impl Weave {
         let count = a.left_old();
         let len = a.still_new();
         if len > 0 {
-            self.whole(Section::Keep(len))?;
+            self.single(Section::Keep(len))?;
         }
-        Ok(Part::opened(count))
+        Ok(Tail::opened(count))
     }
 
     /// Characters of the old text: what both keep is kept, and what the mapped set alone deletes is deleted.
-    fn characters(&mut self, before: bool, a: Part, b: Part) -> Result<(Part, Part), AllocError>
+    fn characters(&mut self, before: bool, a: Tail, b: Tail) -> Result<(Tail, Tail), AllocError>
         requires is_normal { normal counted self.old.sections.items ≡ self.old.sections.items }
         requires begun { IsFalse (is_fresh a) × IsFalse (is_fresh b) }
         requires some { 0 < left_old a × 0 < left_old b }
@@ -67,9 +70,9 @@ impl Weave {
         let both = a.left_old().min(b.left_old());
         if !a.is_opened() {
             if b.is_opened() {
-                self.part(false, both, 0)?;
+                self.stretch(false, both, 0)?;
             } else {
-                self.whole(Section::Keep(both))?;
+                self.single(Section::Keep(both))?;
             }
         }
         Ok((a.beyond(both), b.beyond(both)))
@@ -79,11 +82,11 @@ impl Weave {
     pub(crate) fn map_step(
         &mut self,
         before: bool,
-        a: Part,
-        b: Part,
-    ) -> Result<(Part, Part), AllocError>
+        a: Tail,
+        b: Tail,
+    ) -> Result<(Tail, Tail), AllocError>
         requires is_normal { normal counted self.old.sections.items ≡ self.old.sections.items }
-        requires parts { IsPart a × IsPart b }
+        requires tails { IsTail a × IsTail b }
         requires level { CanMap a b }
         requires old_fits { old_done self.old + still_new a < 2 ^ 32 }
         requires new_fits { new_done self.old + next_len before a b < 2 ^ 32 }
@@ -112,7 +115,7 @@ pub(crate) fn map_sections(
     requires second { IsSet counted second.now }
     requires meet { old_size first.now ≡ old_size second.now }
     requires fits { new_size counted (map_over counted second.now first.now before) < 2 ^ 32 }
-    ensures whole { IfOk result (λ sections. sections.items ≡ map_over counted second.now first.now before) }
+    ensures value { IfOk result (λ sections. sections.items ≡ map_over counted second.now first.now before) }
     ensures is_set { IfOk result (λ sections. IsSet counted sections.items) }
 {
     let mut weave = Weave {
@@ -120,8 +123,8 @@ pub(crate) fn map_sections(
         count: 0,
         len: 0,
     };
-    let (mut a, mut i) = Part::Kept(0).load(first, 0);
-    let (mut b, mut j) = Part::Kept(0).load(second, 0);
+    let (mut a, mut i) = Tail::Kept(0).load(first, 0);
+    let (mut b, mut j) = Tail::Kept(0).load(second, 0);
     'walk: while !(a.is_spent() && b.is_spent()) {
         let (left_a, left_b) = weave.map_step(before, a, b)?;
         (a, i) = left_a.load(first, i);
@@ -132,16 +135,16 @@ pub(crate) fn map_sections(
 }
 
 /// One step of mapping the second set over the first, where only the length of what it puts in is asked for.
-fn measure_step(a: Part, b: Part) -> (Part, Part, u32)
-    requires parts { IsPart a × IsPart b }
+fn measure_step(a: Tail, b: Tail) -> (Tail, Tail, u32)
+    requires tails { IsTail a × IsTail b }
     requires level { CanMap a b }
     ensures { Measures a b result.0 result.1 result.2 }
 {
     if is_second_next(false, a, b) {
-        return (a, Part::opened(b.left_old()), b.still_new());
+        return (a, Tail::opened(b.left_old()), b.still_new());
     }
     if a.is_fresh() {
-        return (Part::opened(a.left_old()), b, a.still_new());
+        return (Tail::opened(a.left_old()), b, a.still_new());
     }
     let both = a.left_old().min(b.left_old());
     (
@@ -159,8 +162,8 @@ pub(crate) fn mapped_len(first: &[Section<u32>], second: &[Section<u32>]) -> u64
     ensures { result ≡ merged_len (along_old counted first.now) (along_old counted second.now) }
 {
     let mut len: u64 = 0;
-    let (mut a, mut i) = Part::Kept(0).load(first, 0);
-    let (mut b, mut j) = Part::Kept(0).load(second, 0);
+    let (mut a, mut i) = Tail::Kept(0).load(first, 0);
+    let (mut b, mut j) = Tail::Kept(0).load(second, 0);
     'walk: while !(a.is_spent() && b.is_spent()) {
         let (left_a, left_b, added) = measure_step(a, b);
         len += u64::from(added);

@@ -5,7 +5,7 @@ ghost use Rattle.change_desc.specs.Steps.{GivesRange};
 use crate::changed_range::ChangedRange;
 use crate::kind::Kind;
 
-/// A part of a change over some characters of the old text. `T` says what is known of a text that stands for others: the
+/// What a change does to some characters of the old text. `T` says what is known of a text that stands for others: the
 /// text itself, or its length in characters.
 #[derive(Clone, Copy, PartialEq, Eq, Debug, Drop)]
 pub enum Section<T> {

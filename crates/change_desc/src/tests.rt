@@ -61,8 +61,8 @@ fn positions_move(rt: HostRuntime) -> Result<(), Fail> {
     assert!(rt; insertion.len() == 2);
     assert_eq!(rt; insertion.map_pos(1, -1, MapMode::Simple), Some(1));
     assert_eq!(rt; insertion.map_pos(1, 1, MapMode::Simple), Some(3));
-    let whole = described(&rt, rt.alloc(), &[Section::Replace(4, 2)])?;
-    assert!(rt; whole.len() == 4);
+    let single = described(&rt, rt.alloc(), &[Section::Replace(4, 2)])?;
+    assert!(rt; single.len() == 4);
     for (pos, side, mode, want) in [
         (2, -1, MapMode::Simple, Some(0)),
         (2, 1, MapMode::Simple, Some(2)),
@@ -73,7 +73,7 @@ fn positions_move(rt: HostRuntime) -> Result<(), Fail> {
         (0, 1, MapMode::TrackAfter, None),
     ] {
         assert!(rt; pos <= 4);
-        assert_eq!(rt; whole.map_pos(pos, side, mode), want);
+        assert_eq!(rt; single.map_pos(pos, side, mode), want);
     }
     Ok(())
 }

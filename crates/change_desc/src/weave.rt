@@ -1,7 +1,7 @@
 ghost use Rattle.std.specs.Prelude.{OnOk, IsFalse, [], ◌∷◌, ◌++◌, ◌≡◌, ◌<◌, ◌+◌, ◌^◌};
 ghost use Rattle.change_desc.specs.declared.section.Section.{Section};
 ghost use Rattle.change_desc.specs.Sections.{counted, old_of, new_of, is_blank, normal};
-ghost use Rattle.change_desc.specs.Algebra.{whole, part};
+ghost use Rattle.change_desc.specs.Pieces.{single, stretch};
 ghost use Rattle.change_desc.specs.Weaving.{Takes, old_done, new_done};
 
 use crate::section::Section;
@@ -32,24 +32,24 @@ impl Weave {
     }
 
     /// One more section by itself.
-    pub(crate) fn whole(&mut self, section: Section<u32>) -> Result<(), AllocError>
+    pub(crate) fn single(&mut self, section: Section<u32>) -> Result<(), AllocError>
         requires is_normal { normal counted self.old.sections.items ≡ self.old.sections.items }
         requires not_blank { IsFalse (is_blank counted section) }
         requires old_fits { old_done self.old + old_of section < 2 ^ 32 }
         requires new_fits { new_done self.old + new_of counted section < 2 ^ 32 }
-        ensures { OnOk result (Takes self.old self.new (whole section) (old_of section) (new_of counted section)) }
+        ensures { OnOk result (Takes self.old self.new (single section) (old_of section) (new_of counted section)) }
     {
         self.flush()?;
         push_section(&mut self.sections, section)?;
         Ok(())
     }
 
-    /// One more part of a replacement, which starts there or goes on.
-    pub(crate) fn part(&mut self, starts: bool, count: u32, len: u32) -> Result<(), AllocError>
+    /// One more stretch of a replacement, which starts there or goes on.
+    pub(crate) fn stretch(&mut self, starts: bool, count: u32, len: u32) -> Result<(), AllocError>
         requires is_normal { normal counted self.old.sections.items ≡ self.old.sections.items }
         requires old_fits { old_done self.old + count < 2 ^ 32 }
         requires new_fits { new_done self.old + len < 2 ^ 32 }
-        ensures { OnOk result (Takes self.old self.new (part starts count len) count len) }
+        ensures { OnOk result (Takes self.old self.new (stretch starts count len) count len) }
     {
         if starts {
             self.flush()?;

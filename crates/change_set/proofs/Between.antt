@@ -23,43 +23,36 @@ unmarked-split (suc n) (true ∷ m) = unmarked-split n m
 unmarked-split (suc n) (false ∷ m) = omega (arith, unmarked-split n m)
 
 module _ {C : Type 0} where
-  section-step : (m : List Bool) (taken f : ℕ) (first : List C) (x : Section (List C)) (s : List (Section (List C))) → f ≡ unmarked (take (old_of x) m) →
-      texts_between m (drop taken first) (x ∷ s) ≡ text_of_section taken (taken + f) first x ++ texts_between (drop (old_of x) m) (drop (taken + f) first) s
-  section-step m taken f first (Keep n) s h =
-      let e : taken + f - taken ≡ f = omega arith in
-      rw (e, ← (drop-drop f taken first), h) refl
-  section-step m taken f first (Replace n t) s h = rw (← (drop-drop f taken first), h) refl
+  section-step : (m : List Bool) (f : ℕ) (first : List C) (x : Section (List C)) (s : List (Section (List C))) → f ≡ unmarked (take (old_of x) m) →
+      texts_between m first (x ∷ s) ≡ text_of_section f first x ++ texts_between (drop (old_of x) m) (drop f first) s
+  section-step m f first (Keep n) s h = rw h refl
+  section-step m f first (Replace n t) s h = rw h refl
 
-  pub between-step : (m k : List Bool) (taken to : ℕ) (text longer first all : List C) (x : Section (List C)) (s r : List (Section (List C))) → k ≡ drop (old_of x) m →
-      to - taken ≡ unmarked (take (old_of x) m) → taken ≤ to → r ≡ x ∷ s → longer ≡ text ++ text_of_section taken to first x →
-      text ++ texts_between m (drop taken first) r ≡ all → longer ++ texts_between k (drop to first) s ≡ all
-  between-step m k taken to text longer first all x s r e f o w l h =
-      let t : taken + (to - taken) ≡ to = omega arith in
-      let g : texts_between m (drop taken first) (x ∷ s) ≡ text_of_section taken to first x ++ texts_between (drop (old_of x) m) (drop to first) s =
-      section-step m taken (to - taken) first x s f ∙ ap (λ n. text_of_section taken n first x ++ texts_between (drop (old_of x) m) (drop n first) s) t in
-      rw (l, e, append_assoc text (text_of_section taken to first x) (texts_between (drop (old_of x) m) (drop to first) s), ← g) (rw w at h)
+  pub between-step : (m k : List Bool) (f : ℕ) (text longer first left all : List C) (x : Section (List C)) (s r : List (Section (List C))) → k ≡ drop (old_of x) m →
+      f ≡ unmarked (take (old_of x) m) → r ≡ x ∷ s → longer ≡ text ++ text_of_section f first x → left ≡ drop f first →
+      text ++ texts_between m first r ≡ all → longer ++ texts_between k left s ≡ all
+  between-step m k f text longer first left all x s r e h w l d g =
+      rw (l, e, d, append_assoc text (text_of_section f first x) (texts_between (drop (old_of x) m) (drop f first) s), ← (section-step m f first x s h)) (rw w at g)
 
-  -- what is put after fits where the whole does
-  pub part-fits : (m : List Bool) (taken to : ℕ) (text first all : List C) (x : Section (List C)) (s r : List (Section (List C))) →
-      to - taken ≡ unmarked (take (old_of x) m) → taken ≤ to → r ≡ x ∷ s →
-      text ++ texts_between m (drop taken first) r ≡ all → length text + length (text_of_section taken to first x) ≤ length all
-  part-fits m taken to text first all x s r f o w h =
-      let longer : List C = text ++ text_of_section taken to first x in
-      let g : longer ++ texts_between (drop (old_of x) m) (drop to first) s ≡ all = between-step m (drop (old_of x) m) taken to text longer first all x s r refl f o w refl h in
-      omega (arith, ap length g, length-append longer (texts_between (drop (old_of x) m) (drop to first) s), length-append text (text_of_section taken to first x))
+  -- what is put after fits where all does
+  pub part-fits : (m : List Bool) (f : ℕ) (text first all : List C) (x : Section (List C)) (s r : List (Section (List C))) →
+      f ≡ unmarked (take (old_of x) m) → r ≡ x ∷ s → text ++ texts_between m first r ≡ all → length text + length (text_of_section f first x) ≤ length all
+  part-fits m f text first all x s r h w g =
+      let longer : List C = text ++ text_of_section f first x in
+      let e : longer ++ texts_between (drop (old_of x) m) (drop f first) s ≡ all = between-step m (drop (old_of x) m) f text longer first (drop f first) all x s r refl h w refl refl g in
+      omega (arith, ap length e, length-append longer (texts_between (drop (old_of x) m) (drop f first) s), length-append text (text_of_section f first x))
 
-pub record Advance (m : List Bool) (n to taken all : ℕ) : Type 0 where
-  pub fresh : to - taken ≡ unmarked (take n m)
-  pub order : taken ≤ to
-  pub within : to + unmarked (drop n m) ≡ all
+pub record Advance (m : List Bool) (n f all : ℕ) : Type 0 where
+  pub fresh : f ≡ unmarked (take n m)
+  pub within : f ≤ all
+  pub left : unmarked (drop n m) ≡ all - f
 
 -- after a section of n characters
-pub advance : (m : List Bool) (n a b kept taken all : ℕ) → n ≤ length m → a ≡ n → b ≡ n → kept ≡ marked (take a m) → taken + unmarked m ≡ all →
-    Advance m n (taken + (b - kept)) taken all
-advance m n a b kept taken all l e f h w =
+pub advance : (m : List Bool) (n a kept all : ℕ) → n ≤ length m → a ≡ n → kept ≡ marked (take a m) → unmarked m ≡ all → Advance m n (a - kept) all
+advance m n a kept all l e h w =
     let k : kept ≡ marked (take n m) = h ∙ ap (λ j. marked (take j m)) e in
     let g : n - kept ≡ unmarked (take n m) = fresh n kept m l k in
-    record { fresh = omega arith; order = omega arith; within = omega (arith, unmarked-split n m) }
+    record { fresh = omega arith; within = omega (arith, unmarked-split n m); left = omega (arith, unmarked-split n m) }
 
 pub section-within : {T : Type 0} (s r rest : List (Section T)) (x : Section T) (m : List Bool) → length m ≡ old_size r → r ≡ x ∷ rest → old_of x ≤ length m
 section-within s r rest x m h e = omega (arith, ap old_size e)

@@ -3,7 +3,8 @@ use Rattle.std.proofs.Common.{◌≡◌, ℕ, ◌+◌, ◌≤◌, ◌<◌, ◌^�
 use Rattle.change_desc.specs.declared.section.Section.{Section}
 use Rattle.change_desc.specs.declared.section.Section.TheVariants.{Keep, Replace}
 use Rattle.change_desc.specs.Sections.{spelled, counted, lengths, inverted, old_size, new_size, IsSet}
-use Rattle.change_desc.specs.Algebra.{compose, map_over}
+use Rattle.change_desc.specs.Compose.{compose}
+use Rattle.change_desc.specs.Map.{map_over}
 use Rattle.change_desc.proofs.Normal.{spelled_laws}
 use Rattle.change_desc.proofs.Merges.{old_size-lengths, new_size-lengths}
 use Rattle.change_desc.proofs.Lengths.{spelled_sizes, compose-lengths, map_over-lengths}

@@ -1,7 +1,7 @@
 -- Where ranges begin and end.
 use Rattle.std.proofs.Common.{◌≡◌, ℕ, zero, suc, ◌+◌, ◌≤◌, ◌<◌, Bool, true, false, not, ◌&&◌, ◌||◌, leb, ltb, ◌⊎◌, inl, inr, List, [], ◌∷◌, ◌++◌, take, refl, sym, ap, ◌∙◌, arith}
 use Rattle.std.proofs.lemmas.Bool.{cases_lt, lt-ltb, le-ltb, le-leb, lt-leb}
-use Rattle.change_desc.specs.Algebra.{is_in, is_protected}
+use Rattle.change_desc.specs.Filter.{is_in, is_protected}
 use Rattle.change_set.specs.Protection.{IsEdge, IsRun}
 
 abbrev has : ℕ × ℕ → ℕ → Bool

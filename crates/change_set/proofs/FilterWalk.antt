@@ -4,14 +4,15 @@ use Rattle.std.proofs.lemmas.Bool.{cases_lt}
 use Rattle.std.proofs.lemmas.List.{drop_all}
 use Rattle.change_desc.specs.declared.section.Section.{Section}
 use Rattle.change_desc.specs.declared.section.Section.TheVariants.{Keep, Replace}
-use Rattle.change_desc.specs.Sections.{spelled, normal, old_of, old_size}
+use Rattle.change_desc.specs.Sections.{Sections, spelled, normal, old_of, old_size}
 use Rattle.change_desc.specs.Columns.{last, next, stays, leaves, follows, times, in_front, along_old}
-use Rattle.change_desc.specs.Algebra.{whole, closed, gather, is_protected, is_inside}
+use Rattle.change_desc.specs.Pieces.{single, closed, gather}
+use Rattle.change_desc.specs.Filter.{is_protected, is_inside}
 use Rattle.change_desc.proofs.Normal.{spelled_laws, normal-normal, normal-blank, normal-back}
 use Rattle.change_set.specs.declared.side.Side.{Side}
 use Rattle.change_set.specs.declared.side.Side.TheVariants.{Kept, Dropped}
 use Rattle.change_set.specs.Protection.{takes, takes_char, takes_place, parted, whole_part, inner_part, IsRun, run_section, HasRoom}
-use Rattle.change_set.proofs.Filtering.{Sets, Chars, AllAre, run_next, run_first, stays-run, insertion-run, filter-push, filter-fits, Fits}
+use Rattle.change_set.proofs.Filtering.{Chars, AllAre, run_next, run_first, stays-run, insertion-run, filter-push, filter-fits, Fits}
 
 module _ (side : Side) (rs : List (ℕ × ℕ)) (len : ℕ) where
   char_takes : (p : ℕ) → takes_char side rs len p ≡ takes side (is_protected rs len p)
@@ -50,7 +51,7 @@ module _ (side : Side) (rs : List (ℕ × ℕ)) (len : ℕ) where
       cases (inr l) = inl (omega (arith, r.some))
 
   -- a run after the first
-  pub run_on : (from to end : ℕ) (s : Sets) (b : Bool) (text : Chars) → IsRun rs len from to end → b ≡ takes side (is_protected rs len from) → text ≡ [] →
+  pub run_on : (from to end : ℕ) (s : Sections) (b : Bool) (text : Chars) → IsRun rs len from to end → b ≡ takes side (is_protected rs len from) → text ≡ [] →
       normal spelled (parted side rs len from (times spelled (end - from) follows (along_old spelled s))) ≡
       normal spelled (run_section b (to - from) text ∷ parted side rs len to (times spelled (end - to) follows (along_old spelled s)))
   run_on from to end s b text r e t =
@@ -60,7 +61,7 @@ module _ (side : Side) (rs : List (ℕ × ℕ)) (len : ℕ) where
       rw (t, k, l) refl
 
   -- the first run of a section
-  pub run_begin : (at to count : ℕ) (t : Chars) (s : Sets) (b : Bool) (text : Chars) → IsRun rs len at to (at + count) → 0 < count → b ≡ takes side (is_protected rs len at) → text ≡ t →
+  pub run_begin : (at to count : ℕ) (t : Chars) (s : Sections) (b : Bool) (text : Chars) → IsRun rs len at to (at + count) → 0 < count → b ≡ takes side (is_protected rs len at) → text ≡ t →
       normal spelled (parted side rs len at (along_old spelled (Replace count t ∷ s))) ≡
       normal spelled (run_section b (to - at) text ∷ parted side rs len to (times spelled (at + count - to) follows (along_old spelled s)))
   run_begin at to zero t s b text r z e f = absurd (omega arith)
@@ -73,33 +74,33 @@ module _ (side : Side) (rs : List (ℕ × ℕ)) (len : ℕ) where
       rw (f, k, l) refl
 
   -- characters that are kept, and an insertion
-  pub keep_on : (at n : ℕ) (s : Sets) → normal spelled (parted side rs len at (along_old spelled (Keep n ∷ s))) ≡ normal spelled (Keep n ∷ parted side rs len (at + n) (along_old spelled s))
+  pub keep_on : (at n : ℕ) (s : Sections) → normal spelled (parted side rs len at (along_old spelled (Keep n ∷ s))) ≡ normal spelled (Keep n ∷ parted side rs len (at + n) (along_old spelled s))
   keep_on at n s = stays-run (takes_char side rs len) (takes_place side rs len) n at (along_old spelled s)
 
-  pub insert_on : (at : ℕ) (t text : Chars) (s : Sets) → takes side (is_inside rs len at) ≡ true → text ≡ t →
+  pub insert_on : (at : ℕ) (t text : Chars) (s : Sections) → takes side (is_inside rs len at) ≡ true → text ≡ t →
       normal spelled (parted side rs len at (along_old spelled (Replace 0 t ∷ s))) ≡ normal spelled (Replace 0 text ∷ parted side rs len (at + 0) (along_old spelled s))
   insert_on at t text s h e =
       insertion-run (takes_char side rs len) (takes_place side rs len) at t (along_old spelled s) ∙
       rw (place_takes at, h, e, add-zero at) refl
 
-  pub insert_none : (at : ℕ) (t : Chars) (s part : Sets) → takes side (is_inside rs len at) ≡ false →
-      whole_part side rs len part (at + 0) s ≡ whole_part side rs len part at (Replace 0 t ∷ s)
-  insert_none at t s part h =
+  pub insert_none : (at : ℕ) (t : Chars) (s done : Sections) → takes side (is_inside rs len at) ≡ false →
+      whole_part side rs len done (at + 0) s ≡ whole_part side rs len done at (Replace 0 t ∷ s)
+  insert_none at t s done h =
       let e : normal spelled (parted side rs len at (along_old spelled (Replace 0 t ∷ s))) ≡ normal spelled (parted side rs len (at + 0) (along_old spelled s)) =
       insertion-run (takes_char side rs len) (takes_place side rs len) at t (along_old spelled s) ∙ rw (place_takes at, h, add-zero at) refl in
-      sym (normal-back spelled spelled_laws part (parted side rs len at (along_old spelled (Replace 0 t ∷ s))) (parted side rs len (at + 0) (along_old spelled s)) e)
+      sym (normal-back spelled spelled_laws done (parted side rs len at (along_old spelled (Replace 0 t ∷ s))) (parted side rs len (at + 0) (along_old spelled s)) e)
 
   -- nothing is left
-  pub all_done : (at : ℕ) (part all s : Sets) (i : ℕ) → length s ≤ i → normal spelled part ≡ part → whole_part side rs len part at (drop i s) ≡ all → part ≡ all
-  all_done at part all s i l n h =
-      sym n ∙ (sym (end (takes_place side rs len at)) ∙ subst (λ d. whole_part side rs len part at d ≡ all) (drop_all i s l) h)
+  pub all_done : (at : ℕ) (done all s : Sections) (i : ℕ) → length s ≤ i → normal spelled done ≡ done → whole_part side rs len done at (drop i s) ≡ all → done ≡ all
+  all_done at done all s i l n h =
+      sym n ∙ (sym (end (takes_place side rs len at)) ∙ subst (λ d. whole_part side rs len done at d ≡ all) (drop_all i s l) h)
     where
-      end : (b : Bool) → normal spelled (part ++ closed spelled (gather spelled (cond b (whole (Replace 0 []) ∷ []) []))) ≡ normal spelled part
-      end true = normal-blank spelled spelled_laws part (Replace 0 []) refl
-      end false = normal-blank spelled spelled_laws part (Replace 0 []) refl
+      end : (b : Bool) → normal spelled (done ++ closed spelled (gather spelled (cond b (single (Replace 0 []) ∷ []) []))) ≡ normal spelled done
+      end true = normal-blank spelled spelled_laws done (Replace 0 []) refl
+      end false = normal-blank spelled spelled_laws done (Replace 0 []) refl
 
-pub filtered-normal : (old new : Sets) (y : Section Chars) → new ≡ normal spelled (old ++ y ∷ []) → normal spelled new ≡ new
+pub filtered-normal : (old new : Sections) (y : Section Chars) → new ≡ normal spelled (old ++ y ∷ []) → normal spelled new ≡ new
 filtered-normal old new y e = rw e (normal-normal spelled spelled_laws (old ++ y ∷ []))
 
-pub room_at : (s t : Sets) → s ≡ t → HasRoom t → HasRoom s
+pub room_at : (s t : Sections) → s ≡ t → HasRoom t → HasRoom s
 room_at s t e h = subst HasRoom (sym e) h

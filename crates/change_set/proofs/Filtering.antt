@@ -2,9 +2,11 @@
 use Rattle.std.proofs.Common.{◌≡◌, ℕ, zero, suc, ◌+◌, ◌-◌, ◌≤◌, ◌<◌, Bool, true, false, not, cond, ◌⊎◌, inl, inr, List, [], ◌∷◌, ◌++◌, refl, sym, ap, subst, ◌∙◌, append_assoc, append-nil, arith, add-zero}
 use Rattle.change_desc.specs.declared.section.Section.{Section}
 use Rattle.change_desc.specs.declared.section.Section.TheVariants.{Keep, Replace}
-use Rattle.change_desc.specs.Sections.{spelled, is_blank, put, normal, old_of, new_of, old_size, new_size}
+use Rattle.change_desc.specs.Sections.{Sections, spelled, is_blank, put, normal, old_of, new_of, old_size, new_size}
 use Rattle.change_desc.specs.Columns.{Row, last, next, Fate, stays, leaves, follows, in_front, times, along_old}
-use Rattle.change_desc.specs.Algebra.{Piece, whole, part, Open, closed, add, gather, is_cut_old, taken_char, taken}
+use Rattle.change_desc.specs.Pieces.{Piece, single, stretch, Open, closed, add, gather}
+use Rattle.change_desc.specs.Compose.{is_cut_old}
+use Rattle.change_desc.specs.Filter.{taken_char, taken}
 use Rattle.change_set.specs.Protection.{run_section}
 use Rattle.change_desc.proofs.Normal.{spelled_laws, put-put, in_order-normal, normal-prefix, normal-back}
 use Rattle.change_desc.proofs.Merges.{old_size-normal}
@@ -16,38 +18,35 @@ Chars = List ℕ
 abbrev pub Along : Type 0
 Along = Row Chars (Fate Chars)
 
-abbrev pub Sets : Type 0
-Sets = List (Section Chars)
-
 module _ (char gap : ℕ → Bool) where
   -- what a row comes to from a place on: a Replace that may be open, and sections
   abbrev pub opened : ℕ → Along → Open Chars
   opened p r = gather spelled (taken spelled char gap p r)
 
-  abbrev pub parts : ℕ → Along → Sets
+  abbrev pub parts : ℕ → Along → Sections
   parts p r = closed spelled (opened p r)
 
   -- nothing is open first
   abbrev pub Shut : Open Chars → Type 0
   Shut o = (o.count ≡ 0) × (o.text ≡ [])
 
-  empty_gap : (b : Bool) (ps : List (Piece Chars)) → gather spelled (cond b (whole (Replace 0 []) ∷ []) [] ++ ps) ≡ gather spelled ps
+  empty_gap : (b : Bool) (ps : List (Piece Chars)) → gather spelled (cond b (single (Replace 0 []) ∷ []) [] ++ ps) ≡ gather spelled ps
   empty_gap true ps = refl
   empty_gap false ps = refl
 
   -- one character that is kept
-  keep_char : (p : ℕ) (y : Fate Chars) (r : Along) → taken_char spelled (char p) y ≡ whole (Keep 1) →
+  keep_char : (p : ℕ) (y : Fate Chars) (r : Along) → taken_char spelled (char p) y ≡ single (Keep 1) →
       opened p (next [] y r) ≡ record { count = 0; text = []; rest = Keep 1 ∷ parts (p + 1) r }
   keep_char p y r h =
       empty_gap (gap p) (taken_char spelled (char p) y ∷ taken spelled char gap (p + 1) r) ∙ ap (λ q. gather spelled (q ∷ taken spelled char gap (p + 1) r)) h
 
-  one_more : (k : ℕ) (s : Sets) → put spelled (Keep 1) (normal spelled (Keep k ∷ s)) ≡ normal spelled (Keep (suc k) ∷ s)
+  one_more : (k : ℕ) (s : Sections) → put spelled (Keep 1) (normal spelled (Keep k ∷ s)) ≡ normal spelled (Keep (suc k) ∷ s)
   one_more zero s = refl
   one_more (suc k) s =
       let e : 1 + suc k ≡ suc (suc k) = omega arith in
       sym (put-put spelled spelled_laws (Keep 1) (Keep (suc k)) (normal spelled s) refl (in_order-normal spelled spelled_laws s)) ∙ ap (λ n. put spelled (Keep n) (normal spelled s)) e
 
-  keep_step : (p k : ℕ) (y : Fate Chars) (r s : Along) → taken_char spelled (char p) y ≡ whole (Keep 1) → normal spelled (parts (p + 1) r) ≡ normal spelled (Keep k ∷ parts (p + suc k) s) →
+  keep_step : (p k : ℕ) (y : Fate Chars) (r s : Along) → taken_char spelled (char p) y ≡ single (Keep 1) → normal spelled (parts (p + 1) r) ≡ normal spelled (Keep k ∷ parts (p + suc k) s) →
       normal spelled (parts p (next [] y r)) ≡ normal spelled (Keep (suc k) ∷ parts (p + suc k) s)
   keep_step p k y r s h e =
       ap (λ o. normal spelled (closed spelled o)) (keep_char p y r h) ∙ (ap (put spelled (Keep 1)) e ∙ one_more k (parts (p + suc k) s))
@@ -55,7 +54,7 @@ module _ (char gap : ℕ → Bool) where
   kept-none : (p : ℕ) (s : Along) → normal spelled (parts p s) ≡ normal spelled (Keep 0 ∷ parts (p + 0) s)
   kept-none p s = ap (λ q. normal spelled (parts q s)) (sym (add-zero p))
 
-  always : (b : Bool) → taken_char (spelled {C = ℕ}) b stays ≡ whole (Keep 1)
+  always : (b : Bool) → taken_char (spelled {C = ℕ}) b stays ≡ single (Keep 1)
   always true = refl
   always false = refl
 
@@ -67,7 +66,7 @@ module _ (char gap : ℕ → Bool) where
       keep_step p n stays (times spelled n stays r) r (always (char p)) (stays-run n (p + 1) r ∙ ap (λ q. normal spelled (Keep n ∷ parts q r)) e)
 
   -- deleted characters that are not taken
-  not_taken : (b : Bool) (y : Fate Chars) → b ≡ false → taken_char spelled b y ≡ whole (Keep 1)
+  not_taken : (b : Bool) (y : Fate Chars) → b ≡ false → taken_char spelled b y ≡ single (Keep 1)
   not_taken false stays h = refl
   not_taken false (leaves t) h = refl
   not_taken false follows h = refl
@@ -97,7 +96,7 @@ module _ (char gap : ℕ → Bool) where
       (kept-run n (p + 1) r (others_are false p n a) ∙ ap (λ q. normal spelled (Keep n ∷ parts q r)) e)
 
   -- deleted characters that are taken
-  open_same : (a b : ℕ) (t u : Chars) (r q : Sets) → a ≡ b → t ≡ u → r ≡ q → ◌≡◌ {A = Open Chars} (record { count = a; text = t; rest = r }) (record { count = b; text = u; rest = q })
+  open_same : (a b : ℕ) (t u : Chars) (r q : Sections) → a ≡ b → t ≡ u → r ≡ q → ◌≡◌ {A = Open Chars} (record { count = a; text = t; rest = r }) (record { count = b; text = u; rest = q })
   open_same a b t u r q e f g = rw (e, f, g) refl
 
   cut_char : (p : ℕ) (r : Along) → char p ≡ true → opened p (next [] follows r) ≡ record { count = 1 + (opened (p + 1) r).count; text = (opened (p + 1) r).text; rest = (opened (p + 1) r).rest }
@@ -148,12 +147,12 @@ module _ (char gap : ℕ → Bool) where
       (rw (h.0, h.1, k, append-nil t) refl ∙ sym (shut-prefix (Replace (suc n) t) o h)))
 
   -- where nothing is open
-  shut_gap : (b : Bool) (g : Chars) (ps : List (Piece Chars)) → Shut (gather spelled ps) → Shut (gather spelled (cond b (whole (Replace 0 g) ∷ []) [] ++ ps))
+  shut_gap : (b : Bool) (g : Chars) (ps : List (Piece Chars)) → Shut (gather spelled ps) → Shut (gather spelled (cond b (single (Replace 0 g) ∷ []) [] ++ ps))
   shut_gap false g ps h = h
   shut_gap true [] ps h = h
   shut_gap true (c ∷ g) ps h = (refl, refl)
 
-  shut_end : (b : Bool) (g : Chars) → Shut (gather spelled (cond b (whole (Replace 0 g) ∷ []) []))
+  shut_end : (b : Bool) (g : Chars) → Shut (gather spelled (cond b (single (Replace 0 g) ∷ []) []))
   shut_end false g = (refl, refl)
   shut_end true [] = (refl, refl)
   shut_end true (c ∷ g) = (refl, refl)
@@ -181,7 +180,7 @@ module _ (char gap : ℕ → Bool) where
   fresh-times zero r h = h
   fresh-times (suc n) r h = refl
 
-  fresh-along : (s : Sets) → IsFresh (along_old spelled s)
+  fresh-along : (s : Sections) → IsFresh (along_old spelled s)
   fresh-along [] = tt
   fresh-along (Keep n ∷ s) = fresh-times n (along_old spelled s) (fresh-along s)
   fresh-along (Replace zero t ∷ s) = fresh-prefix t (along_old spelled s) (fresh-along s)
@@ -196,12 +195,12 @@ module _ (char gap : ℕ → Bool) where
   times-split zero j r = let e : 0 + j ≡ j = omega arith in rw e refl
   times-split (suc k) j r = let e : suc k + j ≡ suc (k + j) = omega arith in rw e (ap (next [] follows) (times-split k j r))
 
-  run-shut : (p left : ℕ) (s : Sets) → (left ≡ 0) ⊎ (char p ≡ false) → Shut (opened p (times spelled left follows (along_old spelled s)))
+  run-shut : (p left : ℕ) (s : Sections) → (left ≡ 0) ⊎ (char p ≡ false) → Shut (opened p (times spelled left follows (along_old spelled s)))
   run-shut p zero s h = shut-row p (along_old spelled s) (fresh-along s)
   run-shut p (suc left) s (inl e) = absurd (omega arith)
   run-shut p (suc left) s (inr e) = shut-kept p left (along_old spelled s) e
 
-  pub run_next : (p n left : ℕ) (s : Sets) (b : Bool) → 0 < n → n ≤ left → AllAre b p n → (left - n ≡ 0) ⊎ (char (p + n) ≡ not b) →
+  pub run_next : (p n left : ℕ) (s : Sections) (b : Bool) → 0 < n → n ≤ left → AllAre b p n → (left - n ≡ 0) ⊎ (char (p + n) ≡ not b) →
       normal spelled (parts p (times spelled left follows (along_old spelled s))) ≡ normal spelled (run_section b n [] ∷ parts (p + n) (times spelled (left - n) follows (along_old spelled s)))
   run_next p zero left s b z l a h = absurd (omega arith)
   run_next p (suc n) left s false z l a h =
@@ -215,7 +214,7 @@ module _ (char gap : ℕ → Bool) where
       (ap (λ r. normal spelled (parts p r)) (times-split (suc n) (left - suc n) (along_old spelled s)) ∙
       cut-run n p (times spelled (left - suc n) follows (along_old spelled s)) a (run-shut (p + suc n) (left - suc n) s h))
 
-  pub run_first : (p n left : ℕ) (t : Chars) (s : Sets) (b : Bool) → 0 < n → n ≤ suc left → AllAre b p n → (suc left - n ≡ 0) ⊎ (char (p + n) ≡ not b) →
+  pub run_first : (p n left : ℕ) (t : Chars) (s : Sections) (b : Bool) → 0 < n → n ≤ suc left → AllAre b p n → (suc left - n ≡ 0) ⊎ (char (p + n) ≡ not b) →
       normal spelled (parts p (next [] (leaves t) (times spelled left follows (along_old spelled s)))) ≡
       normal spelled (run_section b n t ∷ parts (p + n) (times spelled (suc left - n) follows (along_old spelled s)))
   run_first p zero left t s b z l a h = absurd (omega arith)
@@ -232,40 +231,40 @@ module _ (char gap : ℕ → Bool) where
 
   -- a pure insertion
   insertion_gap : (b : Bool) (t g : Chars) (ps : List (Piece Chars)) →
-      normal spelled (closed spelled (gather spelled (cond b (whole (Replace 0 (t ++ g)) ∷ []) [] ++ ps))) ≡
-      normal spelled (cond b (Replace 0 t ∷ []) [] ++ closed spelled (gather spelled (cond b (whole (Replace 0 g) ∷ []) [] ++ ps)))
+      normal spelled (closed spelled (gather spelled (cond b (single (Replace 0 (t ++ g)) ∷ []) [] ++ ps))) ≡
+      normal spelled (cond b (Replace 0 t ∷ []) [] ++ closed spelled (gather spelled (cond b (single (Replace 0 g) ∷ []) [] ++ ps)))
   insertion_gap false t g ps = refl
   insertion_gap true [] g ps = refl
-  insertion_gap true (c ∷ t) [] ps = ap (λ u. normal spelled (closed spelled (gather spelled (whole (Replace 0 (c ∷ u)) ∷ ps)))) (append-nil t)
+  insertion_gap true (c ∷ t) [] ps = ap (λ u. normal spelled (closed spelled (gather spelled (single (Replace 0 (c ∷ u)) ∷ ps)))) (append-nil t)
   insertion_gap true (c ∷ t) (d ∷ g) ps =
       put-put spelled spelled_laws (Replace 0 (c ∷ t)) (Replace 0 (d ∷ g)) (normal spelled (closed spelled (gather spelled ps))) refl (in_order-normal spelled spelled_laws (closed spelled (gather spelled ps)))
 
   pub insertion-run : (p : ℕ) (t : Chars) (r : Along) → normal spelled (parts p (in_front spelled t r)) ≡ normal spelled (cond (gap p) (Replace 0 t ∷ []) [] ++ parts p r)
   insertion-run p t (next g y r) = insertion_gap (gap p) t g (taken_char spelled (char p) y ∷ taken spelled char gap (p + 1) r)
   insertion-run p t (last g) =
-      ap (λ ps. normal spelled (closed spelled (gather spelled ps))) (sym (append-nil (cond (gap p) (whole (Replace 0 (t ++ g)) ∷ []) []))) ∙
+      ap (λ ps. normal spelled (closed spelled (gather spelled ps))) (sym (append-nil (cond (gap p) (single (Replace 0 (t ++ g)) ∷ []) []))) ∙
       (insertion_gap (gap p) t g [] ∙
-      ap (λ ps. normal spelled (cond (gap p) (Replace 0 t ∷ []) [] ++ closed spelled (gather spelled ps))) (append-nil (cond (gap p) (whole (Replace 0 g) ∷ []) [])))
+      ap (λ ps. normal spelled (cond (gap p) (Replace 0 t ∷ []) [] ++ closed spelled (gather spelled ps))) (append-nil (cond (gap p) (single (Replace 0 g) ∷ []) [])))
 
 -- one section put after what is filtered
-pub filter-push : (old new f g all : Sets) (y : Section Chars) → new ≡ normal spelled (old ++ y ∷ []) → normal spelled f ≡ normal spelled (y ∷ g) → normal spelled (old ++ f) ≡ all → normal spelled (new ++ g) ≡ all
+pub filter-push : (old new f g all : Sections) (y : Section Chars) → new ≡ normal spelled (old ++ y ∷ []) → normal spelled f ≡ normal spelled (y ∷ g) → normal spelled (old ++ f) ≡ all → normal spelled (new ++ g) ≡ all
 filter-push old new f g all y e h k =
     rw (e, normal-prefix spelled spelled_laws (old ++ y ∷ []) g, append_assoc old (y ∷ []) g) (sym (normal-back spelled spelled_laws old f (y ∷ g) h) ∙ k)
 
-old_append : (s t : Sets) → old_size (s ++ t) ≡ old_size s + old_size t
+old_append : (s t : Sections) → old_size (s ++ t) ≡ old_size s + old_size t
 old_append [] t = omega arith
 old_append (x ∷ s) t = omega (arith, old_append s t)
 
-new_append : (s t : Sets) → new_size spelled (s ++ t) ≡ new_size spelled s + new_size spelled t
+new_append : (s t : Sections) → new_size spelled (s ++ t) ≡ new_size spelled s + new_size spelled t
 new_append [] t = omega arith
 new_append (x ∷ s) t = omega (arith, new_append s t)
 
-pub record Fits (old : Sets) (y : Section Chars) (all : Sets) : Type 0 where
+pub record Fits (old : Sections) (y : Section Chars) (all : Sections) : Type 0 where
   pub old_fits : old_size old + old_of y ≤ old_size all
   pub new_fits : new_size spelled old + new_of spelled y ≤ new_size spelled all
 
 -- and it fits where the whole does
-pub filter-fits : (old f g all : Sets) (y : Section Chars) → normal spelled f ≡ normal spelled (y ∷ g) → normal spelled (old ++ f) ≡ all → Fits old y all
+pub filter-fits : (old f g all : Sections) (y : Section Chars) → normal spelled f ≡ normal spelled (y ∷ g) → normal spelled (old ++ f) ≡ all → Fits old y all
 filter-fits old f g all y h k =
     let w : normal spelled (old ++ y ∷ g) ≡ all = sym (normal-back spelled spelled_laws old f (y ∷ g) h) ∙ k in
     record {

@@ -7,6 +7,9 @@ pub mod Composed
 pub mod Sizes
 pub mod RunningTotals
 pub mod Refused
+pub mod Later
+pub mod OneReplace
+pub mod Ascending
 pub mod Filtering
 pub mod Edges
 pub mod FilterWalk

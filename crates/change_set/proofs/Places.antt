@@ -82,21 +82,21 @@ more_left s p n h l = cases (cases_lt p.index (length s))
     cases (inl c) = c
     cases (inr c) = absurd (omega (arith, ap length (ap (λ r. drop p.offset (kept_marks r)) (drop_all p.index s c)), length-drop p.offset (kept_marks {T = ℕ} [])))
 
-pub record StepOn (s : List (Section ℕ)) (p q : Place) (rest k part : ℕ) : Type 0 where
+pub record StepOn (s : List (Section ℕ)) (p q : Place) (rest k stretch : ℕ) : Type 0 where
   pub is_place : IsPlace s q
   pub within : rest - k ≤ length (marks_at s q)
   pub left : drop (rest - k) (marks_at s q) ≡ drop rest (marks_at s p)
-  pub kept : part + marked (take (rest - k) (marks_at s q)) ≡ marked (take rest (marks_at s p))
-  pub few : part ≤ k
+  pub kept : stretch + marked (take (rest - k) (marks_at s q)) ≡ marked (take rest (marks_at s p))
+  pub few : stretch ≤ k
 
 kept_part-few : (x : Section ℕ) (k : ℕ) → kept_part k x ≤ k
 kept_part-few (Keep n) k = omega arith
 kept_part-few (Replace n t) k = omega arith
 
-pub step_on : (s : List (Section ℕ)) (p q : Place) (rest k part old : ℕ) → 0 < rest → IsPlace s p → rest ≤ length (marks_at s p) →
-    old ≡ old_of (get_or s p.index (Keep 0)) → k ≡ min (old - p.offset) rest → part ≡ kept_part k (get_or s p.index (Keep 0)) →
-    (k < old - p.offset → q ≡ record { index = p.index; offset = p.offset + k }) → (old - p.offset ≤ k → q ≡ record { index = p.index + 1; offset = 0 }) → StepOn s p q rest k part
-step_on s p q rest k part old a i w o m t g b =
+pub step_on : (s : List (Section ℕ)) (p q : Place) (rest k stretch old : ℕ) → 0 < rest → IsPlace s p → rest ≤ length (marks_at s p) →
+    old ≡ old_of (get_or s p.index (Keep 0)) → k ≡ min (old - p.offset) rest → stretch ≡ kept_part k (get_or s p.index (Keep 0)) →
+    (k < old - p.offset → q ≡ record { index = p.index; offset = p.offset + k }) → (old - p.offset ≤ k → q ≡ record { index = p.index + 1; offset = 0 }) → StepOn s p q rest k stretch
+step_on s p q rest k stretch old a i w o m t g b =
     let x : Section ℕ = get_or s p.index (Keep 0) in
     let n : p.index < length s = more_left s p rest a w in
     let e : drop p.index s ≡ x ∷ drop (p.index + 1) s = drop_more s p.index (Keep 0) n in

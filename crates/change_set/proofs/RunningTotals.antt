@@ -4,19 +4,18 @@ use Rattle.std.proofs.lemmas.Bool.Decides.{nat_tests}
 use Rattle.std.specs.declared.option.Option.{Option}
 use Rattle.change_desc.specs.declared.section.Section.{Section}
 use Rattle.change_desc.specs.declared.section.Section.TheVariants.{Keep, Replace}
-use Rattle.change_desc.specs.Sections.{Texts, spelled, counted, normal, lengths, old_size, new_size}
+use Rattle.change_desc.specs.Sections.{Sections, Texts, spelled, counted, normal, lengths, old_size, new_size}
 use Rattle.change_desc.specs.Columns.{width, Row, last, next, Fate, stays, leaves, follows, in_front, times, along_old}
-use Rattle.change_desc.specs.Algebra.{compose, map_over, span, then_also, of}
-use Rattle.change_desc.specs.Weaving.{merged_len}
+use Rattle.change_desc.specs.Compose.{compose}
+use Rattle.change_desc.specs.Map.{map_over}
+use Rattle.change_desc.specs.Of.{span, then_also, of}
+use Rattle.change_desc.specs.MapSteps.{merged_len}
 use Rattle.change_desc.proofs.Applies.{width-along_old}
 use Rattle.change_desc.proofs.Merges.{old_size-lengths, new_size-lengths, old_size-map_over, old_size-normal}
 use Rattle.change_desc.proofs.MapLengths.{column_new, ends_new}
 use Rattle.change_desc.proofs.Measures.{new_size-map_over, merged_len-sets}
 use Rattle.change_desc.proofs.Lengths.{spelled_sizes, normal-lengths, map_over-lengths}
 use Rattle.change_set.proofs.Sizes.{old_size-compose, new_size-compose}
-
-abbrev Sections : Type 0
-Sections = List (Section (List ℕ))
 
 -- where the mapped set starts
 moved-old : (total set : Sections) → old_size set ≡ old_size total → old_size (map_over spelled set (lengths spelled total) false) ≡ new_size spelled total

@@ -1,12 +1,10 @@
 -- Lists of sections are the same exactly where they are equal.
+use Rattle.change_desc.specs.Sections.{Sections}
 use Rattle.std.proofs.Common.{◌≡◌, ◌≢◌, ◌↔◌, ℕ, suc, ◌+◌, ◌<◌, Bool, true, false, ◌&&◌, eqb, List, [], ◌∷◌, length, drop, IsTrue, refl, sym, ap, ◌∙◌, arith}
 use Rattle.std.proofs.lemmas.Bool.{and_parts, and_from, eqb-true, eq-eqb, cases_Bool}
 use Rattle.change_desc.specs.declared.section.Section.{Section}
 use Rattle.change_desc.specs.declared.section.Section.TheVariants.{Keep, Replace}
 use Rattle.change_set.specs.Same.{same_text, same_section, same_sections}
-
-abbrev pub Sets : Type 0
-Sets = List (Section (List ℕ))
 
 text-equal : (t u : List ℕ) → same_text t u ≡ true → t ≡ u
 text-equal [] [] h = refl
@@ -36,7 +34,7 @@ section-same : (x : Section (List ℕ)) → same_section x x ≡ true
 section-same (Keep n) = eq-eqb n n refl
 section-same (Replace n t) = and_from (eqb n n) (same_text t t) (eq-eqb n n refl) (text-same t)
 
-pub sections-equal : (s t : Sets) → same_sections s t ≡ true → s ≡ t
+pub sections-equal : (s t : Sections) → same_sections s t ≡ true → s ≡ t
 sections-equal [] [] h = refl
 sections-equal [] (y ∷ t) h = cc
 sections-equal (x ∷ s) [] h = cc
@@ -46,11 +44,11 @@ sections-equal (x ∷ s) (y ∷ t) h =
     let f : s ≡ t = sections-equal s t p.1 in
     cc
 
-sections-same : (s : Sets) → same_sections s s ≡ true
+sections-same : (s : Sections) → same_sections s s ≡ true
 sections-same [] = refl
 sections-same (x ∷ s) = and_from (same_section x x) (same_sections s s) (section-same x) (sections-same s)
 
-pub sections-iff : (s t : Sets) (b : Bool) → b ≡ same_sections s t → IsTrue b ↔ (s ≡ t)
+pub sections-iff : (s t : Sections) (b : Bool) → b ≡ same_sections s t → IsTrue b ↔ (s ≡ t)
 sections-iff s t b h = ((λ e. sections-equal s t (sym h ∙ e)), (λ e. h ∙ (ap (λ r. same_sections s r) (sym e) ∙ sections-same s)))
 
 -- a test of texts that tells whether they are equal
@@ -62,12 +60,12 @@ text-test t u false h = cases (same_text t u) refl
     cases false e = refl
     cases true e = let f : false ≡ true = h.1 (text-equal t u e) in cc
 
-pub lengths-differ : (s t : Sets) → length s ≢ length t → false ≡ same_sections s t
+pub lengths-differ : (s t : Sections) → length s ≢ length t → false ≡ same_sections s t
 lengths-differ s t h = cases (same_sections s t) refl
   where
     cases : (b : Bool) → same_sections s t ≡ b → false ≡ b
     cases false e = refl
     cases true e = absurd (h (ap length (sections-equal s t e)))
 
-pub same-step : (s t r q all : Sets) (x y : Section (List ℕ)) (b : Bool) → s ≡ x ∷ r → t ≡ y ∷ q → b ≡ same_section x y → same_sections s t ≡ (b && same_sections r q)
+pub same-step : (s t r q all : Sections) (x y : Section (List ℕ)) (b : Bool) → s ≡ x ∷ r → t ≡ y ∷ q → b ≡ same_section x y → same_sections s t ≡ (b && same_sections r q)
 same-step s t r q all x y b e f h = rw (e, f, h) refl

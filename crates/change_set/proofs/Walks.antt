@@ -9,6 +9,7 @@ use Rattle.change_desc.proofs.Merges.{old_size-lengths, new_size-lengths, old_si
 use Rattle.change_desc.proofs.Weaves.{new_size-normal, new_size-append}
 use Rattle.change_desc.proofs.Lengths.{spelled_sizes, normal-lengths}
 use Rattle.change_desc.proofs.Turns.{is_set-turned}
+use Rattle.change_set.specs.Walks.{given_by, turned_at}
 
 -- the section that comes, and those after it
 pub at_section : {T : Type 0} (s : List (Section T)) (i : ℕ) (x y : Section T) → i < length s → x ≡ get_or s i x → x ≡ y → drop i s ≡ y ∷ drop (i + 1) s
@@ -19,17 +20,6 @@ next_section s i x l r = drop_more s i x l ∙ ap (λ z. z ∷ drop (i + 1) s) (
 
 pub next_item : {A : Type 0} (s : List A) (i : ℕ) (x : A) → i < length s → x ≡ get_or s i x → drop i s ≡ x ∷ drop (i + 1) s
 next_item s i x l r = drop_more s i x l ∙ ap (λ z. z ∷ drop (i + 1) s) (sym r)
-
-module _ {C : Type 0} where
-  pub walk-keep : (s : List (Section (List C))) (i : ℕ) (n at : ℕ) (doc chars all : List C) → drop i s ≡ Keep n ∷ drop (i + 1) s →
-      chars ++ apply (drop i s) (drop at doc) ≡ all → (chars ++ take n (drop at doc)) ++ apply (drop (i + 1) s) (drop (at + n) doc) ≡ all
-  walk-keep s i n at doc chars all e h =
-      rw (append_assoc chars (take n (drop at doc)) (apply (drop (i + 1) s) (drop (at + n) doc)), ← (drop-drop n at doc)) (rw e at h)
-
-  pub walk-replace : (s : List (Section (List C))) (i : ℕ) (n at : ℕ) (t doc chars all : List C) → drop i s ≡ Replace n t ∷ drop (i + 1) s →
-      chars ++ apply (drop i s) (drop at doc) ≡ all → (chars ++ t) ++ apply (drop (i + 1) s) (drop (at + n) doc) ≡ all
-  walk-replace s i n at t doc chars all e h =
-      rw (append_assoc chars t (apply (drop (i + 1) s) (drop (at + n) doc)), ← (drop-drop n at doc)) (rw e at h)
 
 -- a list of sections with texts is a set exactly where their lengths are
 module _ {T C : Type 0} (X : Texts T C) (L : Laws X) where
@@ -89,8 +79,8 @@ pushed-old d e x h = ap old_size h ∙ (old_size-normal counted (d ++ x ∷ []) 
 pub pushed-new : (d e : List (Section ℕ)) (x : Section ℕ) → e ≡ normal counted (d ++ x ∷ []) → new_size counted e ≡ new_size counted d + new_of counted x
 pushed-new d e x h = ap (new_size counted) h ∙ (new_size-normal counted counted_laws (d ++ x ∷ []) ∙ omega (arith, new_size-append d (x ∷ [])))
 
-pub fits-part : {C : Type 0} (chars part more : List C) (m rest all : ℕ) → more ≡ chars ++ part → length part ≡ m → length chars + (m + rest) ≡ all → length more + rest ≡ all
-fits-part chars part more m rest all e l h = omega (arith, ap length e, length-append chars part)
+pub fits-part : {C : Type 0} (chars stretch more : List C) (m rest all : ℕ) → more ≡ chars ++ stretch → length stretch ≡ m → length chars + (m + rest) ≡ all → length more + rest ≡ all
+fits-part chars stretch more m rest all e l h = omega (arith, ap length e, length-append chars stretch)
 
 pub length-part : {C : Type 0} (n at : ℕ) (doc : List C) → at + n ≤ length doc → length (take n (drop at doc)) ≡ n
 length-part n at doc h = length-take-le n (drop at doc) (omega (arith, length-drop at doc))
@@ -110,9 +100,21 @@ pub measured-whole : {C : Type 0} (d : List (Section ℕ)) (s : List (Section (L
     normal counted (d ++ lengths spelled (drop i s)) ≡ lengths spelled s → d ≡ lengths spelled s
 measured-whole d s i l n h = sym n ∙ (ap (normal counted) (sym (append-nil d)) ∙ (ap (λ r. normal counted (d ++ lengths spelled r)) (sym (drop_all i s l)) ∙ h))
 
-pub inverted-whole : {C : Type 0} (s t : List (Section (List C))) (doc : List C) (i at : ℕ) → length s ≤ i → at + old_size (drop i s) ≡ length doc →
-    t ++ invert (drop i s) (drop at doc) ≡ invert s doc → IsSet spelled s → old_size s ≡ length doc → IsSet spelled t
-inverted-whole s t doc i at l a h k e =
+pub inverted-is : {C : Type 0} (s t : List (Section (List C))) (doc left : List C) (i : ℕ) → length s ≤ i → t ++ invert (drop i s) left ≡ invert s doc → t ≡ invert s doc
+inverted-is s t doc left i l h =
     let n : drop i s ≡ [] = drop_all i s l in
-    let w : t ≡ invert s doc = sym (append-nil t) ∙ (ap (λ r. t ++ invert r (drop at doc)) (sym n) ∙ h) in
-    subst (IsSet spelled) (sym w) (is_set-invert s doc k e)
+    sym (append-nil t) ∙ (ap (λ r. t ++ invert r left) (sym n) ∙ h)
+
+pub inverted-all : {C : Type 0} (s t : List (Section (List C))) (doc left : List C) (i : ℕ) → length s ≤ i →
+    t ++ invert (drop i s) left ≡ invert s doc → IsSet spelled s → old_size s ≡ length doc → IsSet spelled t
+inverted-all s t doc left i l h k e =
+    subst (IsSet spelled) (sym (inverted-is s t doc left i l h)) (is_set-invert s doc k e)
+
+-- one section over the rest of a text
+pub apply-cons : {C : Type 0} (x : Section (List C)) (s : List (Section (List C))) (doc : List C) → apply (x ∷ s) doc ≡ given_by x doc ++ apply s (drop (old_of x) doc)
+apply-cons (Keep n) s doc = refl
+apply-cons (Replace n t) s doc = refl
+
+pub invert-cons : {C : Type 0} (x : Section (List C)) (s : List (Section (List C))) (doc : List C) → invert (x ∷ s) doc ≡ turned_at doc x ∷ invert s (drop (old_of x) doc)
+invert-cons (Keep n) s doc = refl
+invert-cons (Replace n t) s doc = refl

@@ -5,7 +5,9 @@ use Rattle.change_desc.specs.declared.section.Section.{Section}
 use Rattle.change_desc.specs.declared.section.Section.TheVariants.{Keep, Replace}
 use Rattle.change_desc.specs.Sections.{Texts, spelled, counted, is_blank, put, normal, lengths, turned, inverted, old_size, new_size}
 use Rattle.change_desc.specs.Columns.{width, Row, last, next, Fate, stays, leaves, follows, Origin, old, new, more, in_front, times, mores, spell, along_old, along_new}
-use Rattle.change_desc.specs.Algebra.{Piece, whole, part, closed, gather, sections, is_cut_new, is_cut_old, between, in_gap, composed, compose, ordered, inserted, character, text_size, mapped, map_over}
+use Rattle.change_desc.specs.Pieces.{Piece, single, stretch, closed, gather, sections}
+use Rattle.change_desc.specs.Compose.{is_cut_new, is_cut_old, between, in_gap, composed, compose}
+use Rattle.change_desc.specs.Map.{ordered, inserted, character, text_size, mapped, map_over}
 use Rattle.change_desc.proofs.Applies.{width-along_old, width-along_new, width-times, width-in_front}
 use Rattle.change_desc.proofs.Turns.{old_size-turned}
 use Rattle.change_desc.proofs.Merges.{new_size-lengths}
@@ -83,20 +85,20 @@ module _ {C : Type 0} where
   -- the texts of pieces
   abbrev pub piece_texts : List (Piece (List C)) → List C
   piece_texts [] = []
-  piece_texts (whole (Keep n) ∷ ps) = piece_texts ps
-  piece_texts (whole (Replace n t) ∷ ps) = t ++ piece_texts ps
-  piece_texts (part b n t ∷ ps) = t ++ piece_texts ps
+  piece_texts (single (Keep n) ∷ ps) = piece_texts ps
+  piece_texts (single (Replace n t) ∷ ps) = t ++ piece_texts ps
+  piece_texts (stretch b n t ∷ ps) = t ++ piece_texts ps
 
   written-gather : (ps : List (Piece (List C))) → written (closed spelled (gather spelled ps)) ≡ piece_texts ps
   written-gather [] = refl
-  written-gather (whole (Keep zero) ∷ ps) = written-gather ps
-  written-gather (whole (Keep (suc n)) ∷ ps) = written-gather ps
-  written-gather (whole (Replace zero []) ∷ ps) = written-gather ps
-  written-gather (whole (Replace zero (c ∷ t)) ∷ ps) = ap (λ r. (c ∷ t) ++ r) (written-gather ps)
-  written-gather (whole (Replace (suc n) t) ∷ ps) = ap (λ r. t ++ r) (written-gather ps)
-  written-gather (part true n t ∷ ps) =
+  written-gather (single (Keep zero) ∷ ps) = written-gather ps
+  written-gather (single (Keep (suc n)) ∷ ps) = written-gather ps
+  written-gather (single (Replace zero []) ∷ ps) = written-gather ps
+  written-gather (single (Replace zero (c ∷ t)) ∷ ps) = ap (λ r. (c ∷ t) ++ r) (written-gather ps)
+  written-gather (single (Replace (suc n) t) ∷ ps) = ap (λ r. t ++ r) (written-gather ps)
+  written-gather (stretch true n t ∷ ps) =
       append_assoc t (gather spelled ps).text (written (gather spelled ps).rest) ∙ ap (λ r. t ++ r) (written-gather ps)
-  written-gather (part false n t ∷ ps) =
+  written-gather (stretch false n t ∷ ps) =
       append_assoc t (gather spelled ps).text (written (gather spelled ps).rest) ∙ ap (λ r. t ++ r) (written-gather ps)
 
   pub written-sections : (ps : List (Piece (List C))) → written (sections spelled ps) ≡ piece_texts ps
@@ -104,9 +106,9 @@ module _ {C : Type 0} where
 
   piece_texts-append : (ps qs : List (Piece (List C))) → piece_texts (ps ++ qs) ≡ piece_texts ps ++ piece_texts qs
   piece_texts-append [] qs = refl
-  piece_texts-append (whole (Keep n) ∷ ps) qs = piece_texts-append ps qs
-  piece_texts-append (whole (Replace n t) ∷ ps) qs = ap (λ r. t ++ r) (piece_texts-append ps qs) ∙ sym (append_assoc t (piece_texts ps) (piece_texts qs))
-  piece_texts-append (part b n t ∷ ps) qs = ap (λ r. t ++ r) (piece_texts-append ps qs) ∙ sym (append_assoc t (piece_texts ps) (piece_texts qs))
+  piece_texts-append (single (Keep n) ∷ ps) qs = piece_texts-append ps qs
+  piece_texts-append (single (Replace n t) ∷ ps) qs = ap (λ r. t ++ r) (piece_texts-append ps qs) ∙ sym (append_assoc t (piece_texts ps) (piece_texts qs))
+  piece_texts-append (stretch b n t ∷ ps) qs = ap (λ r. t ++ r) (piece_texts-append ps qs) ∙ sym (append_assoc t (piece_texts ps) (piece_texts qs))
 
   -- a mapped set has the texts of the set
   abbrev row_texts : Row (List C) (Fate (List C)) → List C
@@ -123,7 +125,7 @@ module _ {C : Type 0} where
   character-texts follows y = refl
 
   ordered-texts : (before : Bool) (n : ℕ) (j : List C) (y : Fate (List C)) (ps : List (Piece (List C))) →
-      piece_texts (ordered before (whole (Keep n) ∷ []) (inserted spelled j y) ++ ps) ≡ piece_texts (inserted spelled j y) ++ piece_texts ps
+      piece_texts (ordered before (single (Keep n) ∷ []) (inserted spelled j y) ++ ps) ≡ piece_texts (inserted spelled j y) ++ piece_texts ps
   ordered-texts false n j y ps = piece_texts-append (inserted spelled j y) ps
   ordered-texts true n j stays ps = ap (λ r. r ++ piece_texts ps) (sym (append-nil j))
   ordered-texts true n j (leaves t) ps = ap (λ r. j ++ r) refl ∙ (sym (append_assoc j t (piece_texts ps)) ∙ ap (λ r. r ++ piece_texts ps) (ap (λ r. j ++ r) (sym (append-nil t))))
@@ -202,23 +204,23 @@ module _ {C : Type 0} where
   composed-texts (last n) (next t y s) w = absurd (omega arith)
   composed-texts (next n x r) (last t) w = absurd (omega arith)
   composed-texts (next n old r) (next t stays s) w =
-      gap-texts true n t (whole (Keep 1) ∷ composed spelled r s) ∙ ap (λ u. t ++ u) (composed-texts r s (omega arith))
+      gap-texts true n t (single (Keep 1) ∷ composed spelled r s) ∙ ap (λ u. t ++ u) (composed-texts r s (omega arith))
   composed-texts (next n old r) (next t (leaves u) s) w =
-      gap-texts true n t (part true 1 u ∷ composed spelled r s) ∙ ap (λ v. t ++ (u ++ v)) (composed-texts r s (omega arith))
+      gap-texts true n t (stretch true 1 u ∷ composed spelled r s) ∙ ap (λ v. t ++ (u ++ v)) (composed-texts r s (omega arith))
   composed-texts (next n old r) (next t follows s) w =
-      gap-texts false n t (part false 1 [] ∷ composed spelled r s) ∙ ap (λ v. t ++ v) (composed-texts r s (omega arith))
+      gap-texts false n t (stretch false 1 [] ∷ composed spelled r s) ∙ ap (λ v. t ++ v) (composed-texts r s (omega arith))
   composed-texts (next n (new m c) r) (next t stays s) w =
-      gap-texts true n t (part true m (c ∷ []) ∷ composed spelled r s) ∙ ap (λ v. t ++ (c ∷ v)) (composed-texts r s (omega arith))
+      gap-texts true n t (stretch true m (c ∷ []) ∷ composed spelled r s) ∙ ap (λ v. t ++ (c ∷ v)) (composed-texts r s (omega arith))
   composed-texts (next n (new m c) r) (next t (leaves u) s) w =
-      gap-texts true n t (part true m u ∷ composed spelled r s) ∙ ap (λ v. t ++ (u ++ v)) (composed-texts r s (omega arith))
+      gap-texts true n t (stretch true m u ∷ composed spelled r s) ∙ ap (λ v. t ++ (u ++ v)) (composed-texts r s (omega arith))
   composed-texts (next n (new m c) r) (next t follows s) w =
-      gap-texts false n t (part false m [] ∷ composed spelled r s) ∙ ap (λ v. t ++ v) (composed-texts r s (omega arith))
+      gap-texts false n t (stretch false m [] ∷ composed spelled r s) ∙ ap (λ v. t ++ v) (composed-texts r s (omega arith))
   composed-texts (next n (more c) r) (next t stays s) w =
-      gap-texts false n t (part false 0 (c ∷ []) ∷ composed spelled r s) ∙ ap (λ v. t ++ (c ∷ v)) (composed-texts r s (omega arith))
+      gap-texts false n t (stretch false 0 (c ∷ []) ∷ composed spelled r s) ∙ ap (λ v. t ++ (c ∷ v)) (composed-texts r s (omega arith))
   composed-texts (next n (more c) r) (next t (leaves u) s) w =
-      gap-texts false n t (part false 0 u ∷ composed spelled r s) ∙ ap (λ v. t ++ (u ++ v)) (composed-texts r s (omega arith))
+      gap-texts false n t (stretch false 0 u ∷ composed spelled r s) ∙ ap (λ v. t ++ (u ++ v)) (composed-texts r s (omega arith))
   composed-texts (next n (more c) r) (next t follows s) w =
-      gap-texts false n t (part false 0 [] ∷ composed spelled r s) ∙ ap (λ v. t ++ v) (composed-texts r s (omega arith))
+      gap-texts false n t (stretch false 0 [] ∷ composed spelled r s) ∙ ap (λ v. t ++ v) (composed-texts r s (omega arith))
 
   -- along the second set's sections
   along-stays : (n : ℕ) (m : List Bool) (w : List C) (s : Row (List C) (Fate (List C))) → n ≤ length m → unmarked m ≤ length w →

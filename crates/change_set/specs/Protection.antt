@@ -4,7 +4,8 @@ use Rattle.change_desc.specs.declared.section.Section.{Section}
 use Rattle.change_desc.specs.declared.section.Section.TheVariants.{Keep, Replace}
 use Rattle.change_desc.specs.Sections.{spelled, normal, old_size, new_size}
 use Rattle.change_desc.specs.Columns.{Row, Fate, next, leaves, follows, times, along_old}
-use Rattle.change_desc.specs.Algebra.{closed, gather, taken, is_in, is_protected, is_inside}
+use Rattle.change_desc.specs.Pieces.{closed, gather}
+use Rattle.change_desc.specs.Filter.{taken, is_in, is_protected, is_inside}
 use Rattle.change_set.specs.declared.side.Side.{Side}
 use Rattle.change_set.specs.declared.side.Side.TheVariants.{Kept, Dropped}
 

@@ -54,7 +54,7 @@ text_total [] = 0
 text_total (Keep n ∷ s) = text_total s
 text_total (Replace n m ∷ s) = m + text_total s
 
--- what a section of the second set takes: characters of the first set's texts from one place to another, or its own text
-abbrev pub text_of_section : {C : Type 0} → (from to : ℕ) (first : List C) → Section (List C) → List C
-text_of_section from to first (Keep n) = take (to - from) (drop from first)
-text_of_section from to first (Replace n t) = t
+-- what a section of the second set takes: the next characters of the first set's texts, or its own text
+abbrev pub text_of_section : {C : Type 0} → (count : ℕ) (first : List C) → Section (List C) → List C
+text_of_section count first (Keep n) = take count first
+text_of_section count first (Replace n t) = t

@@ -3,13 +3,17 @@ ghost use Rattle.change_set.specs.Refusals.{fault, first_fault};
 
 use crate::change_set::ChangeSet;
 use crate::error::ChangesError;
-use line_tree::Text;
+use crate::inserted_text::InsertedText;
 
 /// One change of a document (Reference Manual: ChangeSpec).
 #[derive(Drop)]
 pub enum Change {
     /// The characters from `from` to `to` replaced by a text.
-    Span { from: u32, to: u32, insert: Text },
+    Span {
+        from: u32,
+        to: u32,
+        insert: InsertedText,
+    },
     /// A set of changes over the whole document.
     Set(ChangeSet),
 }

@@ -1,24 +1,30 @@
 ghost use Rattle.std.specs.Prelude.{◌≡◌, ◌≢◌, ◌≤◌, ◌<◌, ◌+◌, ◌-◌, ◌^◌, ◌∷◌, [], length, IfOk, IfErr, Some, None, ◌↔◌, IsTrue};
 ghost use Rattle.change_desc.specs.declared.section.Section.TheVariants.{Keep};
 ghost use Rattle.change_desc.specs.Sections.{spelled, counted, old_size, new_size, normal, lengths, apply, invert, inverted};
-ghost use Rattle.change_desc.specs.Algebra.{compose, map_over, filter_kept, filter_dropped, of, span};
+ghost use Rattle.change_desc.specs.Compose.{compose};
+ghost use Rattle.change_desc.specs.Map.{map_over};
+ghost use Rattle.change_desc.specs.Of.{of, span};
+ghost use Rattle.change_desc.specs.Filter.{filter_kept, filter_dropped};
 ghost use Rattle.change_set.specs.Changes.{as_sets};
+ghost use Rattle.change_desc.specs.Laws.{AppliesInTurn, DescribesComposed, DescribesMapped, LeadsBack, Merges};
 ghost use Rattle.change_desc.specs.Ranges.{changes_nothing};
 ghost use Rattle.change_set.specs.Refusals.{refusal};
 ghost use Rattle.change_set.specs.Texts.{written};
 ghost use Rattle.change_set.specs.Protection.{whole_part};
 ghost use Rattle.change_set.specs.Same.{same_sections};
 
+use crate::ascent::{ascending, push_span};
 use crate::change::{Change, first_fault};
 use crate::error::ChangesError;
 use crate::filter::filtered;
 use crate::filtered::Filtered;
 use crate::inserted_text::InsertedText;
-use crate::sections::{copied, measured, new_len, push_section, same_sections, turned};
+use crate::only_replace::only_replace;
+use crate::sections::{copied, measured, new_len, push_section, same_sections};
 use crate::side::Side;
-use crate::texts::{filled, texts_between, written};
+use crate::texts::{applied, filled, texts_between, turned, written};
 use change_desc::{Desc, Section};
-use line_tree::Text;
+use line_tree::{Text, TextCursor};
 use smallvec::SmallVec;
 use std::alloc::{AllocError, Global};
 use std::marker::Model;
@@ -27,7 +33,7 @@ use std::marker::Model;
 /// characters kept, or so many replaced by a text. Lengths are in characters.
 #[derive(Drop)]
 pub struct ChangeSet {
-    sections: SmallVec<Section<InsertedText>, 8>,
+    pub(crate) sections: SmallVec<Section<InsertedText>, 8>,
 }
 
 impl Model for ChangeSet {
@@ -69,9 +75,12 @@ impl ChangeSet {
                 max,
             });
         }
-        let mut total = ChangeSet::empty(alloc, len)?;
-        for change in changes {
-            total = total.with_change(change, max)?;
+        let (start, taken) = ascending(alloc, changes, len, max)?;
+        let mut total = start;
+        let mut index = taken;
+        'rest: while index < changes.len() {
+            total = total.with_change(&changes[index], max)?;
+            index += 1;
         }
         Ok(total)
     }
@@ -131,22 +140,11 @@ impl ChangeSet {
         requires { old_size self.now ≡ length document.now.characters }
         ensures { IfOk result (λ text. text.characters ≡ apply self.now document.now.characters) }
     {
-        let mut text = Text::empty(*self.sections.allocator())?;
-        let mut at = 0;
-        for section in self.sections.as_slice() {
-            match section {
-                Section::Keep(count) => {
-                    let kept = document.slice(at, at + *count)?;
-                    text = text.append(&kept)?;
-                    at += *count;
-                }
-                Section::Replace(count, inserted) => {
-                    text = text.append(inserted.text())?;
-                    at += *count;
-                }
-            }
+        let sections = self.sections.as_slice();
+        match only_replace(sections) {
+            Some(replace) => document.replace(replace.from, replace.to, replace.text),
+            None => applied(*self.sections.allocator(), sections, document),
         }
-        Ok(text)
     }
 
     /// This set and then the next, as one set (ChangeSet.compose). `Err`: out of memory.
@@ -155,6 +153,8 @@ impl ChangeSet {
         ensures both { IfOk result (λ both. both ≡ compose spelled self.now next.now) }
         ensures starts { IfOk result (λ both. old_size both ≡ old_size self.now) }
         ensures ends { IfOk result (λ both. new_size spelled both ≡ new_size spelled next.now) }
+        ensures in_turn { IfOk result (λ both. AppliesInTurn self.now next.now both) }
+        ensures described { IfOk result (λ both. DescribesComposed self.now next.now both) }
     {
         let lengths = self.composed_lengths(next)?;
         let text = self.composed_text(next)?;
@@ -169,6 +169,8 @@ impl ChangeSet {
         requires fits { new_size spelled (map_over spelled self.now over.now before) < 2 ^ 32 }
         ensures mapped { IfOk result (λ mapped. mapped ≡ map_over spelled self.now over.now before) }
         ensures starts { IfOk result (λ mapped. old_size mapped ≡ new_size counted over.now) }
+        ensures merges { IfOk result (λ mapped. Merges self.now mapped over.now before) }
+        ensures described { IfOk result (λ mapped. DescribesMapped self.now mapped over.now before) }
     {
         let lengths = self.mapped_lengths(over, before)?;
         let text = self.own_text()?;
@@ -180,14 +182,15 @@ impl ChangeSet {
     /// was wanting.
     pub fn invert(&self, document: &Text) -> Result<ChangeSet, AllocError>
         requires { old_size self.now ≡ length document.now.characters }
-        ensures { IfOk result (λ back. back ≡ invert self.now document.now.characters) }
+        ensures back { IfOk result (λ back. back ≡ invert self.now document.now.characters) }
+        ensures leads_back { IfOk result (λ back. LeadsBack self.now back document.now.characters) }
     {
-        let mut sections = SmallVec::new(*self.sections.allocator());
-        let mut at = 0;
+        let alloc = *self.sections.allocator();
+        let mut sections = SmallVec::new(alloc);
+        let mut cursor = TextCursor::new(document);
         for section in self.sections.as_slice() {
-            let back = turned(section, document, at)?;
+            let back = turned(alloc, section, &mut cursor)?;
             sections.push(back)?;
-            at += section.old_len();
         }
         Ok(ChangeSet { sections })
     }
@@ -252,17 +255,15 @@ impl ChangeSet {
         len: u32,
         from: u32,
         to: u32,
-        insert: &Text,
+        insert: &InsertedText,
     ) -> Result<ChangeSet, AllocError>
         requires order { from ≤ to }
         requires within { to ≤ len }
-        requires fits { len - (to - from) + length insert.now.characters < 2 ^ 32 }
-        ensures { IfOk result (λ set. set ≡ span spelled len from to insert.now.characters) }
+        requires fits { len - (to - from) + length insert.now < 2 ^ 32 }
+        ensures { IfOk result (λ set. set ≡ span spelled len from to insert.now) }
     {
         let mut sections = SmallVec::new(alloc);
-        push_section(&mut sections, Section::Keep(from))?;
-        let text = InsertedText::of(insert.try_copy()?);
-        push_section(&mut sections, Section::Replace(to - from, text))?;
+        push_span(&mut sections, from, to - from, insert)?;
         push_section(&mut sections, Section::Keep(len - to))?;
         Ok(ChangeSet { sections })
     }

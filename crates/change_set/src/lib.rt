@@ -5,13 +5,14 @@
 //! laws of changes. A set keeps its allocator, so its methods take none.
 #![tactic(auto)]
 
+mod ascent;
 mod change;
 mod change_set;
 mod error;
 mod filter;
 mod filtered;
 mod inserted_text;
-mod laws;
+mod only_replace;
 mod place;
 mod protection;
 mod sections;
@@ -24,7 +25,6 @@ pub use crate::change_set::ChangeSet;
 pub use crate::error::ChangesError;
 pub use crate::filtered::Filtered;
 pub use crate::inserted_text::InsertedText;
-pub use crate::laws::change_laws;
 
 #[cfg(test)]
 mod tests;

@@ -1,5 +1,5 @@
 ghost use Rattle.std.specs.Prelude.{◌≡◌, ◌<◌, ◌≤◌};
-ghost use Rattle.change_desc.specs.Algebra.{is_in, is_inside, is_protected};
+ghost use Rattle.change_desc.specs.Filter.{is_in, is_inside, is_protected};
 ghost use Rattle.change_set.specs.Protection.{IsEdge, IsRun};
 
 /// Whether a range has a character.

@@ -1,11 +1,9 @@
-ghost use Rattle.std.specs.Prelude.{◌≡◌, ◌<◌, ◌≤◌, ◌+◌, ◌^◌, ◌∷◌, ◌++◌, [], length, IfOk, OnOk};
+ghost use Rattle.std.specs.Prelude.{◌≡◌, ◌<◌, ◌+◌, ◌^◌, ◌∷◌, ◌++◌, [], IfOk, OnOk};
 ghost use Rattle.change_desc.specs.Sections.{spelled, measured, is_blank, joined, joins, kind, normal, old_of, old_size, new_of, new_size};
 ghost use Rattle.change_set.specs.Same.{same_section, same_sections};
-ghost use Rattle.change_set.specs.Walks.{turned_at};
 
 use crate::inserted_text::InsertedText;
 use change_desc::Section;
-use line_tree::Text;
 use smallvec::SmallVec;
 use std::alloc::AllocError;
 
@@ -74,25 +72,6 @@ pub(crate) fn same_sections(
         }
     }
     true
-}
-
-/// The section that leads back over the old document, in which this one starts at a place.
-pub(crate) fn turned(
-    section: &Section<InsertedText>,
-    document: &Text,
-    at: u32,
-) -> Result<Section<InsertedText>, AllocError>
-    requires within { at + old_of section.now ≤ length document.now.characters }
-    requires fits { at + old_of section.now < 2 ^ 32 }
-    ensures { IfOk result (λ back. back ≡ turned_at at document.now.characters section.now) }
-{
-    match section {
-        Section::Keep(count) => Ok(Section::Keep(*count)),
-        Section::Replace(count, text) => {
-            let old = document.slice(at, at + *count)?;
-            Ok(Section::Replace(text.len(), InsertedText::of(old)))
-        }
-    }
 }
 
 /// Whether a section keeps nothing and replaces nothing.

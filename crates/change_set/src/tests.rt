@@ -1,6 +1,7 @@
 use crate::change::Change;
 use crate::change_set::ChangeSet;
 use crate::error::ChangesError;
+use crate::inserted_text::InsertedText;
 use line_tree::{MAX_LEN, Text, cut_len};
 use std::alloc::Global;
 use std::process::Abort;
@@ -21,7 +22,7 @@ fn span(
     characters: &[char],
     len: u32,
 ) -> Result<ChangeSet, Fail> {
-    let insert = text(alloc, characters)?;
+    let insert = InsertedText::of(text(alloc, characters)?);
     let changes = [Change::Span { from, to, insert }];
     Ok(ChangeSet::of(alloc, &changes, len, MAX_LEN)?)
 }
@@ -93,7 +94,7 @@ fn a_set_over_another_length_is_refused(rt: HostRuntime) -> Result<(), Fail> {
     let reversed = Change::Span {
         from: 2,
         to: 1,
-        insert: Text::empty(rt.alloc())?,
+        insert: InsertedText::of(Text::empty(rt.alloc())?),
     };
     let error = refusal(rt.alloc(), other, reversed, MAX_LEN);
     assert!(rt;

@@ -1,11 +1,12 @@
-ghost use Rattle.std.specs.Prelude.{◌≡◌, ◌<◌, ◌≤◌, ◌+◌, ◌^◌, ◌++◌, length, IfOk};
-ghost use Rattle.change_desc.specs.Sections.{old_size, new_size};
+ghost use Rattle.std.specs.Prelude.{◌≡◌, ◌<◌, ◌≤◌, ◌+◌, ◌^◌, ◌++◌, length, take, drop, IfOk, OnOk};
+ghost use Rattle.change_desc.specs.Sections.{spelled, old_of, new_of, old_size, new_size, apply};
 ghost use Rattle.change_set.specs.Texts.{written, filled, text_total, text_of_section, texts_between, kept_marks, unmarked};
+ghost use Rattle.change_set.specs.Walks.{given_by, turned_at};
 
 use crate::inserted_text::InsertedText;
 use crate::place::Place;
 use change_desc::Section;
-use line_tree::Text;
+use line_tree::{Text, TextBuilder, TextCursor};
 use smallvec::SmallVec;
 use std::alloc::{AllocError, Global};
 
@@ -14,13 +15,29 @@ pub(crate) fn written(alloc: Global, sections: &[Section<InsertedText>]) -> Resu
     requires { length (written sections.now) < 2 ^ 32 }
     ensures { IfOk result (λ text. text.characters ≡ written sections.now) }
 {
-    let mut text = Text::empty(alloc)?;
+    let mut builder = TextBuilder::new(alloc);
     for section in sections {
         if let Section::Replace(_, inserted) = section {
-            text = text.append(inserted.text())?;
+            builder.push_text(inserted.text())?;
         }
     }
-    Ok(text)
+    builder.finish()
+}
+
+/// The text of the next characters.
+pub(crate) fn next_text(
+    alloc: Global,
+    cursor: &mut TextCursor<'_>,
+    len: u32,
+) -> Result<InsertedText, AllocError>
+    requires { len ≤ length cursor.old }
+    ensures text { IfOk result (λ text. text ≡ take len cursor.old) }
+    ensures left { OnOk result (cursor.new ≡ drop len cursor.old) }
+{
+    let mut builder = TextBuilder::new(alloc);
+    cursor.copy_to(len, &mut builder)?;
+    let text = builder.finish()?;
+    Ok(InsertedText::of(text))
 }
 
 /// Sections with texts of the given lengths, cut from a row of texts.
@@ -29,45 +46,42 @@ pub(crate) fn filled(
     lengths: &[Section<u32>],
     text: &Text,
 ) -> Result<SmallVec<Section<InsertedText>, 8>, AllocError>
-    requires total { text_total lengths.now ≡ length text.now.characters }
-    requires fits { text_total lengths.now < 2 ^ 32 }
+    requires { text_total lengths.now ≡ length text.now.characters }
     ensures { IfOk result (λ sections. sections.items ≡ filled lengths.now text.now.characters) }
 {
     let mut sections = SmallVec::new(alloc);
-    let mut at = 0;
+    let mut cursor = TextCursor::new(text);
     for section in lengths {
         match section {
             Section::Keep(count) => sections.push(Section::Keep(*count))?,
             Section::Replace(count, len) => {
-                let part = text.slice(at, at + *len)?;
-                sections.push(Section::Replace(*count, InsertedText::of(part)))?;
-                at += *len;
+                let text = next_text(alloc, &mut cursor, *len)?;
+                sections.push(Section::Replace(*count, text))?;
             }
         }
     }
     Ok(sections)
 }
 
-/// A text with what a section of the second of two sets takes put after it: characters that the first set puts in, where
+/// Puts into a text what a section of the second of two sets takes: the next characters that the first set puts in, where
 /// it keeps them, or its own text.
-fn extended(
-    text: &Text,
+fn put_between(
     section: &Section<InsertedText>,
-    first: &Text,
-    from: u32,
-    to: u32,
-) -> Result<Text, AllocError>
-    requires order { from ≤ to }
-    requires within { to ≤ length first.now.characters }
-    requires fits { length text.now.characters + length (text_of_section from to first.now.characters section.now) < 2 ^ 32 }
-    ensures { IfOk result (λ longer. longer.characters ≡ text.now.characters ++ text_of_section from to first.now.characters section.now) }
+    count: u32,
+    cursor: &mut TextCursor<'_>,
+    builder: &mut TextBuilder,
+) -> Result<(), AllocError>
+    requires within { count ≤ length cursor.old }
+    requires fits { length builder.old + length (text_of_section count cursor.old section.now) < 2 ^ 32 }
+    ensures left { OnOk result (cursor.new ≡ drop count cursor.old) }
+    ensures put { OnOk result (builder.new ≡ builder.old ++ text_of_section count cursor.old section.now) }
 {
     match section {
-        Section::Keep(_) => {
-            let part = first.slice(from, to)?;
-            text.append(&part)
+        Section::Keep(_) => cursor.copy_to(count, builder),
+        Section::Replace(_, inserted) => {
+            cursor.skip(count);
+            builder.push_text(inserted.text())
         }
-        Section::Replace(_, inserted) => text.append(inserted.text()),
     }
 }
 
@@ -80,23 +94,81 @@ pub(crate) fn texts_between(
     second: &[Section<InsertedText>],
 ) -> Result<Text, AllocError>
     requires meet { old_size back.now ≡ old_size second.now }
-    requires whole { unmarked (kept_marks back.now) ≡ length first.now.characters }
-    requires first_fits { length first.now.characters < 2 ^ 32 }
+    requires texts { unmarked (kept_marks back.now) ≡ length first.now.characters }
     requires fits { length (texts_between (kept_marks back.now) first.now.characters second.now) < 2 ^ 32 }
     ensures { IfOk result (λ text. text.characters ≡ texts_between (kept_marks back.now) first.now.characters second.now) }
 {
-    let mut text = Text::empty(alloc)?;
+    let mut builder = TextBuilder::new(alloc);
+    let mut cursor = TextCursor::new(first);
     let mut place = Place {
         index: 0,
         offset: 0,
     };
-    let mut taken = 0;
     for section in second {
-        let (next, kept) = place.pass(back, section.old_len());
-        let to = taken + (section.old_len() - kept);
-        text = extended(&text, section, first, taken, to)?;
-        taken = to;
+        let count = section.old_len();
+        let (next, kept) = place.pass(back, count);
+        put_between(section, count - kept, &mut cursor, &mut builder)?;
         place = next;
     }
-    Ok(text)
+    builder.finish()
+}
+
+/// Puts into a text what a section gives over the rest of a document.
+fn put_applied(
+    section: &Section<InsertedText>,
+    cursor: &mut TextCursor<'_>,
+    builder: &mut TextBuilder,
+) -> Result<(), AllocError>
+    requires within { old_of section.now ≤ length cursor.old }
+    requires fits { length builder.old + new_of spelled section.now < 2 ^ 32 }
+    ensures left { OnOk result (cursor.new ≡ drop (old_of section.now) cursor.old) }
+    ensures put { OnOk result (builder.new ≡ builder.old ++ given_by section.now cursor.old) }
+{
+    match section {
+        Section::Keep(count) => cursor.copy_to(*count, builder),
+        Section::Replace(count, inserted) => {
+            cursor.skip(*count);
+            builder.push_text(inserted.text())
+        }
+    }
+}
+
+/// The new document of sections over an old one.
+pub(crate) fn applied(
+    alloc: Global,
+    sections: &[Section<InsertedText>],
+    document: &Text,
+) -> Result<Text, AllocError>
+    requires meet { old_size sections.now ≡ length document.now.characters }
+    requires fits { new_size spelled sections.now < 2 ^ 32 }
+    ensures { IfOk result (λ text. text.characters ≡ apply sections.now document.now.characters) }
+{
+    let mut builder = TextBuilder::new(alloc);
+    let mut cursor = TextCursor::new(document);
+    for section in sections {
+        put_applied(section, &mut cursor, &mut builder)?;
+    }
+    builder.finish()
+}
+
+/// The section that leads back over the rest of an old document, which begins where the section does.
+pub(crate) fn turned(
+    alloc: Global,
+    section: &Section<InsertedText>,
+    cursor: &mut TextCursor<'_>,
+) -> Result<Section<InsertedText>, AllocError>
+    requires { old_of section.now ≤ length cursor.old }
+    ensures back { IfOk result (λ back. back ≡ turned_at cursor.old section.now) }
+    ensures left { OnOk result (cursor.new ≡ drop (old_of section.now) cursor.old) }
+{
+    match section {
+        Section::Keep(count) => {
+            cursor.skip(*count);
+            Ok(Section::Keep(*count))
+        }
+        Section::Replace(count, text) => {
+            let old = next_text(alloc, cursor, *count)?;
+            Ok(Section::Replace(text.len(), old))
+        }
+    }
 }

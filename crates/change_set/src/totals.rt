@@ -1,14 +1,14 @@
 ghost use Rattle.std.specs.Prelude.{◌≡◌, ◌≢◌, ◌≤◌, ◌<◌, ◌+◌, ◌-◌, ◌^◌, length, IfOk, IfErr};
 ghost use Rattle.change_desc.specs.Sections.{spelled, counted, new_size, old_size};
-ghost use Rattle.change_desc.specs.Algebra.{span, then_also};
+ghost use Rattle.change_desc.specs.Of.{span, then_also};
 ghost use Rattle.change_set.specs.Changes.{as_set};
 ghost use Rattle.change_set.specs.Totals.{IsOver, IsTooLong};
 
 use crate::change::Change;
 use crate::change_set::ChangeSet;
 use crate::error::ChangesError;
+use crate::inserted_text::InsertedText;
 use change_desc::{Desc, Section};
-use line_tree::Text;
 use std::alloc::{AllocError, Global};
 
 /// The lengths of the deletion of a range of a document.
@@ -63,10 +63,10 @@ impl ChangeSet {
     }
 
     /// The length of the document that the changes so far and then the replacement of a range lead to.
-    fn length_with_span(&self, from: u32, to: u32, insert: &Text) -> Result<u64, AllocError>
+    fn length_with_span(&self, from: u32, to: u32, insert: &InsertedText) -> Result<u64, AllocError>
         requires order { from ≤ to }
         requires within { to ≤ old_size self.now }
-        ensures { IfOk result (λ len. len ≡ new_size spelled (then_also spelled self.now (span spelled (old_size self.now) from to insert.now.characters))) }
+        ensures { IfOk result (λ len. len ≡ new_size spelled (then_also spelled self.now (span spelled (old_size self.now) from to insert.now))) }
     {
         let done = self.desc()?;
         let deletion = deletion_lengths(self.allocator(), self.len(), from, to)?;
@@ -79,14 +79,14 @@ impl ChangeSet {
         &self,
         from: u32,
         to: u32,
-        insert: &Text,
+        insert: &InsertedText,
         max: u32,
     ) -> Result<ChangeSet, ChangesError>
         requires order { from ≤ to }
         requires within { to ≤ old_size self.now }
-        ensures set { IfOk result (λ total. total ≡ then_also spelled self.now (span spelled (old_size self.now) from to insert.now.characters)) }
+        ensures set { IfOk result (λ total. total ≡ then_also spelled self.now (span spelled (old_size self.now) from to insert.now)) }
         ensures short { IfOk result (λ total. new_size spelled total ≤ max) }
-        ensures refused { IfErr result (λ error. error ≢ ChangesError.NoMemory → IsTooLong max (then_also spelled self.now (span spelled (old_size self.now) from to insert.now.characters)) error) }
+        ensures refused { IfErr result (λ error. error ≢ ChangesError.NoMemory → IsTooLong max (then_also spelled self.now (span spelled (old_size self.now) from to insert.now)) error) }
     {
         let len = self.length_with_span(from, to, insert)?;
         if len > u64::from(max) {

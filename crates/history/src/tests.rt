@@ -2,7 +2,7 @@ use crate::history::History;
 use crate::isolation::Isolation;
 use crate::restore::Restore;
 use crate::step_input::StepInput;
-use change_set::{Change, ChangeSet};
+use change_set::{Change, ChangeSet, InsertedText};
 use cm_plain::Str;
 use line_tree::{MAX_LEN, Text, cut_len};
 use selection::{Selection, first_outside};
@@ -56,7 +56,7 @@ fn span(
     characters: &[char],
     len: u32,
 ) -> Result<ChangeSet, Fail> {
-    let insert = text(alloc, characters)?;
+    let insert = InsertedText::of(text(alloc, characters)?);
     let changes = [Change::Span { from, to, insert }];
     Ok(ChangeSet::of(alloc, &changes, len, MAX_LEN)?)
 }

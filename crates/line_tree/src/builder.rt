@@ -2,6 +2,7 @@ ghost use Rattle.std.specs.Prelude.{◌≡◌, ◌≢◌, ◌++◌, ◌+◌, ◌
 ghost use Rattle.line_tree.specs.Text.{line_feed};
 ghost use Rattle.line_tree.specs.Joined.{joined, AreLines, HasNoBreak, BeginsWithBreak};
 
+use crate::text::Text;
 use std::alloc::{AllocError, Global};
 use std::marker::Model;
 
@@ -58,15 +59,16 @@ fn line_len(chars: &[char]) -> usize
     chars.len()
 }
 
-/// A text that grows at its end.
+/// Makes a text of characters and texts that are put in one after the other. Contracts see it as the list of the
+/// characters so far.
 #[derive(Drop)]
-pub(crate) struct Builder {
+pub struct TextBuilder {
     done: Vec<LineText>,
     last: Vec<char>,
     len: u32,
 }
 
-impl Model for Builder {
+impl Model for TextBuilder {
     ghost use Rattle.std.specs.Prelude.{◌≡◌, List, ℕ, ◌++◌, ◌∷◌, [], length};
     ghost use Rattle.line_tree.specs.Joined.{joined, AreLines, HasNoBreak};
 
@@ -78,11 +80,12 @@ impl Model for Builder {
         × (b.len ≡ length (joined (b.done.items ++ b.last.items ∷ []))) };
 }
 
-impl Builder {
-    pub(crate) fn new(alloc: Global) -> Builder
+impl TextBuilder {
+    /// A builder of the text without characters.
+    pub fn new(alloc: Global) -> TextBuilder
         ensures { result ≡ [] }
     {
-        Builder {
+        TextBuilder {
             done: Vec::new(alloc),
             last: Vec::new(alloc),
             len: 0,
@@ -118,8 +121,8 @@ impl Builder {
         Ok(())
     }
 
-    /// Adds a character, which ends the line if it is LF.
-    pub(crate) fn push(&mut self, c: char) -> Result<(), AllocError>
+    /// Adds a character, which ends the line if it is LF. `Err`: out of memory.
+    pub fn push(&mut self, c: char) -> Result<(), AllocError>
         requires { length self.old + 1 < 2 ^ 32 }
         ensures { OnOk result (self.new ≡ self.old ++ c ∷ []) }
     {
@@ -130,14 +133,15 @@ impl Builder {
         }
     }
 
-    pub(crate) fn len(&self) -> u32
+    /// How many characters were put in.
+    pub fn len(&self) -> u32
         ensures { result ≡ length self.now }
     {
         self.len
     }
 
-    /// Adds characters, with LF where a line ends.
-    pub(crate) fn push_all(&mut self, chars: &[char]) -> Result<(), AllocError>
+    /// Adds characters, with LF where a line ends. `Err`: out of memory.
+    pub fn push_all(&mut self, chars: &[char]) -> Result<(), AllocError>
         requires { length self.old + length chars.now < 2 ^ 32 }
         ensures { OnOk result (self.new ≡ self.old ++ chars.now) }
     {
@@ -155,10 +159,27 @@ impl Builder {
         }
     }
 
-    pub(crate) fn finish(self) -> Result<(Vec<LineText>, u32), AllocError>
+    /// Adds the characters of a text. `Err`: out of memory.
+    pub fn push_text(&mut self, text: &Text) -> Result<(), AllocError>
+        requires { length self.old + length text.now.characters < 2 ^ 32 }
+        ensures { OnOk result (self.new ≡ self.old ++ text.now.characters) }
+    {
+        let chars = text.chars()?;
+        self.push_all(chars.as_slice())
+    }
+
+    /// The text of the characters that were put in. `Err`: out of memory.
+    pub fn finish(self) -> Result<Text, AllocError>
+        ensures { IfOk result (λ t. t.characters ≡ self) }
+    {
+        let (lines, len) = self.finished_lines()?;
+        Ok(Text::kept(lines, len))
+    }
+
+    fn finished_lines(self) -> Result<(Vec<LineText>, u32), AllocError>
         ensures { IfOk result (λ r. (0 < length r.0.items) × (joined r.0.items ≡ self) × AreLines r.0.items × (r.1 ≡ length self)) }
     {
-        let Builder {
+        let TextBuilder {
             mut done,
             last,
             len,

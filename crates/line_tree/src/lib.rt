@@ -7,9 +7,12 @@
 #![tactic(auto)]
 
 mod builder;
+mod cursor;
 mod line;
 mod text;
 
+pub use builder::TextBuilder;
+pub use cursor::TextCursor;
 pub use line::Line;
 pub use text::{MAX_LEN, Text, cut_len};
 

@@ -1,8 +1,9 @@
 ghost use Rattle.std.specs.Prelude.{◌≡◌, ◌++◌, ◌+◌, ◌-◌, ◌^◌, ◌≤◌, ◌<◌, ◌↔◌, [], length, IfOk, IsTrue};
 ghost use Rattle.line_tree.specs.Text.{cut, slice, replaced};
+ghost use Rattle.line_tree.specs.Joined.{joined, AreLines};
 ghost use Rattle.line_tree.specs.Lines.{lines_of, IsLineOf};
 
-use crate::builder::{Builder, LineText};
+use crate::builder::{LineText, TextBuilder};
 use crate::line::Line;
 use std::alloc::{AllocError, Global};
 use std::marker::Model;
@@ -60,20 +61,23 @@ fn same_lines(left: &[LineText], right: &[LineText]) -> bool
     true
 }
 
-fn finished(builder: Builder) -> Result<Text, AllocError>
-    ensures { IfOk result (λ t. t.characters ≡ builder) }
-{
-    let (lines, len) = builder.finish()?;
-    Ok(Text { lines, len })
-}
-
 impl Text {
+    /// The text that is kept as these lines.
+    pub(crate) fn kept(lines: Vec<LineText>, len: u32) -> Text
+        requires some { 0 < length lines.items }
+        requires lines { AreLines lines.items }
+        requires len { len ≡ length (joined lines.items) }
+        ensures { result.characters ≡ joined lines.items }
+    {
+        Text { lines, len }
+    }
+
     /// The text of some characters, cut into lines at CRLF, CR and LF (Text.of). `Err`: out of memory.
     pub fn of(alloc: Global, characters: &[char]) -> Result<Text, AllocError>
         requires { length (cut characters.now) < 2 ^ 32 }
         ensures { IfOk result (λ t. t.characters ≡ cut characters.now) }
     {
-        let mut builder = Builder::new(alloc);
+        let mut builder = TextBuilder::new(alloc);
         let mut after_return = false;
         for c in characters {
             if *c == '\r' {
@@ -86,14 +90,14 @@ impl Text {
                 after_return = false;
             }
         }
-        finished(builder)
+        builder.finish()
     }
 
     /// The text without characters, which has one line (Text.empty). `Err`: out of memory.
     pub fn empty(alloc: Global) -> Result<Text, AllocError>
         ensures { IfOk result (λ t. t.characters ≡ []) }
     {
-        finished(Builder::new(alloc))
+        TextBuilder::new(alloc).finish()
     }
 
     /// The length in characters (Text.length).
@@ -176,11 +180,11 @@ impl Text {
         ensures { IfOk result (λ t. t.characters ≡ replaced from to inserted.now.characters self.now.characters) }
     {
         let chars = self.chars()?;
-        let mut builder = Builder::new(*self.lines.allocator());
+        let mut builder = TextBuilder::new(*self.lines.allocator());
         builder.push_all(chars.split_at(from as usize).0)?;
         builder.push_all(inserted.chars()?.as_slice())?;
         builder.push_all(chars.split_at(to as usize).1)?;
-        finished(builder)
+        builder.finish()
     }
 
     /// The characters of this text, then those of the other (Text.append). `Err`: out of memory.
@@ -188,10 +192,10 @@ impl Text {
         requires { length self.now.characters + length other.now.characters < 2 ^ 32 }
         ensures { IfOk result (λ t. t.characters ≡ self.now.characters ++ other.now.characters) }
     {
-        let mut builder = Builder::new(*self.lines.allocator());
+        let mut builder = TextBuilder::new(*self.lines.allocator());
         builder.push_all(self.chars()?.as_slice())?;
         builder.push_all(other.chars()?.as_slice())?;
-        finished(builder)
+        builder.finish()
     }
 
     /// The characters from one place to another as a text of their own (Text.slice). `Err`: out of memory.
@@ -202,9 +206,9 @@ impl Text {
     {
         let chars = self.chars()?;
         let rest = chars.split_at(from as usize).1;
-        let mut builder = Builder::new(*self.lines.allocator());
+        let mut builder = TextBuilder::new(*self.lines.allocator());
         builder.push_all(rest.split_at((to - from) as usize).0)?;
-        finished(builder)
+        builder.finish()
     }
 
     /// Whether both have the same characters (Text.eq).

@@ -16,8 +16,8 @@ walk-preserved c =
       goes = rw (c.load.ensures.row_new, c.load-in-walk.ensures.row_old)
           (s.goes (along_new counted (drop c.walk.i c.args.first.now)) (along_old counted (drop c.walk.j c.args.second.now)) r ∙ c.walk.invariant.goes);
       is_normal = s.is_normal;
-      first_part = c.load.ensures.is_part;
-      second_part = c.load-in-walk.ensures.is_part;
+      first_part = c.load.ensures.is_tail;
+      second_part = c.load-in-walk.ensures.is_tail;
       first_within = c.load.ensures.within;
       second_within = c.load-in-walk.ensures.within;
       first_spent = c.load.ensures.spent;

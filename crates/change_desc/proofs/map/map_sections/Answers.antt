@@ -1,8 +1,10 @@
 use Rattle.std.proofs.Common.{◌+◌, ◌≤◌, drop, [], ◌∷◌, ◌++◌, arith, ◌∙◌}
 use Rattle.change_desc.specs.Sections.{counted, new_size}
 use Rattle.change_desc.specs.Columns.{along_old}
-use Rattle.change_desc.specs.Algebra.{mapped, map_over}
-use Rattle.change_desc.specs.Weaving.{Level, row_old, new_done, next_len}
+use Rattle.change_desc.specs.Map.{mapped, map_over}
+use Rattle.change_desc.specs.Tails.{row_old}
+use Rattle.change_desc.specs.Weaving.{new_done}
+use Rattle.change_desc.specs.MapSteps.{Level, next_len}
 use Rattle.change_desc.specs.declared.section.Section.TheVariants.{Replace}
 use Rattle.change_desc.proofs.Weaves.{flushed-is_normal, flushed-old, flushed-new}
 use Rattle.change_desc.proofs.MapLengths.{level_of, next_fits, done_fits}
@@ -26,8 +28,8 @@ walk-preserved c =
       goes = rw (c.load.ensures.row_old, c.load-in-walk.ensures.row_old)
           (s.goes (along_old counted (drop c.walk.i c.args.first.now)) (along_old counted (drop c.walk.j c.args.second.now)) r ∙ c.walk.invariant.goes);
       is_normal = s.is_normal;
-      first_part = c.load.ensures.is_part;
-      second_part = c.load-in-walk.ensures.is_part;
+      first_part = c.load.ensures.is_tail;
+      second_part = c.load-in-walk.ensures.is_tail;
       first_within = c.load.ensures.within;
       second_within = c.load-in-walk.ensures.within;
       first_spent = c.load.ensures.spent;

@@ -1,7 +1,7 @@
 use Rattle.std.proofs.Common.{drop, arith}
 use Rattle.change_desc.specs.Sections.{counted}
 use Rattle.change_desc.specs.Columns.{along_old}
-use Rattle.change_desc.specs.Weaving.{Level}
+use Rattle.change_desc.specs.MapSteps.{Level}
 use Rattle.change_desc.proofs.MapLengths.{level_of}
 use Rattle.change_desc.proofs.Measures.{merged_len-sets}
 use Rattle.change_desc.proofs.map.mapped_len.Goals as goal
@@ -14,8 +14,8 @@ walk-preserved c =
     record {
       goes = rw (c.load.ensures.row_old, c.load-in-walk.ensures.row_old)
           (omega (arith, s.goes (along_old counted (drop c.walk.i c.args.first.now)) (along_old counted (drop c.walk.j c.args.second.now)) r, c.walk.invariant.goes));
-      first_part = c.load.ensures.is_part;
-      second_part = c.load-in-walk.ensures.is_part;
+      first_part = c.load.ensures.is_tail;
+      second_part = c.load-in-walk.ensures.is_tail;
       first_within = c.load.ensures.within;
       second_within = c.load-in-walk.ensures.within;
       first_spent = c.load.ensures.spent;

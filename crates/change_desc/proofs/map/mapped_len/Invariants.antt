@@ -1,17 +1,18 @@
 use Rattle.std.proofs.Common.{◌≡◌, ◌≤◌, ◌+◌, ◌-◌, ◌*◌, length, drop}
-use Rattle.change_desc.specs.declared.part.Part.TheVariants.{Kept}
+use Rattle.change_desc.specs.declared.tail.Tail.TheVariants.{Kept}
 use Rattle.change_desc.specs.Sections.{counted, old_size}
 use Rattle.change_desc.specs.Columns.{along_old}
-use Rattle.change_desc.specs.Weaving.{merged_len, row_old, IsPart, left_old, weight}
+use Rattle.change_desc.specs.Tails.{row_old, IsTail, left_old, weight}
+use Rattle.change_desc.specs.MapSteps.{merged_len}
 use Rattle.change_desc.proofs.map.mapped_len.Given as goal
 
--- what was counted and what is left come to the whole
+-- what was counted and what is left come to the length
 abbrev pub invariant-walk : goal.invariant-walk
 invariant-walk l =
     record {
       goes : l.len + merged_len (row_old l.a (along_old counted (drop l.i l.first))) (row_old l.b (along_old counted (drop l.j l.second))) ≡ merged_len (along_old counted l.first) (along_old counted l.second);
-      first_part : IsPart l.a;
-      second_part : IsPart l.b;
+      first_part : IsTail l.a;
+      second_part : IsTail l.b;
       first_within : l.i ≤ length l.first;
       second_within : l.j ≤ length l.second;
       first_spent : l.a ≡ Kept 0 → l.i ≡ length l.first;

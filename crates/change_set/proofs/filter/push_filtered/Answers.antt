@@ -3,7 +3,7 @@ use Rattle.change_desc.specs.declared.section.Section.{Section}
 use Rattle.change_desc.specs.declared.section.Section.TheVariants.{Keep, Replace}
 use Rattle.change_desc.specs.Sections.{spelled, normal, old_of}
 use Rattle.change_desc.specs.Columns.{along_old}
-use Rattle.change_desc.specs.Algebra.{is_inside}
+use Rattle.change_desc.specs.Filter.{is_inside}
 use Rattle.change_set.specs.Protection.{takes, parted, whole_part}
 use Rattle.change_set.proofs.Filtering.{Fits, filter-push, filter-fits}
 use Rattle.change_set.proofs.FilterWalk.{keep_on, insert_on, filtered-normal}

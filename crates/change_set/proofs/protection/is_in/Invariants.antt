@@ -1,5 +1,5 @@
 use Rattle.std.proofs.Common.{◌≡◌, drop}
-use Rattle.change_desc.specs.Algebra.{is_in}
+use Rattle.change_desc.specs.Filter.{is_in}
 use Rattle.change_set.proofs.protection.is_in.Given as goal
 
 -- the ranges that are left decide

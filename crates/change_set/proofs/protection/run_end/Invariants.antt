@@ -1,5 +1,5 @@
 use Rattle.std.proofs.Common.{◌≡◌, ◌-◌}
-use Rattle.change_desc.specs.Algebra.{is_in}
+use Rattle.change_desc.specs.Filter.{is_in}
 use Rattle.change_set.specs.Protection.{IsEdge}
 use Rattle.change_set.proofs.protection.run_end.Given as goal
 

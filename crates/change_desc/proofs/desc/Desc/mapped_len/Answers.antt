@@ -1,7 +1,7 @@
 use Rattle.std.proofs.Common.{sym, ap, ◌∙◌}
 use Rattle.change_desc.specs.Sections.{counted}
 use Rattle.change_desc.specs.Columns.{along_old}
-use Rattle.change_desc.specs.Weaving.{merged_len}
+use Rattle.change_desc.specs.MapSteps.{merged_len}
 use Rattle.change_desc.proofs.Measures.{new_size-map_over}
 use Rattle.change_desc.proofs.desc.Desc.mapped_len.Goals as goal
 

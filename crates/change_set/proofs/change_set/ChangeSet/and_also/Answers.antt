@@ -1,6 +1,6 @@
 use Rattle.std.proofs.Common.{◌≡◌, ◌<◌, ◌^◌, ℕ, ap, sym, subst, ◌∙◌}
 use Rattle.change_desc.specs.Sections.{spelled, old_size}
-use Rattle.change_desc.specs.Algebra.{compose}
+use Rattle.change_desc.specs.Compose.{compose}
 use Rattle.change_desc.proofs.Merges.{old_size-lengths}
 use Rattle.change_set.proofs.RunningTotals.{also-moved, also-meets, also-is}
 use Rattle.change_set.proofs.change_set.ChangeSet.and_also.Goals as goal

@@ -1,7 +1,10 @@
 use Rattle.std.proofs.Common.{◌≡◌, ◌<◌, ◌^◌, ℕ, List, length, refl, ap, sym, subst, ◌∙◌, arith}
 use Rattle.change_desc.specs.declared.section.Section.{Section}
-use Rattle.change_desc.specs.Sections.{spelled, counted, lengths, old_size, new_size, IsSet}
-use Rattle.change_desc.specs.Algebra.{compose, map_over}
+use Rattle.change_desc.proofs.Applies.{apply-compose}
+use Rattle.change_desc.proofs.Lengths.{spelled_sizes, compose-lengths}
+use Rattle.change_desc.specs.Sections.{apply, spelled, counted, lengths, old_size, new_size, IsSet}
+use Rattle.change_desc.specs.Compose.{compose}
+use Rattle.change_desc.specs.Map.{map_over}
 use Rattle.change_set.proofs.Sizes.{old_size-compose, new_size-compose}
 use Rattle.change_set.specs.Texts.{written, text_total}
 use Rattle.change_set.proofs.Written.{written-map_over}
@@ -16,9 +19,7 @@ filled-requires c =
     let s : List (Section (List ℕ)) = compose spelled c.args.self.now c.args.next.now in
     let e : c.sections.result.now ≡ lengths spelled s = c.sections.ensures ∙ c.in_ok-lengths.ensures in
     let f : c.in_ok-text.text.characters ≡ written s = c.in_ok-text.ensures in
-    let i : IsSet counted (lengths spelled s) = subst (IsSet counted) (c.lengths.view_is ∙ c.in_ok-lengths.ensures) c.lengths.invariant in
-    let t : text_total c.sections.result.now ≡ length c.in_ok-text.text.characters = filled-total s c.sections.result.now c.in_ok-text.text.characters e f in
-    record { total = t; fits = subst (λ (n : ℕ). n < 2 ^ 32) (sym (t ∙ ap length f)) (total-fits s i) }
+    filled-total s c.sections.result.now c.in_ok-text.text.characters e f
 
 pub invariant_of-result : goal.invariant_of-result
 invariant_of-result c =
@@ -38,4 +39,6 @@ returns c =
       both = w;
       starts = ap old_size w ∙ old_size-compose c.args.self.now c.args.next.now c.requires;
       ends = ap (new_size spelled) w ∙ new_size-compose c.args.self.now c.args.next.now c.requires;
+      in_turn = λ doc l. ap (λ r. apply r doc) w ∙ apply-compose c.args.self.now c.args.next.now doc l c.requires;
+      described = ap (lengths spelled) w ∙ compose-lengths spelled spelled_sizes c.args.self.now c.args.next.now;
     }

@@ -1,7 +1,7 @@
 use Rattle.std.proofs.Common.{◌≡◌, ◌<◌, ◌^◌, ℕ, List, IfOk, length, refl, ap, sym, subst, ◌∙◌, arith}
 use Rattle.change_desc.specs.declared.section.Section.{Section}
 use Rattle.change_desc.specs.Sections.{spelled, lengths, old_size, new_size, IsSet}
-use Rattle.change_desc.specs.Algebra.{compose}
+use Rattle.change_desc.specs.Compose.{compose}
 use Rattle.change_set.specs.Texts.{written, texts_between, kept_marks}
 use Rattle.change_set.proofs.Composed.{set-fits, back-unmarked, back-old, back-texts}
 use Rattle.change_set.proofs.Sizes.{composed-fits}
@@ -21,8 +21,7 @@ texts_between-requires c =
     ap (texts_between (kept_marks d) w) n ∙ back-texts a b d (lengths spelled a) w refl e c.in_ok-own.ensures c.requires in
     record {
       meet = back-old a d (lengths spelled a) refl e ∙ (c.requires ∙ ap old_size (sym n));
-      whole = back-unmarked a d (lengths spelled a) refl e ∙ ap length (sym c.in_ok-own.ensures);
-      first_fits = subst (λ (r : List ℕ). length r < 2 ^ 32) (sym c.in_ok-own.ensures) (set-fits a i);
+      texts = back-unmarked a d (lengths spelled a) refl e ∙ ap length (sym c.in_ok-own.ensures);
       fits = subst (λ (r : List ℕ). length r < 2 ^ 32) (sym t) (composed-fits a b j c.requires);
     }
 

@@ -1,11 +1,11 @@
-use Rattle.std.proofs.Common.{◌≡◌, ◌+◌, ◌++◌, drop, length}
+use Rattle.std.proofs.Common.{◌≡◌, ◌++◌, drop, length}
 use Rattle.change_desc.specs.Sections.{invert, old_size}
 use Rattle.change_set.proofs.change_set.ChangeSet.invert.Given as goal
 
--- what is turned round, and what is left, are the whole
+-- what is turned round, and what is left, are all
 abbrev pub invariant-loop-section : goal.invariant-loop-section
 invariant-loop-section l =
     record {
-      inside : l.at + old_size (drop l.section-index l.section-items) ≡ length l.document.characters;
-      gives : l.sections.items ++ invert (drop l.section-index l.section-items) (drop l.at l.document.characters) ≡ invert l.section-items l.document.characters;
+      inside : old_size (drop l.section-index l.section-items) ≡ length l.cursor;
+      gives : l.sections.items ++ invert (drop l.section-index l.section-items) l.cursor ≡ invert l.section-items l.document.characters;
     }

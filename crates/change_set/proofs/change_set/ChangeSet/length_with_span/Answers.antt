@@ -1,7 +1,7 @@
 use Rattle.std.proofs.Common.{◌≡◌, ◌≤◌, ◌<◌, ◌^◌, ◌+◌, ℕ, List, false, length, ap, sym, subst, ◌∙◌, arith}
 use Rattle.change_desc.specs.declared.section.Section.{Section}
 use Rattle.change_desc.specs.Sections.{spelled, counted, old_size, new_size}
-use Rattle.change_desc.specs.Algebra.{span}
+use Rattle.change_desc.specs.Of.{span}
 use Rattle.change_desc.proofs.Merges.{old_size-lengths}
 use Rattle.change_set.proofs.RunningTotals.{span-old, span-size, moved-bound}
 use Rattle.change_set.proofs.change_set.ChangeSet.length_with_span.Goals as goal
@@ -20,5 +20,5 @@ overflow_add-result c =
 
 pub returns : goal.returns
 returns c =
-    span-size c.args.self.now c.args.from c.args.to c.args.insert.now.characters c.in_ok-done.done c.in_ok-deletion.deletion c.from.result c.mapped_len.result c.requires.order c.requires.within
+    span-size c.args.self.now c.args.from c.args.to c.args.insert.now c.in_ok-done.done c.in_ok-deletion.deletion c.from.result c.mapped_len.result c.requires.order c.requires.within
     c.in_ok-done.ensures (c.in_ok-deletion.ensures ∙ ap (λ (n : ℕ). span counted n c.args.from c.args.to 0) c.len.ensures) (c.from.ensures ∙ c.len-2.ensures) (c.mapped_len.ensures false)
