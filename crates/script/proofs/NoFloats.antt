@@ -10,7 +10,7 @@ use Rattle.selection.specs.declared.range.Range.{Range}
 use Rattle.script.specs.declared.mapped.MappedPlace.{MappedPlace}
 use Rattle.script.specs.declared.mapped.MappedPlace.TheVariants.{NotAsked, Deleted, At}
 use Rattle.script.specs.declared.refusal.Refusal.{Refusal}
-use Rattle.script.specs.declared.refusal.Refusal.TheVariants.{LineTooLong, NotUtf8, NotJson, NotCommand, BadValue, NoSession, BadRange, LengthMismatch, TooLong, NoRanges, BadMain, SelectionOutside, UnknownEffect}
+use Rattle.script.specs.declared.refusal.Refusal.TheVariants.{LineTooLong, NotUtf8, NotJson, NotCommand, BadValue, NoSession, BadRange, LengthMismatch, TooLong, NoRanges, BadMain, SelectionOutside, UnknownEffect, UnknownCompartment}
 use Rattle.script.specs.declared.reply.Answer.{Answer}
 use Rattle.script.specs.declared.reply.Answer.TheVariants.{Length, Text, Selection, Mapped}
 use Rattle.script.specs.declared.reply.Reply.{Reply}
@@ -46,6 +46,7 @@ refusal_has_none NoRanges = refl
 refusal_has_none (BadMain main count) = refl
 refusal_has_none (SelectionOutside at len) = refl
 refusal_has_none (UnknownEffect id) = refl
+refusal_has_none (UnknownCompartment id) = refl
 
 answer_has_none : (answer : Answer) → has_float (answer_data answer) ≡ false
 answer_has_none (Length len) = refl

@@ -7,7 +7,7 @@ use Rattle.selection.specs.declared.error.SelectionError.TheVariants as selectio
 use Rattle.transaction.specs.declared.error.TransactionError.{TransactionError}
 use Rattle.transaction.specs.declared.error.TransactionError.TheVariants as specs
 use Rattle.script.specs.declared.refusal.Refusal.{Refusal}
-use Rattle.script.specs.declared.refusal.Refusal.TheVariants.{BadRange, LengthMismatch, TooLong, NoRanges, BadMain, SelectionOutside, UnknownEffect}
+use Rattle.script.specs.declared.refusal.Refusal.TheVariants.{BadRange, LengthMismatch, TooLong, NoRanges, BadMain, SelectionOutside, UnknownEffect, UnknownCompartment}
 use Rattle.script.specs.declared.refusal.LineError.{LineError}
 use Rattle.script.specs.declared.refusal.LineError.TheVariants.{NoMemory, Refused}
 
@@ -33,6 +33,7 @@ specs_refusal specs.NoRanges = Some NoRanges
 specs_refusal (specs.BadMain main count) = Some (BadMain main count)
 specs_refusal (specs.SelectionOutside place len) = Some (SelectionOutside place len)
 specs_refusal (specs.UnknownEffect id) = Some (UnknownEffect id)
+specs_refusal (specs.UnknownCompartment id) = Some (UnknownCompartment id)
 specs_refusal specs.NoMemory = None
 
 -- why a line with this refusal is not carried out; without one it is out of memory

@@ -11,7 +11,7 @@ use Rattle.script.specs.declared.mapped.MappedPlace.{MappedPlace}
 use Rattle.script.specs.declared.mapped.MappedPlace.TheVariants.{NotAsked, Deleted, At}
 use Rattle.script.specs.declared.mapped.MappedParts.{MappedParts}
 use Rattle.script.specs.declared.refusal.Refusal.{Refusal}
-use Rattle.script.specs.declared.refusal.Refusal.TheVariants.{LineTooLong, NotUtf8, NotJson, NotCommand, BadValue, NoSession, BadRange, LengthMismatch, TooLong, NoRanges, BadMain, SelectionOutside, UnknownEffect}
+use Rattle.script.specs.declared.refusal.Refusal.TheVariants.{LineTooLong, NotUtf8, NotJson, NotCommand, BadValue, NoSession, BadRange, LengthMismatch, TooLong, NoRanges, BadMain, SelectionOutside, UnknownEffect, UnknownCompartment}
 use Rattle.script.specs.declared.reply.Answer.{Answer}
 use Rattle.script.specs.declared.reply.Answer.TheVariants.{Length, Text, Selection, Mapped}
 use Rattle.script.specs.declared.reply.Reply.{Reply}
@@ -45,6 +45,7 @@ refusal_data NoRanges = coded (codes "NoRanges") no_members
 refusal_data (BadMain main count) = coded (codes "BadMain") (member (codes "count") (whole count) (member (codes "main") (whole main) no_members))
 refusal_data (SelectionOutside at len) = coded (codes "SelectionOutside") (member (codes "len") (whole len) (member (codes "pos") (whole at) no_members))
 refusal_data (UnknownEffect id) = coded (codes "UnknownEffect") (member (codes "id") (whole id) no_members)
+refusal_data (UnknownCompartment id) = coded (codes "UnknownCompartment") (member (codes "id") (whole id) no_members)
 
 -- a section of a set of changes: n where n characters are kept, [n, text] where n characters give way to a text
 abbrev pub section_data : Section (List ℕ) → Data

@@ -64,6 +64,10 @@ pub enum Refusal {
     UnknownEffect {
         id: u32,
     },
+    /// No compartment has this id. It doesn't come: a line has no effects.
+    UnknownCompartment {
+        id: u32,
+    },
 }
 
 /// Why a line is not carried out.
@@ -171,6 +175,9 @@ impl From<TransactionError> for LineError {
             }
             TransactionError::UnknownEffect { id } => {
                 LineError::Refused(Refusal::UnknownEffect { id })
+            }
+            TransactionError::UnknownCompartment { id } => {
+                LineError::Refused(Refusal::UnknownCompartment { id })
             }
             TransactionError::NoMemory => LineError::NoMemory,
         }

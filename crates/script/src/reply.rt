@@ -1,8 +1,8 @@
 ghost use Rattle.std.specs.Prelude.{◌≡◌, IfOk, map, codes, string_bytes, encode_utf8_all};
 ghost use Rattle.serde_json.specs.Data.{string, member, no_members};
 ghost use Rattle.serde_json.specs.View.{view};
-ghost use Rattle.script.specs.declared.refusal.Refusal.TheVariants.{BadRange, LengthMismatch, TooLong, BadMain, SelectionOutside, UnknownEffect};
-ghost use Rattle.script.specs.Replies.{coded, refusal_data, section_data, range_data, selection_data, mapped_data, answer_data, reply_data, reply_text};
+ghost use Rattle.script.specs.declared.refusal.Refusal.TheVariants.{BadRange, LengthMismatch, TooLong, BadMain, SelectionOutside};
+ghost use Rattle.script.specs.Replies.{coded, whole, refusal_data, section_data, range_data, selection_data, mapped_data, answer_data, reply_data, reply_text};
 
 use crate::mapped::{Mapped, MappedParts, MappedPlace};
 use crate::refusal::Refusal;
@@ -85,10 +85,10 @@ fn outside_value(alloc: Global, pos: u32, len: u32) -> Result<Value, AllocError>
     json!(in alloc; {"code": "SelectionOutside", "len": len, "pos": pos})
 }
 
-fn unknown_effect_value(alloc: Global, id: u32) -> Result<Value, AllocError>
-    ensures { IfOk result (λ v. view v ≡ refusal_data (UnknownEffect id)) }
+fn unknown_value(alloc: Global, code: &str, id: u32) -> Result<Value, AllocError>
+    ensures { IfOk result (λ v. view v ≡ coded code.now (member (codes "id") (whole id) no_members)) }
 {
-    json!(in alloc; {"code": "UnknownEffect", "id": id})
+    json!(in alloc; {"code": code, "id": id})
 }
 
 fn refusal_value(alloc: Global, refusal: &Refusal) -> Result<Value, AllocError>
@@ -112,16 +112,15 @@ fn refusal_value(alloc: Global, refusal: &Refusal) -> Result<Value, AllocError>
         Refusal::NoRanges => code_value(alloc, "NoRanges"),
         Refusal::BadMain { main, count } => bad_main_value(alloc, *main, *count),
         Refusal::SelectionOutside { pos, len } => outside_value(alloc, *pos, *len),
-        Refusal::UnknownEffect { id } => unknown_effect_value(alloc, *id),
+        Refusal::UnknownEffect { id } => unknown_value(alloc, "UnknownEffect", *id),
+        Refusal::UnknownCompartment { id } => unknown_value(alloc, "UnknownCompartment", *id),
     }
 }
 
-fn text_value(alloc: Global, text: &InsertedText) -> Result<Value, AllocError>
+fn text_value(text: &InsertedText) -> Result<Value, AllocError>
     ensures { IfOk result (λ v. view v ≡ string (encode_utf8_all text.now)) }
 {
-    let characters = text.text().chars()?;
-    let text = Str::of(alloc, characters.as_slice())?.text()?;
-    Ok(Value::String(text))
+    Ok(Value::String(text.text().text()?))
 }
 
 fn section_value(alloc: Global, section: &Section<InsertedText>) -> Result<Value, AllocError>
@@ -130,7 +129,7 @@ fn section_value(alloc: Global, section: &Section<InsertedText>) -> Result<Value
     match section {
         Section::Keep(len) => json!(in alloc; *len),
         Section::Replace(len, text) => {
-            let text = text_value(alloc, text)?;
+            let text = text_value(text)?;
             json!(in alloc; [*len, text])
         }
     }
@@ -176,7 +175,7 @@ fn mapped_value(alloc: Global, mapped: &MappedParts) -> Result<Value, AllocError
     ensures { IfOk result (λ v. view v ≡ mapped_data mapped.now) }
 {
     let sections = Value::Array(section_values(alloc, mapped.set.sections())?);
-    let text = text_value(alloc, &mapped.text)?;
+    let text = text_value(&mapped.text)?;
     match mapped.place {
         MappedPlace::NotAsked => json!(in alloc; {"sections": sections, "text": text}),
         MappedPlace::Deleted => {
@@ -193,7 +192,7 @@ fn answer_value(alloc: Global, answer: &Answer) -> Result<Value, AllocError>
 {
     match answer {
         Answer::Length(len) => json!(in alloc; {"length": *len}),
-        Answer::Text(text) => text_value(alloc, text),
+        Answer::Text(text) => text_value(text),
         Answer::Selection(selection) => selection_value(alloc, selection),
         Answer::Mapped(mapped) => mapped_value(alloc, mapped.parts()),
     }

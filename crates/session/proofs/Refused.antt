@@ -14,11 +14,12 @@ use Rattle.transaction.specs.declared.spec.SelectionSpec.{SelectionSpec}
 use Rattle.transaction.specs.declared.spec.Spec.{Spec}
 use Rattle.transaction.specs.Merging.{merged}
 use Rattle.transaction.specs.Refusals as transactions
-use Rattle.transaction.specs.Specs.{DraftView}
+use Rattle.transaction.specs.declared.draft.Draft.{Draft}
+use Rattle.transaction.specs.declared.effect_kinds.EffectKinds.{EffectKinds}
 use Rattle.script.specs.Reading.{Fails}
 use Rattle.script.specs.Refused.{selection_refusal, specs_refusal, line_error, unless}
 use Rattle.session.specs.Start.{created}
-use Rattle.session.specs.Update.{drafted, no_maps}
+use Rattle.session.specs.Update.{drafted, no_kinds, no_maps}
 
 -- ranges that are refused with an error
 pub selection_fails : (given : SelectionSpec) (ranges_now : List Range) (error : SelectionError) → ranges_now ≡ given.ranges → (error ≢ ranges.NoMemory → selections.selection_refusal ranges_now given.main ≡ Some error)
@@ -39,15 +40,15 @@ selection_made given ranges_now s same made none =
     ∙ ap Ok (sym (made ∙ ap (λ rs. normal_form rs given.main) same))
 
 -- a refusal with a name is the draft's
-named : (specs : List (Spec Plain)) (len : ℕ) (error : TransactionError) → transactions.specs_refusal len max_len 0 None specs ≡ Some error → drafted specs len ≡ unless (specs_refusal error) (merged [] no_maps len specs)
-named specs len error refused = ap (λ r. unless (option_and_then specs_refusal r) (merged [] no_maps len specs)) refused
+named : (specs : List (Spec Plain)) (len : ℕ) (error : TransactionError) → transactions.specs_refusal len max_len no_kinds None specs ≡ Some error → drafted specs len ≡ unless (specs_refusal error) (merged no_kinds no_maps len specs)
+named specs len error refused = ap (λ r. unless (option_and_then specs_refusal r) (merged no_kinds no_maps len specs)) refused
 
 -- specs that are refused with an error, where no kind of effect is declared
-pub specs_fail : (specs specs_now : List (Spec Plain)) (kinds : List (Option ℕ)) (len : ℕ) (error : TransactionError) → specs_now ≡ specs → kinds ≡ []
-    → (error ≢ errors.NoMemory → transactions.specs_refusal len max_len (length kinds) None specs_now ≡ Some error) → Fails (line_error (specs_refusal error)) (drafted specs len)
+pub specs_fail : (specs specs_now : List (Spec Plain)) (kinds : EffectKinds) (len : ℕ) (error : TransactionError) → specs_now ≡ specs → kinds ≡ no_kinds
+    → (error ≢ errors.NoMemory → transactions.specs_refusal len max_len kinds None specs_now ≡ Some error) → Fails (line_error (specs_refusal error)) (drafted specs len)
 specs_fail specs specs_now kinds len error same none refused =
-    at error (λ some. sym (ap (λ xs. transactions.specs_refusal len max_len 0 None xs) same) ∙ sym (ap (λ (ks : List (Option ℕ)). transactions.specs_refusal len max_len (length ks) None specs_now) none) ∙ refused some) where
-      at : (e : TransactionError) → (e ≢ errors.NoMemory → transactions.specs_refusal len max_len 0 None specs ≡ Some e) → Fails (line_error (specs_refusal e)) (drafted specs len)
+    at error (λ some. sym (ap (λ xs. transactions.specs_refusal len max_len no_kinds None xs) same) ∙ sym (ap (λ ks. transactions.specs_refusal len max_len ks None specs_now) none) ∙ refused some) where
+      at : (e : TransactionError) → (e ≢ errors.NoMemory → transactions.specs_refusal len max_len no_kinds None specs ≡ Some e) → Fails (line_error (specs_refusal e)) (drafted specs len)
       at (errors.BadRange index from to n) is = named specs len _ (is (λ f. absurd (let g : ⊥ = cc f in g)))
       at (errors.LengthMismatch want have) is = named specs len _ (is (λ f. absurd (let g : ⊥ = cc f in g)))
       at (errors.TooLong n most) is = named specs len _ (is (λ f. absurd (let g : ⊥ = cc f in g)))
@@ -55,12 +56,13 @@ specs_fail specs specs_now kinds len error same none refused =
       at (errors.BadMain main count) is = named specs len _ (is (λ f. absurd (let g : ⊥ = cc f in g)))
       at (errors.SelectionOutside place n) is = named specs len _ (is (λ f. absurd (let g : ⊥ = cc f in g)))
       at (errors.UnknownEffect id) is = named specs len _ (is (λ f. absurd (let g : ⊥ = cc f in g)))
+  at (errors.UnknownCompartment id) is = named specs len _ (is (λ f. absurd (let g : ⊥ = cc f in g)))
       at errors.NoMemory is = tt
 
 -- specs that are merged
-pub draft_made : (specs specs_now : List (Spec Plain)) (kinds : List (Option ℕ)) (len : ℕ) (d : DraftView Plain) → specs_now ≡ specs → kinds ≡ [] → d ≡ merged kinds no_maps len specs_now
-    → transactions.specs_refusal len max_len (length kinds) None specs_now ≡ None → drafted specs len ≡ Ok d
+pub draft_made : (specs specs_now : List (Spec Plain)) (kinds : EffectKinds) (len : ℕ) (d : Draft Plain) → specs_now ≡ specs → kinds ≡ no_kinds → d ≡ merged kinds no_maps len specs_now
+    → transactions.specs_refusal len max_len kinds None specs_now ≡ None → drafted specs len ≡ Ok d
 draft_made specs specs_now kinds len d same no_kinds made none =
-    ap (λ r. unless (option_and_then specs_refusal r) (merged [] no_maps len specs))
-    (sym (ap (λ xs. transactions.specs_refusal len max_len 0 None xs) same) ∙ sym (ap (λ (ks : List (Option ℕ)). transactions.specs_refusal len max_len (length ks) None specs_now) no_kinds) ∙ none)
-    ∙ ap Ok (sym (made ∙ ap (λ (ks : List (Option ℕ)). merged ks no_maps len specs_now) no_kinds ∙ ap (λ xs. merged [] no_maps len xs) same))
+    ap (λ r. unless (option_and_then specs_refusal r) (merged no_kinds no_maps len specs))
+    (sym (ap (λ xs. transactions.specs_refusal len max_len no_kinds None xs) same) ∙ sym (ap (λ ks. transactions.specs_refusal len max_len ks None specs_now) no_kinds) ∙ none)
+    ∙ ap Ok (sym (made ∙ ap (λ ks. merged ks no_maps len specs_now) no_kinds ∙ ap (λ xs. merged no_kinds no_maps len xs) same))

@@ -1,10 +1,10 @@
 -- The command `start`: a new state (Reference Manual: EditorState.create).
 use Rattle.std.specs.Prelude.{ℕ, List, length, Option, Some, None, option_map, option_and_then, Result, nat_lt, if◌then◌else◌}
+use Rattle.std.specs.Option.{option_or}
 use Rattle.line_tree.specs.Text.{cut, max_len}
 use Rattle.selection.specs.Selections.{SelectionView, first_outside, normal_form, single_of}
 use Rattle.selection.specs.Selections as selections
 use Rattle.transaction.specs.declared.spec.SelectionSpec.{SelectionSpec}
-use Rattle.transaction.specs.Merging.{or_before}
 use Rattle.script.specs.declared.start_request.StartRequest.{StartRequest}
 use Rattle.script.specs.declared.refusal.Refusal.{Refusal}
 use Rattle.script.specs.declared.refusal.Refusal.TheVariants.{TooLong, SelectionOutside}
@@ -20,7 +20,7 @@ created given = unless (option_and_then selection_refusal (selections.selection_
 -- Why a document and a selection make no state: the document is too long, or a range of the selection ends past it.
 abbrev pub document_refusal : List ℕ → SelectionView → Option Refusal
 document_refusal text s =
-    or_before (if nat_lt max_len (length text) then Some (TooLong (length text) max_len) else None)
+    option_or (if nat_lt max_len (length text) then Some (TooLong (length text) max_len) else None)
     (option_map (λ place. SelectionOutside place (length text)) (first_outside (length text) s.ranges))
 
 abbrev pub started_with : List ℕ → SelectionSpec → Result Outcome Refusal

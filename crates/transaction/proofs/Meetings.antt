@@ -5,7 +5,7 @@ use Rattle.change_desc.specs.declared.section.Section.{Section}
 use Rattle.change_desc.specs.Sections.{spelled, counted, lengths, new_size, old_size}
 use Rattle.change_desc.specs.Columns.{Row, last, next, Fate, stays, leaves, follows, along_old}
 use Rattle.change_desc.specs.Algebra.{compose, map_over, then_also}
-use Rattle.change_desc.specs.Weaving.{merged_len}
+use Rattle.change_desc.specs.MapSteps.{merged_len}
 use Rattle.change_desc.proofs.MapLengths.{column_new, ends_new}
 use Rattle.change_desc.proofs.Measures.{new_size-map_over}
 use Rattle.change_desc.proofs.Merges.{old_size-lengths, new_size-lengths, old_size-map_over}
