@@ -18,8 +18,6 @@ mod ranges;
 mod section;
 mod sections;
 mod tail;
-#[cfg(test)]
-mod tests;
 mod touch;
 mod weave;
 

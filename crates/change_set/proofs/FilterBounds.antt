@@ -7,9 +7,9 @@ use Rattle.change_desc.specs.Pieces.{Piece, single, stretch, closed, gather}
 use Rattle.change_desc.specs.Filter.{taken_char, taken}
 use Rattle.change_desc.proofs.Normal.{spelled_laws}
 use Rattle.change_desc.proofs.Weaves.{new_size-normal}
-use Rattle.change_set.specs.declared.side.Side.{Side}
+use Rattle.change_set.specs.declared.half.Half.{Half}
 use Rattle.change_set.specs.Texts.{written}
-use Rattle.change_set.specs.Protection.{takes_char, takes_place, whole_part}
+use Rattle.change_set.specs.Protection.{takes_char, takes_place, half_from, taking}
 use Rattle.change_set.proofs.Composed.{written-le}
 use Rattle.change_set.proofs.Filtering.{Chars, Along}
 
@@ -77,7 +77,7 @@ new_along (Replace zero t ∷ s) = omega (arith, new_prefix t (along_old spelled
 new_along (Replace (suc n) t ∷ s) = omega (arith, new_follows n (along_old spelled s), new_along s, length-append t (written s))
 
 -- each part leads to a text that is no longer than the old and the new one together
-pub part-new : (side : Side) (rs : List (ℕ × ℕ)) (len : ℕ) (s : Sections) → new_size spelled (whole_part side rs len [] 0 s) ≤ old_size s + new_size spelled s
-part-new side rs len s =
-    let ps : List (Piece Chars) = taken spelled (takes_char side rs len) (takes_place side rs len) 0 (along_old spelled s) in
-    omega (arith, new_size-normal spelled spelled_laws (closed spelled (gather spelled ps)), new_size-gather ps, taken_news (takes_char side rs len) (takes_place side rs len) 0 (along_old spelled s), new_along s, written-le s)
+pub half-new : (half : Half) (rs : List (ℕ × ℕ)) (len : ℕ) (s : Sections) → new_size spelled (half_from (taking half rs len) [] 0 s) ≤ old_size s + new_size spelled s
+half-new half rs len s =
+    let ps : List (Piece Chars) = taken spelled (takes_char (taking half rs len)) (takes_place (taking half rs len)) 0 (along_old spelled s) in
+    omega (arith, new_size-normal spelled spelled_laws (closed spelled (gather spelled ps)), new_size-gather ps, taken_news (takes_char (taking half rs len)) (takes_place (taking half rs len)) 0 (along_old spelled s), new_along s, written-le s)

@@ -11,7 +11,7 @@ pub mod Later
 pub mod OneReplace
 pub mod Ascending
 pub mod Filtering
-pub mod Edges
+pub mod Runs
 pub mod FilterWalk
 pub mod FilterSizes
 pub mod FilterBounds

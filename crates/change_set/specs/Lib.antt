@@ -20,3 +20,4 @@ pub mod Totals
 pub mod Ascents
 pub mod OneReplace
 pub mod Protection
+pub mod Protected

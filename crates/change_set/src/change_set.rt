@@ -8,9 +8,10 @@ ghost use Rattle.change_desc.specs.Filter.{filter_kept, filter_dropped};
 ghost use Rattle.change_set.specs.Changes.{as_sets};
 ghost use Rattle.change_desc.specs.Laws.{AppliesInTurn, DescribesComposed, DescribesMapped, LeadsBack, Merges};
 ghost use Rattle.change_desc.specs.Ranges.{changes_nothing};
+ghost use Rattle.change_set.specs.Protected.{Apart};
 ghost use Rattle.change_set.specs.Refusals.{refusal};
 ghost use Rattle.change_set.specs.Texts.{written};
-ghost use Rattle.change_set.specs.Protection.{whole_part};
+ghost use Rattle.change_set.specs.Protection.{half_from, taking};
 ghost use Rattle.change_set.specs.Same.{same_sections};
 
 use crate::ascent::{ascending, push_span};
@@ -18,10 +19,11 @@ use crate::change::{Change, first_fault};
 use crate::error::ChangesError;
 use crate::filter::filtered;
 use crate::filtered::Filtered;
+use crate::half::Half;
 use crate::inserted_text::InsertedText;
 use crate::only_replace::only_replace;
+use crate::protection::joined;
 use crate::sections::{copied, measured, new_len, push_section, same_sections};
-use crate::side::Side;
 use crate::texts::{applied, filled, texts_between, turned, written};
 use change_desc::{Desc, Section};
 use line_tree::{Text, TextCursor};
@@ -216,9 +218,12 @@ impl ChangeSet {
         requires dropped_fits { new_size spelled (filter_dropped spelled protected.now self.now) < 2 ^ 32 }
         ensures kept { IfOk result (λ parts. parts.kept ≡ filter_kept spelled protected.now self.now) }
         ensures dropped { IfOk result (λ parts. parts.dropped ≡ filter_dropped spelled protected.now self.now) }
+        ensures kept_starts { IfOk result (λ parts. old_size parts.kept ≡ old_size self.now) }
+        ensures dropped_starts { IfOk result (λ parts. old_size parts.dropped ≡ old_size self.now) }
     {
-        let kept = self.part(Side::Kept, protected)?;
-        let dropped = self.part(Side::Dropped, protected)?;
+        let ranges = joined(*self.sections.allocator(), protected)?;
+        let kept = self.half(Half::Kept, ranges.as_slice())?;
+        let dropped = self.half(Half::Dropped, ranges.as_slice())?;
         Ok(Filtered { kept, dropped })
     }
 
@@ -268,13 +273,15 @@ impl ChangeSet {
         Ok(ChangeSet { sections })
     }
 
-    /// One of the two parts that a filter gives.
-    fn part(&self, side: Side, protected: &[(u32, u32)]) -> Result<ChangeSet, AllocError>
-        requires { new_size spelled (whole_part side protected.now (old_size self.now) [] 0 self.now) < 2 ^ 32 }
-        ensures { IfOk result (λ part. part ≡ whole_part side protected.now (old_size self.now) [] 0 self.now) }
+    /// One of the two halves that a filter gives, where the protected ranges are joined.
+    fn half(&self, half: Half, ranges: &[(u32, u32)]) -> Result<ChangeSet, AllocError>
+        requires apart { Apart 0 ranges.now }
+        requires fits { new_size spelled (half_from (taking half ranges.now (old_size self.now)) [] 0 self.now) < 2 ^ 32 }
+        ensures value { IfOk result (λ set. set ≡ half_from (taking half ranges.now (old_size self.now)) [] 0 self.now) }
+        ensures starts { IfOk result (λ set. old_size set ≡ old_size self.now) }
     {
         let alloc = *self.sections.allocator();
-        let sections = filtered(alloc, side, protected, self.len(), self.sections.as_slice())?;
+        let sections = filtered(alloc, half, ranges, self.len(), self.sections.as_slice())?;
         Ok(ChangeSet { sections })
     }
 

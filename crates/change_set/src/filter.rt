@@ -1,139 +1,165 @@
-ghost use Rattle.std.specs.Prelude.{◌≡◌, ◌<◌, ◌≤◌, ◌+◌, ◌-◌, ◌^◌, ◌++◌, ◌∷◌, [], ℕ, List, IfOk, OnOk};
-ghost use Rattle.change_desc.specs.declared.section.Section.{Section};
+ghost use Rattle.std.specs.Prelude.{◌≡◌, ◌<◌, ◌≤◌, ◌+◌, ◌-◌, ◌^◌, ◌++◌, ◌∷◌, [], IfOk, OnOk, length, slice_index_or};
 ghost use Rattle.change_desc.specs.declared.section.Section.TheVariants.{Replace};
-ghost use Rattle.change_desc.specs.Sections.{spelled, normal, old_of, new_of, old_size, new_size};
-ghost use Rattle.change_set.specs.Protection.{run_section, inner_part, whole_part, HasRoom};
+ghost use Rattle.change_desc.specs.Sections.{Sections, spelled, normal, old_of, new_of, old_size, new_size};
+ghost use Rattle.change_set.specs.Protection.{HasRoom, half_from, half_within, run_section, taking};
+ghost use Rattle.change_set.specs.Protected.{Apart, HasEnded};
 
+use crate::half::Half;
 use crate::inserted_text::InsertedText;
-use crate::protection::{is_inside, is_protected, run_end};
+use crate::protection::{ended, is_inside, run_from};
 use crate::sections::push_section;
-use crate::side::Side;
 use change_desc::Section;
 use line_tree::Text;
 use smallvec::SmallVec;
 use std::alloc::{AllocError, Global};
 
-/// Puts a run of deleted characters after a part: their deletion with a text, or characters that are kept.
+/// Puts a run of deleted characters after what is done of a half: their deletion with a text, or characters that are kept.
 fn push_run(
-    part: &mut SmallVec<Section<InsertedText>, 8>,
+    done: &mut SmallVec<Section<InsertedText>, 8>,
     is_taken: bool,
     count: u32,
     text: InsertedText,
 ) -> Result<(), AllocError>
-    requires is_normal { normal spelled part.old.items ≡ part.old.items }
-    requires old_fits { old_size part.old.items + old_of (run_section is_taken count text) < 2 ^ 32 }
-    requires new_fits { new_size spelled part.old.items + new_of spelled (run_section is_taken count text) < 2 ^ 32 }
-    ensures { OnOk result (part.new.items ≡ normal spelled (part.old.items ++ run_section is_taken count text ∷ [])) }
+    requires is_normal { normal spelled done.old.items ≡ done.old.items }
+    requires old_fits { old_size done.old.items + old_of (run_section is_taken count text) < 2 ^ 32 }
+    requires new_fits { new_size spelled done.old.items + new_of spelled (run_section is_taken count text) < 2 ^ 32 }
+    ensures { OnOk result (done.new.items ≡ normal spelled (done.old.items ++ run_section is_taken count text ∷ [])) }
 {
     if is_taken {
-        push_section(part, Section::Replace(count, text))
+        push_section(done, Section::Replace(count, text))
     } else {
-        push_section(part, Section::Keep(count))
+        push_section(done, Section::Keep(count))
     }
 }
 
-/// Puts the deleted characters of a section from one place to another after a part, where its text is already put.
+/// Puts the deleted characters of a section from one place to another after what is done of a half, where its text is already
+/// put. So many ranges end at or before the first place; the answer is how many end at or before the second.
 fn push_runs(
     alloc: Global,
-    part: &mut SmallVec<Section<InsertedText>, 8>,
-    side: Side,
+    done: &mut SmallVec<Section<InsertedText>, 8>,
+    half: Half,
     ranges: &[(u32, u32)],
+    known: usize,
     len: u32,
     from: u32,
     end: u32,
-) -> Result<(), AllocError>
+) -> Result<usize, AllocError>
     requires order { from ≤ end }
     requires within { end ≤ len }
-    requires is_normal { normal spelled part.old.items ≡ part.old.items }
-    requires room { (s : List (Section (List ℕ))) × HasRoom (inner_part side ranges.now len part.old.items from (end - from) s) }
-    ensures is_normal { OnOk result (normal spelled part.new.items ≡ part.new.items) }
-    ensures whole { OnOk result ((s : List (Section (List ℕ))) → whole_part side ranges.now len part.new.items end s ≡ inner_part side ranges.now len part.old.items from (end - from) s) }
+    requires ended { HasEnded ranges.now known from }
+    requires is_normal { normal spelled done.old.items ≡ done.old.items }
+    requires room { (s : Sections) × HasRoom (half_within (taking half ranges.now len) done.old.items from (end - from) s) }
+    ensures ended { IfOk result (λ known. HasEnded ranges.now known end) }
+    ensures is_normal { OnOk result (normal spelled done.new.items ≡ done.new.items) }
+    ensures rest { OnOk result ((s : Sections) → half_from (taking half ranges.now len) done.new.items end s ≡ half_within (taking half ranges.now len) done.old.items from (end - from) s) }
 {
     let mut pos = from;
+    let mut count = known;
     'runs: while pos < end {
-        let to = run_end(ranges, len, pos, end);
-        let is_taken = side.takes(is_protected(ranges, len, pos));
+        count = ended(ranges, count, pos);
+        let run = run_from(ranges, count, len, pos, end);
+        let is_taken = half.takes(run.is_protected);
         let none = InsertedText::of(Text::empty(alloc)?);
-        push_run(part, is_taken, to - pos, none)?;
-        pos = to;
+        push_run(done, is_taken, run.to - pos, none)?;
+        pos = run.to;
     }
-    Ok(())
+    Ok(count)
 }
 
-/// Puts a section that deletes characters after a part: run by run, its text with the first.
+/// Puts a section that deletes characters after what is done of a half: run by run, its text with the first. So many ranges
+/// end at or before the section; the answer is how many end at or before its end.
 fn push_deletion(
     alloc: Global,
-    part: &mut SmallVec<Section<InsertedText>, 8>,
-    side: Side,
+    done: &mut SmallVec<Section<InsertedText>, 8>,
+    half: Half,
     ranges: &[(u32, u32)],
+    known: usize,
     len: u32,
     at: u32,
     count: u32,
     text: &InsertedText,
-) -> Result<(), AllocError>
+) -> Result<usize, AllocError>
     requires some { 0 < count }
     requires within { at + count ≤ len }
-    requires is_normal { normal spelled part.old.items ≡ part.old.items }
-    requires room { (s : List (Section (List ℕ))) × HasRoom (whole_part side ranges.now len part.old.items at (Replace count text.now ∷ s)) }
-    ensures is_normal { OnOk result (normal spelled part.new.items ≡ part.new.items) }
-    ensures whole { OnOk result ((s : List (Section (List ℕ))) → whole_part side ranges.now len part.new.items (at + count) s ≡ whole_part side ranges.now len part.old.items at (Replace count text.now ∷ s)) }
+    requires ended { HasEnded ranges.now known at }
+    requires next { known < length ranges.now → at < (slice_index_or ranges.now known (0, 0)).1 }
+    requires is_normal { normal spelled done.old.items ≡ done.old.items }
+    requires room { (s : Sections) × HasRoom (half_from (taking half ranges.now len) done.old.items at (Replace count text.now ∷ s)) }
+    ensures ended { IfOk result (λ known. HasEnded ranges.now known (at + count)) }
+    ensures is_normal { OnOk result (normal spelled done.new.items ≡ done.new.items) }
+    ensures rest { OnOk result ((s : Sections) → half_from (taking half ranges.now len) done.new.items (at + count) s ≡ half_from (taking half ranges.now len) done.old.items at (Replace count text.now ∷ s)) }
 {
     let end = at + count;
-    let to = run_end(ranges, len, at, end);
-    let is_taken = side.takes(is_protected(ranges, len, at));
+    let run = run_from(ranges, known, len, at, end);
+    let is_taken = half.takes(run.is_protected);
     let copy = text.try_copy()?;
-    push_run(part, is_taken, to - at, copy)?;
-    push_runs(alloc, part, side, ranges, len, to, end)?;
-    Ok(())
+    push_run(done, is_taken, run.to - at, copy)?;
+    let reached = push_runs(alloc, done, half, ranges, known, len, run.to, end)?;
+    Ok(reached)
 }
 
-/// Puts what a part has of a section after it.
+/// Puts what a half has of a section after what is done of it. So many ranges end at or before the section; the answer is how
+/// many end at or before its end.
 fn push_filtered(
     alloc: Global,
-    part: &mut SmallVec<Section<InsertedText>, 8>,
-    side: Side,
+    done: &mut SmallVec<Section<InsertedText>, 8>,
+    half: Half,
     ranges: &[(u32, u32)],
+    known: usize,
     len: u32,
     at: u32,
     section: &Section<InsertedText>,
-) -> Result<(), AllocError>
+) -> Result<usize, AllocError>
     requires within { at + old_of section.now ≤ len }
-    requires is_normal { normal spelled part.old.items ≡ part.old.items }
-    requires room { (s : List (Section (List ℕ))) × HasRoom (whole_part side ranges.now len part.old.items at (section.now ∷ s)) }
-    ensures is_normal { OnOk result (normal spelled part.new.items ≡ part.new.items) }
-    ensures whole { OnOk result ((s : List (Section (List ℕ))) → whole_part side ranges.now len part.new.items (at + old_of section.now) s ≡ whole_part side ranges.now len part.old.items at (section.now ∷ s)) }
+    requires apart { Apart 0 ranges.now }
+    requires ended { HasEnded ranges.now known at }
+    requires is_normal { normal spelled done.old.items ≡ done.old.items }
+    requires room { (s : Sections) × HasRoom (half_from (taking half ranges.now len) done.old.items at (section.now ∷ s)) }
+    ensures ended { IfOk result (λ known. HasEnded ranges.now known (at + old_of section.now)) }
+    ensures is_normal { OnOk result (normal spelled done.new.items ≡ done.new.items) }
+    ensures rest { OnOk result ((s : Sections) → half_from (taking half ranges.now len) done.new.items (at + old_of section.now) s ≡ half_from (taking half ranges.now len) done.old.items at (section.now ∷ s)) }
 {
+    let count = ended(ranges, known, at);
     match section {
-        Section::Keep(count) => push_section(part, Section::Keep(*count))?,
-        Section::Replace(count, text) => {
-            if *count > 0 {
-                push_deletion(alloc, part, side, ranges, len, at, *count, text)?;
-            } else if side.takes(is_inside(ranges, len, at)) {
-                let copy = text.try_copy()?;
-                push_section(part, Section::Replace(0, copy))?;
+        Section::Keep(kept) => {
+            push_section(done, Section::Keep(*kept))?;
+            Ok(count)
+        }
+        Section::Replace(gone, text) => {
+            if *gone > 0 {
+                let reached = push_deletion(
+                    alloc, done, half, ranges, count, len, at, *gone, text,
+                )?;
+                return Ok(reached);
             }
+            if half.takes(is_inside(ranges, count, len, at)) {
+                let copy = text.try_copy()?;
+                push_section(done, Section::Replace(0, copy))?;
+            }
+            Ok(count)
         }
     }
-    Ok(())
 }
 
-/// One part of some sections over a document of `len` characters, of which some ranges are protected.
+/// One half of some sections over a document of `len` characters, of which some ranges are protected.
 pub(crate) fn filtered(
     alloc: Global,
-    side: Side,
+    half: Half,
     ranges: &[(u32, u32)],
     len: u32,
     sections: &[Section<InsertedText>],
 ) -> Result<SmallVec<Section<InsertedText>, 8>, AllocError>
+    requires apart { Apart 0 ranges.now }
     requires len { old_size sections.now ≡ len }
-    requires room { HasRoom (whole_part side ranges.now len [] 0 sections.now) }
-    ensures { IfOk result (λ part. part.items ≡ whole_part side ranges.now len [] 0 sections.now) }
+    requires room { HasRoom (half_from (taking half ranges.now len) [] 0 sections.now) }
+    ensures { IfOk result (λ done. done.items ≡ half_from (taking half ranges.now len) [] 0 sections.now) }
 {
-    let mut part = SmallVec::new(alloc);
+    let mut done = SmallVec::new(alloc);
     let mut at = 0;
+    let mut known = 0;
     for section in sections {
-        push_filtered(alloc, &mut part, side, ranges, len, at, section)?;
+        known = push_filtered(alloc, &mut done, half, ranges, known, len, at, section)?;
         at += section.old_len();
     }
-    Ok(part)
+    Ok(done)
 }

@@ -1,6 +1,6 @@
 use crate::change_set::ChangeSet;
 
-/// The two parts of a change set that a filter gives, both over the old document.
+/// The two halves of a change set that a filter gives, both over the old document.
 #[derive(Drop)]
 pub struct Filtered {
     /// What stays.

@@ -11,12 +11,13 @@ mod change_set;
 mod error;
 mod filter;
 mod filtered;
+mod half;
 mod inserted_text;
 mod only_replace;
 mod place;
+mod protected_range;
 mod protection;
 mod sections;
-mod side;
 mod texts;
 mod totals;
 
@@ -25,6 +26,3 @@ pub use crate::change_set::ChangeSet;
 pub use crate::error::ChangesError;
 pub use crate::filtered::Filtered;
 pub use crate::inserted_text::InsertedText;
-
-#[cfg(test)]
-mod tests;

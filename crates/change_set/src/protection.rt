@@ -1,69 +1,123 @@
-ghost use Rattle.std.specs.Prelude.{◌≡◌, ◌<◌, ◌≤◌};
-ghost use Rattle.change_desc.specs.Filter.{is_in, is_inside, is_protected};
-ghost use Rattle.change_set.specs.Protection.{IsEdge, IsRun};
+ghost use Rattle.std.specs.Prelude.{◌≡◌, ◌<◌, ◌≤◌, length, slice_index_or, IfOk, OnOk};
+ghost use Rattle.change_desc.specs.Filter.{is_inside, is_protected};
+ghost use Rattle.change_set.specs.Protected.{Apart, AreJoined, AreSorted, HasEnded, IsRun, Joins, StartBy};
 
-/// Whether a range has a character.
-fn is_in(ranges: &[(u32, u32)], pos: u32) -> bool
-    ensures { result ≡ is_in ranges.now pos }
+use crate::protected_range::ProtectedRange;
+use stable_order::sort_stably;
+use std::alloc::{AllocError, Global};
+
+/// Protected ranges in the order of their starts.
+fn sorted(alloc: Global, given: &[(u32, u32)]) -> Result<Vec<ProtectedRange>, AllocError>
+    ensures { IfOk result (λ sorted. AreSorted given.now sorted.items) }
 {
-    for range in ranges {
-        if range.0 <= pos && pos < range.1 {
-            return true;
+    let mut ranges = Vec::new(alloc);
+    for range in given {
+        ranges.push(ProtectedRange {
+            from: range.0,
+            to: range.1,
+        })?;
+    }
+    sort_stably(&mut ranges)?;
+    Ok(ranges)
+}
+
+/// Puts a range after those that start before it, as one with the last where the two overlap or touch.
+fn join(joined: &mut Vec<(u32, u32)>, range: ProtectedRange) -> Result<(), AllocError>
+    requires apart { Apart 0 joined.old.items }
+    requires starts { StartBy joined.old.items range.from }
+    ensures { OnOk result (Joins joined.old.items joined.new.items (range.from, range.to)) }
+{
+    if range.to <= range.from {
+        return Ok(());
+    }
+    match joined.pop() {
+        None => joined.push((range.from, range.to))?,
+        Some(last) => {
+            if range.from <= last.1 {
+                joined.push((last.0, last.1.max(range.to)))?;
+            } else {
+                joined.push(last)?;
+                joined.push((range.from, range.to))?;
+            }
         }
     }
-    false
+    Ok(())
 }
 
-/// Whether a character of a document of `len` characters is protected.
-pub(crate) fn is_protected(ranges: &[(u32, u32)], len: u32, pos: u32) -> bool
-    ensures { result ≡ is_protected ranges.now len pos }
+/// Protected ranges in order, those that overlap or touch as one, and none that is empty or reversed.
+pub(crate) fn joined(alloc: Global, given: &[(u32, u32)]) -> Result<Vec<(u32, u32)>, AllocError>
+    ensures { IfOk result (λ joined. AreJoined given.now joined.items) }
 {
-    pos < len && is_in(ranges, pos)
+    let sorted = sorted(alloc, given)?;
+    let mut joined = Vec::new(alloc);
+    for range in &sorted {
+        join(&mut joined, *range)?;
+    }
+    Ok(joined)
 }
 
-/// Whether a place is strictly inside protected text: the characters on both sides of it are protected.
-pub(crate) fn is_inside(ranges: &[(u32, u32)], len: u32, pos: u32) -> bool
+/// How many ranges end at or before a place, where so many are known to.
+pub(crate) fn ended(ranges: &[(u32, u32)], known: usize, pos: u32) -> usize
+    requires { HasEnded ranges.now known pos }
+    ensures ended { HasEnded ranges.now result pos }
+    ensures next { result < length ranges.now → pos < (slice_index_or ranges.now result (0, 0)).1 }
+{
+    let mut count = known;
+    'ended: while count < ranges.len() && ranges[count].1 <= pos {
+        count += 1;
+    }
+    count
+}
+
+/// Characters that are all protected or all not: where they end, and whether they are.
+#[derive(Clone, Copy, Drop)]
+pub(crate) struct Run {
+    pub(crate) to: u32,
+    pub(crate) is_protected: bool,
+}
+
+/// The characters from a place on that are all protected or all not, up to an end; so many ranges end at or before the place.
+pub(crate) fn run_from(ranges: &[(u32, u32)], ended: usize, len: u32, pos: u32, end: u32) -> Run
+    requires ended { HasEnded ranges.now ended pos }
+    requires next { ended < length ranges.now → pos < (slice_index_or ranges.now ended (0, 0)).1 }
+    requires some { pos < end }
+    requires within { end ≤ len }
+    ensures run { IsRun ranges.now len pos result.to end }
+    ensures is_protected { result.is_protected ≡ is_protected ranges.now len pos }
+{
+    if ended >= ranges.len() {
+        return Run {
+            to: end,
+            is_protected: false,
+        };
+    }
+    let range = ranges[ended];
+    if range.0 <= pos {
+        Run {
+            to: range.1.min(end),
+            is_protected: true,
+        }
+    } else {
+        Run {
+            to: range.0.min(end),
+            is_protected: false,
+        }
+    }
+}
+
+/// Whether a place is strictly inside protected text: the characters on both sides of it are protected. So many ranges end
+/// at or before the place.
+pub(crate) fn is_inside(ranges: &[(u32, u32)], ended: usize, len: u32, pos: u32) -> bool
+    requires apart { Apart 0 ranges.now }
+    requires ended { HasEnded ranges.now ended pos }
+    requires next { ended < length ranges.now → pos < (slice_index_or ranges.now ended (0, 0)).1 }
     ensures { result ≡ is_inside ranges.now len pos }
 {
-    pos > 0 && is_protected(ranges, len, pos - 1) && is_protected(ranges, len, pos)
-}
-
-/// A place that comes first, if it is after another.
-fn earlier(place: u32, from: u32, first: u32) -> u32
-    ensures least { result ≤ first }
-    ensures taken { from < place → result ≤ place }
-    ensures some { from < first → from < result }
-{
-    if from < place && place < first {
-        place
-    } else {
-        first
+    if pos >= len {
+        return false;
     }
-}
-
-/// A place after another, up to which no range begins or ends.
-fn next_edge(ranges: &[(u32, u32)], from: u32, end: u32) -> u32
-    requires { from < end }
-    ensures { IsEdge ranges.now from result end }
-{
-    let mut edge = end;
-    for range in ranges {
-        edge = earlier(range.0, from, edge);
-        edge = earlier(range.1, from, edge);
+    if ended >= ranges.len() {
+        return false;
     }
-    edge
-}
-
-/// Where the characters from a place on, which are all protected or all not, end.
-pub(crate) fn run_end(ranges: &[(u32, u32)], len: u32, from: u32, end: u32) -> u32
-    requires some { from < end }
-    requires within { end ≤ len }
-    ensures { IsRun ranges.now len from result end }
-{
-    let is_protected = is_in(ranges, from);
-    let mut to = next_edge(ranges, from, end);
-    'run: while to < end && is_in(ranges, to) == is_protected {
-        to = next_edge(ranges, to, end);
-    }
-    to
+    ranges[ended].0 < pos
 }

@@ -1,6 +1,7 @@
 use Rattle.std.proofs.Common.{◌≡◌, ◌+◌, [], drop}
 use Rattle.change_desc.specs.Sections.{spelled, normal, old_size}
-use Rattle.change_set.specs.Protection.{whole_part}
+use Rattle.change_set.specs.Protection.{half_from, taking}
+use Rattle.change_set.specs.Protected.{HasEnded}
 use Rattle.change_set.proofs.filter.filtered.Given as goal
 
 -- what is put after, and what is left, are the whole
@@ -8,6 +9,7 @@ abbrev pub invariant-loop-section : goal.invariant-loop-section
 invariant-loop-section l =
     record {
       level : l.at + old_size (drop l.section-index l.sections) ≡ l.len;
-      is_normal : normal spelled l.part.items ≡ l.part.items;
-      whole : whole_part l.side l.ranges l.len l.part.items l.at (drop l.section-index l.sections) ≡ whole_part l.side l.ranges l.len [] 0 l.sections;
+      ended : HasEnded l.ranges l.known l.at;
+      is_normal : normal spelled l.done.items ≡ l.done.items;
+      rest : half_from (taking l.half l.ranges l.len) l.done.items l.at (drop l.section-index l.sections) ≡ half_from (taking l.half l.ranges l.len) [] 0 l.sections;
     }

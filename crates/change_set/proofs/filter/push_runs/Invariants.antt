@@ -1,7 +1,8 @@
 use Rattle.std.proofs.Common.{◌≡◌, ◌≤◌, ◌-◌, ℕ, List}
 use Rattle.change_desc.specs.declared.section.Section.{Section}
 use Rattle.change_desc.specs.Sections.{spelled, normal}
-use Rattle.change_set.specs.Protection.{inner_part}
+use Rattle.change_set.specs.Protection.{half_within, taking}
+use Rattle.change_set.specs.Protected.{HasEnded}
 use Rattle.change_set.proofs.filter.push_runs.Given as goal
 
 -- what is put after, and what is left, are the whole
@@ -10,8 +11,9 @@ invariant-runs l =
     record {
       from : l.from ≤ l.pos;
       order : l.pos ≤ l.end;
-      is_normal : normal spelled l.part.items ≡ l.part.items;
-      whole : (s : List (Section (List ℕ))) → inner_part l.side l.ranges l.len l.part.items l.pos (l.end - l.pos) s ≡ inner_part l.side l.ranges l.len l.fn.part.items l.from (l.end - l.from) s;
+      ended : HasEnded l.ranges l.count l.pos;
+      is_normal : normal spelled l.done.items ≡ l.done.items;
+      rest : (s : List (Section (List ℕ))) → half_within (taking l.half l.ranges l.len) l.done.items l.pos (l.end - l.pos) s ≡ half_within (taking l.half l.ranges l.len) l.fn.done.items l.from (l.end - l.from) s;
     }
 
 abbrev pub decreases-runs : goal.decreases-runs
