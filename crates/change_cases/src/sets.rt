@@ -1,5 +1,5 @@
 use change_desc::Section;
-use change_set::{Change, ChangeSet, ChangesError, InsertedText};
+use change_set::{Change, ChangeSet, ChangesError, Filtered, InsertedText};
 use line_tree::{Text, cut_len};
 use std::alloc::{AllocError, Global};
 use std::test::Fail;
@@ -338,6 +338,75 @@ fn the_way_back(rt: HostRuntime) -> Result<(), Fail> {
         Section::Keep(1),
     ];
     assert!(rt; comes_to(rt.alloc(), &back, &['x', 'a', 'y', 'd'], &lengths, &old)?);
+    Ok(())
+}
+
+/// The two halves of a set where one range is protected, unless they come to more than 100 characters.
+fn halves(set: &ChangeSet, from: u32, to: u32) -> Result<Option<Filtered>, AllocError> {
+    let protected = [(from, to), (9, 3)];
+    let lens = set.filtered_lens(&protected)?;
+    if lens.0 < 100 && lens.1 < 100 {
+        let halves = set.filter(&protected)?;
+        Ok(Some(halves))
+    } else {
+        Ok(None)
+    }
+}
+
+/// Whether a set of changes of 'abcdef' has these halves where a range is protected.
+fn is_halved(
+    alloc: Global,
+    set: &ChangeSet,
+    range: (u32, u32),
+    kept: (&[Section<u32>], &[char]),
+    dropped: (&[Section<u32>], &[char]),
+) -> Result<bool, AllocError> {
+    let old = ['a', 'b', 'c', 'd', 'e', 'f'];
+    match halves(set, range.0, range.1)? {
+        None => Ok(false),
+        Some(halves) => Ok(
+            comes_to(alloc, &halves.kept, &old, kept.0, kept.1)?
+                && comes_to(alloc, &halves.dropped, &old, dropped.0, dropped.1)?,
+        ),
+    }
+}
+
+#[test]
+fn a_text_goes_with_its_first_deleted_character(rt: HostRuntime) -> Result<(), Fail> {
+    let set = set(rt.alloc(), &[(1, 4, &['X'])], 6)?;
+    let kept = [Section::Keep(2), Section::Replace(2, 0), Section::Keep(2)];
+    let dropped = [Section::Keep(1), Section::Replace(1, 1), Section::Keep(4)];
+    let texts: [&[char]; 2] = [&['a', 'b', 'e', 'f'], &['a', 'X', 'c', 'd', 'e', 'f']];
+    assert!(rt;
+        is_halved(
+            rt.alloc(),
+            &set,
+            (0, 2),
+            (&kept, texts[0]),
+            (&dropped, texts[1])
+        )?
+    );
+    Ok(())
+}
+
+#[test]
+fn an_insertion_strictly_inside_is_dropped(rt: HostRuntime) -> Result<(), Fail> {
+    let set = set(rt.alloc(), &[(2, 2, &['X']), (4, 4, &['Y'])], 6)?;
+    let kept = [Section::Keep(4), Section::Replace(0, 1), Section::Keep(2)];
+    let dropped = [Section::Keep(2), Section::Replace(0, 1), Section::Keep(4)];
+    let texts: [&[char]; 2] = [
+        &['a', 'b', 'c', 'd', 'Y', 'e', 'f'],
+        &['a', 'b', 'X', 'c', 'd', 'e', 'f'],
+    ];
+    assert!(rt;
+        is_halved(
+            rt.alloc(),
+            &set,
+            (1, 4),
+            (&kept, texts[0]),
+            (&dropped, texts[1])
+        )?
+    );
     Ok(())
 }
 

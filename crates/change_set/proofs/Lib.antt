@@ -15,4 +15,5 @@ pub mod Runs
 pub mod FilterWalk
 pub mod FilterSizes
 pub mod FilterBounds
+pub mod FilterLens
 pub mod Sameness

@@ -50,3 +50,8 @@ run_section false n t = Keep n
 pub record HasRoom (s : Sections) : Type 0 where
   pub old_fits : old_size s < 2 ^ 32
   pub new_fits : new_size spelled s < 2 ^ 32
+
+-- how many characters a run of deleted ones gives to the new text of a half, with a text of so many
+abbrev pub given_len : (is_taken : Bool) → (count text : ℕ) → ℕ
+given_len true n m = m
+given_len false n m = n

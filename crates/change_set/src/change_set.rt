@@ -18,6 +18,7 @@ use crate::ascent::{ascending, push_span};
 use crate::change::{Change, first_fault};
 use crate::error::ChangesError;
 use crate::filter::filtered;
+use crate::filter_len::half_len;
 use crate::filtered::Filtered;
 use crate::half::Half;
 use crate::inserted_text::InsertedText;
@@ -225,6 +226,19 @@ impl ChangeSet {
         let kept = self.half(Half::Kept, ranges.as_slice())?;
         let dropped = self.half(Half::Dropped, ranges.as_slice())?;
         Ok(Filtered { kept, dropped })
+    }
+
+    /// How many characters the new texts have of what `filter` lets stay and of what it drops; where either is 2 ^ 32 or more,
+    /// `filter` can't be called. `Err`: out of memory.
+    pub fn filtered_lens(&self, protected: &[(u32, u32)]) -> Result<(u64, u64), AllocError>
+        ensures kept { IfOk result (λ lens. lens.0 ≡ new_size spelled (filter_kept spelled protected.now self.now)) }
+        ensures dropped { IfOk result (λ lens. lens.1 ≡ new_size spelled (filter_dropped spelled protected.now self.now)) }
+    {
+        let ranges = joined(*self.sections.allocator(), protected)?;
+        let sections = self.sections.as_slice();
+        let kept = half_len(Half::Kept, ranges.as_slice(), self.len(), sections);
+        let dropped = half_len(Half::Dropped, ranges.as_slice(), self.len(), sections);
+        Ok((kept, dropped))
     }
 
     /// Whether both have the same sections, with the same texts (ChangeSet.eq).

@@ -10,6 +10,7 @@ mod change;
 mod change_set;
 mod error;
 mod filter;
+mod filter_len;
 mod filtered;
 mod half;
 mod inserted_text;
