@@ -201,9 +201,9 @@ before_from o n (Replace c t ∷ s) u q m negative l k h e =
     let first = x.0 in
     let rest = clear_after_start (o + c) (n + t) s (u - c) (omega (arith, first)) (omega arith) x.1 in
     let on : c ≤ q → (negative ≡ true → 0 < q) → m < t + clear_place s (u - c) = λ i j.
-        let b = plus-some t (moved negative (q - c) (cuts counted s)) m (sym (moved-replace_on counted negative c t s q i j) ∙ e) in
-        let d = before_from (o + c) (n + t) s (u - c) (q - c) b.0 negative (omega arith) (omega arith) x.1 b.1 in
-        omega (arith, d, b.2) in
+    let b = plus-some t (moved negative (q - c) (cuts counted s)) m (sym (moved-replace_on counted negative c t s q i j) ∙ e) in
+    let d = before_from (o + c) (n + t) s (u - c) (q - c) b.0 negative (omega arith) (omega arith) x.1 b.1 in
+    omega (arith, d, b.2) in
     cases negative refl (in_or_on q c) e rest on
   where
     cases : (b : Bool) → b ≡ negative → (q < c) ⊎ (c ≤ q) → moved negative q (cuts counted (Replace c t ∷ s)) ≡ Some m → 0 < clear_place s (u - c)

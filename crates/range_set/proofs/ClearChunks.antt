@@ -67,9 +67,11 @@ module _ {T : Type 0} (rules : RangeRules T) (d : Sections) where
     where
       in_order3 : p < q → (nat_lt q p || (p == q && int_lt (pos 0) (rules.start_side x.value) && int_le (rules.end_side x.value) (pos 0))) ≡ false
       in_order3 l = grind (arith, nat_tests)
+
       last : (b : Bool) → b ≡ false → option_map (λ (es : ℕ × ℕ). let r : Ranged T = record { from = es.0; to = es.1; value = x.value } in r) (cond b None (Some (p, q))) ≡ (let r : Ranged T = record { from = p; to = q; value = x.value } in Some r)
       last true h = cc
       last false h = refl
+
       first : (b : Bool) → b ≡ false → at_ends x (cond b None (Some (p, q))) ≡ (let r : Ranged T = record { from = p; to = q; value = x.value } in Some r)
       first true h = cc
       first false h = last (p == q && int_lt (rules.end_side x.value) (rules.start_side x.value)) (differ p q _ l)
@@ -106,8 +108,7 @@ module _ {T : Type 0} (rules : RangeRules T) (d : Sections) where
       let from : start ≤ r.from + start = omega arith in
       let to : r.to + start ≤ start + reach = omega (arith, b.0) in
       let here = none-narrow start (start + reach) (r.from + start) (r.to + start) (replaced d) from to clear in
-      let turned = turned-shifted rules start r ∙ or_left (is_turned rules r) (list_any (is_turned rules) rs) t in
-      (
+      let turned = turned-shifted rules start r ∙ or_left (is_turned rules r) (list_any (is_turned rules) rs) t in (
         (
           none-narrow start (start + reach) (r.from + start) (r.from + start) (replaced d) from (omega (arith, to, l)) clear,
           w.0.0,
@@ -119,7 +120,7 @@ module _ {T : Type 0} (rules : RangeRules T) (d : Sections) where
   at_clear-shift : (start reach : ℕ) (r : Ranged T) → IsClear start (start + reach) d → r.from ≤ r.to → r.to ≤ reach → at_clear rules d (shift start r) ≡ shift (clear_place d start) r
   at_clear-shift start reach r clear l m =
       let upto : (n : ℕ) → n ≤ reach → clear_place d (n + start) ≡ n + clear_place d start = λ n k.
-          let g = clear_apart d start (n + start) (omega arith) (none-narrow start (start + reach) start (n + start) (replaced d) (omega arith) (omega arith) clear) in omega (arith, g) in
+      let g = clear_apart d start (n + start) (omega arith) (none-narrow start (start + reach) start (n + start) (replaced d) (omega arith) (omega arith) clear) in omega (arith, g) in
       ap (λ n. let q : Ranged T = record { from = n; to = clear_place d (r.to + start); value = r.value } in q) (upto r.from (omega arith))
       ∙ ap (λ n. let q : Ranged T = record { from = r.from + clear_place d start; to = n; value = r.value } in q) (upto r.to m)
 

@@ -138,11 +138,13 @@ module _ {T : Type 0} where
       later true false f k = let z : false ≡ true = f refl in cc
       later false true f k = omega (arith, k)
       later false false f k = k
+
       here : (x y : Bool) → x ≡ false → y ≡ true → hulls_met ys cs ≤ hulls_met ((r ∷ rs) ++ ys) cs
           → suc (length (cond x (c ∷ filter (meets_hull ys) cs) (filter (meets_hull ys) cs))) ≤ length (cond y (c ∷ filter (meets_hull ((r ∷ rs) ++ ys)) cs) (filter (meets_hull ((r ∷ rs) ++ ys)) cs))
       here true y p q k = cc
       here false true p q k = omega (arith, k)
       here false false p q k = cc
+
       at : (m : Bool) → meets a b c ≡ m → (m || list_any (meets a b) cs) ≡ true → (list_any (meets a b) cs ≡ true → suc (hulls_met ys cs) ≤ hulls_met ((r ∷ rs) ++ ys) cs) → hulls_met ys cs ≤ hulls_met ((r ∷ rs) ++ ys) cs
           → suc (hulls_met ys (c ∷ cs)) ≤ hulls_met ((r ∷ rs) ++ ys) (c ∷ cs)
       at true e x ih more =
@@ -207,9 +209,11 @@ module _ {T : Type 0} (rules : RangeRules T) (d : Sections) where
     where
       items : List (Ranged T)
       items = p.chunk.value.ranges.items
+
       met : (b : Bool) → b ≡ false → (b || list_any (meets p.start (p.start + p.chunk.value.reach)) (replaced d)) ≡ true → list_any (meets p.start (p.start + p.chunk.value.reach)) (replaced d) ≡ true
       met true e x = cc
       met false e x = x
+
       at : (rs : List (Ranged T)) → rs ≡ p.chunk.value.ranges.items → suc (hulls_met ys (replaced d)) ≤ hulls_met (map (shift p.start) p.chunk.value.ranges.items ++ ys) (replaced d)
       at [] e = absurd (let l = ap length e in omega (arith, l, some))
       at (r ∷ rs) e =

@@ -129,6 +129,7 @@ module _ {T : Type 0} (rules : RangeRules T) where
       follows : (l : Option (Ranged T)) → precedes rules r l ≡ false → NoneBelow (before rules) r rs → FollowsAll l (r ∷ rs)
       follows None e k = tt
       follows (Some q) e k = (e, NoneBelow-chain (before rules) (before-order rules) q r rs e k)
+
       first : (a b : Bool) → precedes rules r last ≡ b → (fault_from rules (i + 1) (Some r) rs ≡ None → Rises (before rules) rs × NoneBelow (before rules) r rs)
           → cond a (Some (fault.Reversed i)) (cond b (Some (fault.NotSorted i)) (fault_from rules (i + 1) (Some r) rs)) ≡ None → Rises (before rules) (r ∷ rs) × FollowsAll last (r ∷ rs)
       first true b e k x = cc

@@ -32,8 +32,10 @@ first_hull a b c cs h l = at (leb c.from_a b) refl
   where
     reaches : leb a c.to_a ≡ true
     reaches = grind (arith, nat_tests)
+
     beyond : leb c.from_a b ≡ false → b < c.from_a
     beyond e = grind (arith, nat_tests)
+
     at : (x : Bool) → leb c.from_a b ≡ x → x ≡ ((x && leb a c.to_a) || list_any (meets a b) cs)
     at true e = rw reaches refl
     at false e = sym (none_past a b c.from_a cs (beyond e) h)

@@ -31,6 +31,7 @@ same_place a b true e h = absurd (wrong (nat_lt a b) h)
   where
     same : (a == b) ≡ true
     same = grind (arith, nat_tests)
+
     wrong : (x : Bool) → (x || ((a == b) && true)) ≡ false → ⊥
     wrong true h = cc
     wrong false h = let k : true ≡ false = sym (ap (λ y. y && true) same) ∙ h in cc
@@ -41,6 +42,7 @@ not_before_same a b c e h = rw h (tests (a == b))
   where
     l : nat_lt a b ≡ false
     l = grind (arith, nat_tests)
+
     tests : (x : Bool) → (nat_lt a b || (x && false)) ≡ false
     tests true = rw l refl
     tests false = rw l refl
@@ -57,6 +59,7 @@ module _ {T : Type 0} (rules : RangeRules T) (d : Sections) where
     where
       ends : ℤ
       ends = rules.end_side r.value
+
       end_point : (m : MapMode) (o o' : Option ℕ) → o ≡ place_of d r.from (rules.start_side r.value) m
           → option_map (λ (es : ℕ × ℕ). let x : Ranged T = record { from = es.0; to = es.1; value = r.value } in x)
           (option_and_then (λ (es : ℕ × ℕ). ends_unless_turned (rules.start_side r.value) (rules.end_side r.value) es.0 es.1)
@@ -69,10 +72,12 @@ module _ {T : Type 0} (rules : RangeRules T) (d : Sections) where
           last true h = cc
           last false h = let x : Ranged T = record { from = f; to = t; value = r.value } in let g : x ≡ q = cc in
               record { mode = m; from = sym e ∙ ap (λ (y : Ranged T). Some y.from) g; value = sym (ap (λ (y : Ranged T). y.value) g) }
+
           turn : (b : Bool) → option_map (λ (es : ℕ × ℕ). let x : Ranged T = record { from = es.0; to = es.1; value = r.value } in x)
               (option_and_then (λ (es : ℕ × ℕ). ends_unless_turned (rules.start_side r.value) (rules.end_side r.value) es.0 es.1) (cond b None (Some (f, t)))) ≡ Some q → Begins r q
           turn true h = cc
           turn false h = last (f == t && int_lt (rules.end_side r.value) (rules.start_side r.value)) h
+
       end_span : (o o' : Option ℕ) → o ≡ place_of d r.from (rules.start_side r.value) Simple
           → option_map (λ (es : ℕ × ℕ). let x : Ranged T = record { from = es.0; to = es.1; value = r.value } in x)
           (option_and_then (λ (es : ℕ × ℕ). ends_unless_turned (rules.start_side r.value) (rules.end_side r.value) es.0 es.1)
@@ -85,10 +90,12 @@ module _ {T : Type 0} (rules : RangeRules T) (d : Sections) where
           last true h = cc
           last false h = let x : Ranged T = record { from = f; to = t; value = r.value } in let g : x ≡ q = cc in
               record { mode = Simple; from = sym e ∙ ap (λ (y : Ranged T). Some y.from) g; value = sym (ap (λ (y : Ranged T). y.value) g) }
+
           turn : (b : Bool) → option_map (λ (es : ℕ × ℕ). let x : Ranged T = record { from = es.0; to = es.1; value = r.value } in x)
               (option_and_then (λ (es : ℕ × ℕ). ends_unless_turned (rules.start_side r.value) (rules.end_side r.value) es.0 es.1) (cond b None (Some (f, t)))) ≡ Some q → Begins r q
           turn true h = cc
           turn false h = last (f == t && int_lt (rules.end_side r.value) (rules.start_side r.value)) h
+
       at : (b : Bool) → option_map (λ (es : ℕ × ℕ). let x : Ranged T = record { from = es.0; to = es.1; value = r.value } in x)
           (option_and_then (λ (es : ℕ × ℕ). ends_unless_turned (rules.start_side r.value) (rules.end_side r.value) es.0 es.1)
           (cond b (point_ends d r.from (rules.start_side r.value) (rules.end_side r.value) (rules.mode r.value)) (span_ends d r.from r.to (rules.start_side r.value) (rules.end_side r.value)))) ≡ Some q → Begins r q

@@ -53,7 +53,9 @@ pub(crate) fn mapped_chunks<T: RangeValue, L: Ledger>(
             map_each(alloc, placed, &mut walker, &mut run, mapped)?;
         } else {
             put_sorted(&mut run, &mut builder)?;
-            let start = walker.map_pos(placed.start, -1, MapMode::Simple).unwrap_or(0);
+            let start = walker
+                .map_pos(placed.start, -1, MapMode::Simple)
+                .unwrap_or(0);
             builder.share(start, &placed.chunk)?;
         }
     }

@@ -158,7 +158,7 @@ impl<T: RangeValue> RangeSet<T> {
         ensures cost { mapped.new ≤ mapped.old + most_mapped T.rules changes.now self.now }
     {
         // The proof takes from this line that the number of ranges fits usize.
-        let _len = self.len;
+        let _len = self.len();
         let alloc = *self.chunks.allocator();
         let (chunks, len) = mapped_chunks(alloc, self.chunks.as_slice(), changes, mapped)?;
         Ok(RangeSet { chunks, len })
@@ -187,6 +187,8 @@ fn set_of<T: RangeValue>(ranges: Vec<Ranged<T>>) -> Result<RangeSet<T>, AllocErr
     requires { first_fault T.rules ranges.items ≡ None }
     ensures { IfOk result (λ s. s ≡ ranges.items) }
 {
+    // The proof takes from this line that the number of ranges fits usize.
+    let _len = ranges.len();
     let mut builder = ChunkBuilder::new(*ranges.allocator());
     put_all(ranges, &mut builder)?;
     let (chunks, len) = builder.finish()?;
@@ -243,10 +245,7 @@ fn same_ranges<'a, 'b, T: RangeValue>(left: Iter<'a, T>, right: Iter<'b, T>) -> 
 }
 
 /// The same chunks once more, shared. `Err`: out of memory.
-fn shared<T: RangeValue>(
-    alloc: Global,
-    chunks: &[Placed<T>],
-) -> Result<Vec<Placed<T>>, AllocError>
+fn shared<T: RangeValue>(alloc: Global, chunks: &[Placed<T>]) -> Result<Vec<Placed<T>>, AllocError>
     requires { AreChunks T.rules chunks.now }
     ensures same { IfOk result (λ v. flat v.items ≡ flat chunks.now) }
     ensures chunks { IfOk result (λ v. AreChunks T.rules v.items) }

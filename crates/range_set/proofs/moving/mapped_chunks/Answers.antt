@@ -206,7 +206,7 @@ share-requires-clause-chunk g c =
     let affected = affected_same rules d (flat ps) p rest done run reached reps c.from_place-replaced.result.now here same c.is_affected.result c.is_affected.ensures in
     let clear = clear_chunk rules d (flat ps) p rest done run reached reps here (sym affected ∙ c.if-is_affected.false) in
     let start : c.unwrap_or-start.result ≡ clear_place d p.start =
-        c.unwrap_or-start.ensures ∙ ap (λ o. unwrap_or o 0) (c.map_pos.ensures.value ∙ (ap (λ (s : Sections). map_pos counted s p.start true Simple) kept.desc ∙ map_pos-clear d p.start true Simple clear.inside clear.clear)) in
+    c.unwrap_or-start.ensures ∙ ap (λ o. unwrap_or o 0) (c.map_pos.ensures.value ∙ (ap (λ (s : Sections). map_pos counted s p.start true Simple) kept.desc ∙ map_pos-clear d p.start true Simple clear.inside clear.clear)) in
     let chunk = here.chunks.0.0 in
     let fits = clear.fits in
     let bound = c.new_len-new_len.ensures in
@@ -290,10 +290,10 @@ loop-placed-preserved g c =
           let share = allowance_at rules d ps i p false c.loop-placed-test.true c.placed-item.is (sym affected ∙ w.if-is_affected.false) in
           let clear = clear_chunk rules d (flat ps) p rest done run reached reps here (sym affected ∙ w.if-is_affected.false) in
           let start : w.unwrap_or-start.result ≡ clear_place d p.start =
-              w.unwrap_or-start.ensures ∙ ap (λ o. unwrap_or o 0) (w.map_pos.ensures.value ∙ (ap (λ (s : Sections). map_pos counted s p.start true Simple) kept.desc ∙ map_pos-clear d p.start true Simple clear.inside clear.clear)) in
+          w.unwrap_or-start.ensures ∙ ap (λ o. unwrap_or o 0) (w.map_pos.ensures.value ∙ (ap (λ (s : Sections). map_pos counted s p.start true Simple) kept.desc ∙ map_pos-clear d p.start true Simple clear.inside clear.clear)) in
           let more = w.in_ok-share.ensures.ranges
-              ∙ (ap (λ xs. xs ++ map (shift w.unwrap_or-start.result) p.chunk.value.ranges.items) w.in_ok-put_sorted.ensures.ranges
-              ∙ ap (λ n. done ++ stable_sort (before rules) run ++ map (shift n) p.chunk.value.ranges.items) start) in
+          ∙ (ap (λ xs. xs ++ map (shift w.unwrap_or-start.result) p.chunk.value.ranges.items) w.in_ok-put_sorted.ensures.ranges
+          ∙ ap (λ n. done ++ stable_sort (before rules) run ++ map (shift n) p.chunk.value.ranges.items) start) in
           record {
             builder = rw w.builder-is w.in_ok-share.ensures.builder;
             walked = rw (w.builder-is, w.run-is, w.walker-is, w.map_pos.ensures.walk, w.in_ok-put_sorted.ensures.none)

@@ -10,7 +10,7 @@ returns-clause-chunk g c =
     let turned : c.if-self.self ≡ (c.args.self.now.is_turned || is_turned rules c.args.range) = elim c.if-self.branch [
       | then-self w ↦ or_first _ _ _ w.self-is w.if-self.true
       | else-self w ↦ or_second _ _ _ (w.self-is ∙ c.is_turned-is_turned.ensures) w.if-self.false
-     ] in
+    ] in
     put_chunk rules c.args.start c.args.self.now _ c.args.range c.requires.chunk c.requires.room c.requires.after c.requires.forward (omega arith) c.requires.first c.in_ok-push.ensures.items c.max-self.ensures turned
 
 pub returns-clause-ranges : goal.returns-clause-ranges
