@@ -1,5 +1,5 @@
 -- Where a decoration may stand.
-use Rattle.std.specs.Prelude.{ℕ, Bool, nat_lt, ◌==◌, if◌then◌else◌, List, Option, Some, None}
+use Rattle.std.specs.Prelude.{ℕ, Bool, true, false, nat_lt, ◌==◌, if◌then◌else◌, List, Option, Some, None}
 use Rattle.std.specs.List.{list_any}
 use Rattle.line_tree.specs.Lines.{lines_of}
 use Rattle.line_tree.specs.declared.line.Line as lines
@@ -18,10 +18,11 @@ kind_of (decos.Line style) = Line
 
 -- a mark and a replacement stand over characters, a widget and a line decoration between them
 abbrev pub kind_fault : Kind → (is_empty : Bool) → Option DecoError
-kind_fault Mark is_empty = if is_empty then Some EmptyMark else None
-kind_fault Widget is_empty = if is_empty then None else Some NotEmpty
-kind_fault Replace is_empty = if is_empty then Some BadReplace else None
-kind_fault Line is_empty = if is_empty then None else Some NotEmpty
+kind_fault Mark true = Some EmptyMark
+kind_fault Widget false = Some NotEmpty
+kind_fault Replace true = Some BadReplace
+kind_fault Line false = Some NotEmpty
+kind_fault kind is_empty = None
 
 -- the first fault of a range for a decoration of this kind
 abbrev pub place_fault : Kind → (from to : ℕ) → Option DecoError

@@ -2,7 +2,7 @@ ghost use Rattle.std.specs.Prelude.{◌≡◌, ◌<◌, ◌≤◌, IfSome, IfNon
 ghost use Rattle.decoration.specs.Colors.{number_of};
 
 /// One of the eight colours of a terminal, by the standard's numbers 0 to 7 (ECMA-48, select graphic rendition).
-#[derive(Clone, Copy, Debug, PartialEq, Eq, Drop)]
+#[derive(Clone, Copy, Debug, Drop)]
 pub enum Color {
     Black,
     Red,

@@ -2,7 +2,7 @@ ghost use Rattle.std.specs.Prelude.{◌≡◌, ◌↔◌, IsTrue};
 ghost use Rattle.decoration.specs.Sides.{start_of, end_of};
 
 /// Which ends of a range take in text that is inserted there (Reference Manual: MarkDecorationSpec.inclusive).
-#[derive(Clone, Copy, Debug, PartialEq, Eq, Drop)]
+#[derive(Clone, Copy, Debug, Drop)]
 pub struct Inclusive {
     pub start: bool,
     pub end: bool,

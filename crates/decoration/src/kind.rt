@@ -27,36 +27,11 @@ impl Kind {
         if from > to {
             return Err(DecoError::Reversed { index: 0 });
         }
-        let is_empty = from == to;
-        match self {
-            Kind::Mark => {
-                if is_empty {
-                    Err(DecoError::EmptyMark)
-                } else {
-                    Ok(())
-                }
-            }
-            Kind::Widget => {
-                if is_empty {
-                    Ok(())
-                } else {
-                    Err(DecoError::NotEmpty)
-                }
-            }
-            Kind::Replace => {
-                if is_empty {
-                    Err(DecoError::BadReplace)
-                } else {
-                    Ok(())
-                }
-            }
-            Kind::Line => {
-                if is_empty {
-                    Ok(())
-                } else {
-                    Err(DecoError::NotEmpty)
-                }
-            }
+        match (self, from == to) {
+            (Kind::Mark, true) => Err(DecoError::EmptyMark),
+            (Kind::Widget | Kind::Line, false) => Err(DecoError::NotEmpty),
+            (Kind::Replace, true) => Err(DecoError::BadReplace),
+            (Kind::Mark | Kind::Replace, false) | (Kind::Widget | Kind::Line, true) => Ok(()),
         }
     }
 }

@@ -28,6 +28,3 @@ pub use placing::{place, place_line};
 pub use replacement::Replacement;
 pub use style::Style;
 pub use widget::{MAX_SIDE, Widget};
-
-#[cfg(test)]
-mod tests;

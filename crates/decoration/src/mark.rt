@@ -4,7 +4,7 @@ use crate::inclusive::Inclusive;
 use crate::style::Style;
 
 /// A mark: it styles the characters of its range (Reference Manual: Decoration.mark).
-#[derive(Clone, Copy, Debug, PartialEq, Eq, Drop)]
+#[derive(Clone, Copy, Debug, Drop)]
 pub struct Mark {
     pub style: Style,
     pub inclusive: Inclusive,

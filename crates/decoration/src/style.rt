@@ -3,7 +3,7 @@ ghost use Rattle.std.specs.Prelude.{◌≡◌, ◌↔◌, IsTrue, None, false};
 use crate::color::Color;
 
 /// How cells are drawn: a foreground and a background colour, where they are given, and three flags.
-#[derive(Clone, Copy, Debug, PartialEq, Eq, Drop)]
+#[derive(Clone, Copy, Debug, Drop)]
 pub struct Style {
     pub fg: Option<Color>,
     pub bg: Option<Color>,

@@ -1,1 +1,11 @@
 pub mod RangeOrder
+pub mod Clear
+pub mod Chunks
+pub mod Passing
+pub mod Replaced
+pub mod Each
+pub mod Under
+pub mod ClearChunks
+pub mod Cost
+pub mod Walked
+pub mod Sets

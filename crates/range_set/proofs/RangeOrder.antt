@@ -6,7 +6,7 @@ use Rattle.std.specs.List.{filter, cons_option}
 use Rattle.std.specs.Prelude.{nat_lt, nat_le, ◌==◌, int_lt, int_le, pos, filter_map, option_map, option_and_then}
 use Rattle.std.proofs.lemmas.Bool.Decides.{nat_tests}
 use Rattle.stable_order.specs.StableSort.{insert_by, stable_sort}
-use Rattle.stable_order.proofs.StableSort.{NoneBelow, Rises, Rises-stable_sort}
+use Rattle.stable_order.proofs.StableSort.{NoneBelow, NoneBelow-chain, Rises, Rises-stable_sort}
 use Rattle.change_desc.specs.declared.map_mode.MapMode.{MapMode}
 use Rattle.change_desc.specs.declared.map_mode.MapMode.TheVariants.{Simple}
 use Rattle.range_set.specs.Rules.{RangeRules}
@@ -72,7 +72,7 @@ module _ {T : Type 0} (rules : RangeRules T) where
       elim (before rules q r) as (λ b. AllForward (cond b (q ∷ insert_by (before rules) r qs) (r ∷ q ∷ qs)))
       [ true ↦ (h.0, forward_insert r qs e h.1) | false ↦ (e, h) ]
 
-  forward_sort : (rs : List (Ranged T)) → AllForward rs → AllForward (stable_sort (before rules) rs)
+  pub forward_sort : (rs : List (Ranged T)) → AllForward rs → AllForward (stable_sort (before rules) rs)
   forward_sort [] h = tt
   forward_sort (r ∷ rs) h = forward_insert r (stable_sort (before rules) rs) h.0 (forward_sort rs h.1)
 
@@ -87,14 +87,14 @@ module _ {T : Type 0} (rules : RangeRules T) where
       at true = forward-point d r.from (rules.start_side r.value) (rules.end_side r.value) (rules.mode r.value)
       at false = forward-span d r.from r.to (rules.start_side r.value) (rules.end_side r.value)
 
-  forward_moved : (d : Changes) (r : Ranged T) → IsForward (moved rules d r)
+  pub forward_moved : (d : Changes) (r : Ranged T) → IsForward (moved rules d r)
   forward_moved d r = at (new_ends rules d r) (forward_ends d r)
     where
       at : (o : Ends) → AreForward o → IsForward (option_map (λ (ends : ℕ × ℕ). record { from = ends.0; to = ends.1; value = r.value }) o)
       at None h = tt
       at (Some e) h = h
 
-  forward_filtered : (h : Ranged T → Option (Ranged T)) → ((r : Ranged T) → IsForward (h r)) → (rs : List (Ranged T)) → AllForward (filter_map h rs)
+  pub forward_filtered : (h : Ranged T → Option (Ranged T)) → ((r : Ranged T) → IsForward (h r)) → (rs : List (Ranged T)) → AllForward (filter_map h rs)
   forward_filtered h f [] = tt
   forward_filtered h f (r ∷ rs) =
       let rest = forward_filtered h f rs in joined (h r) (filter_map h rs) (f r) rest
@@ -119,6 +119,25 @@ module _ {T : Type 0} (rules : RangeRules T) where
       first true b k e = cc
       first false true k e = cc
       first false false k e = (refl, k e)
+
+  -- and so such a list is in order
+  rises_from : (i : ℕ) (last : Option (Ranged T)) (rs : List (Ranged T)) → fault_from rules i last rs ≡ None → Rises (before rules) rs × FollowsAll last rs
+  rises_from i None [] h = (tt, tt)
+  rises_from i (Some q) [] h = (tt, tt)
+  rises_from i last (r ∷ rs) h = first (nat_lt r.to r.from) (precedes rules r last) refl (λ k. rises_from (i + 1) (Some r) rs k) h
+    where
+      follows : (l : Option (Ranged T)) → precedes rules r l ≡ false → NoneBelow (before rules) r rs → FollowsAll l (r ∷ rs)
+      follows None e k = tt
+      follows (Some q) e k = (e, NoneBelow-chain (before rules) (before-order rules) q r rs e k)
+
+      first : (a b : Bool) → precedes rules r last ≡ b → (fault_from rules (i + 1) (Some r) rs ≡ None → Rises (before rules) rs × NoneBelow (before rules) r rs)
+          → cond a (Some (fault.Reversed i)) (cond b (Some (fault.NotSorted i)) (fault_from rules (i + 1) (Some r) rs)) ≡ None → Rises (before rules) (r ∷ rs) × FollowsAll last (r ∷ rs)
+      first true b e k x = cc
+      first false true e k x = cc
+      first false false e k x = let y = k x in ((y.1, y.0), follows last e y.1)
+
+  pub rises-no_fault : (rs : List (Ranged T)) → first_fault rules rs ≡ None → Rises (before rules) rs
+  rises-no_fault rs h = (rises_from 0 None rs h).0
 
   pub no_fault_in_sort : (rs : List (Ranged T)) → AllForward rs → first_fault rules (stable_sort (before rules) rs) ≡ None
   no_fault_in_sort rs h = no_fault_from 0 None (stable_sort (before rules) rs) (Rises-stable_sort (before rules) (before-order rules) rs) tt (forward_sort rs h)

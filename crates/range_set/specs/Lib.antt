@@ -4,3 +4,7 @@ pub mod Ranking
 pub mod Mapping
 pub mod Updating
 pub mod Seen
+pub mod PrivateChunks
+pub mod PrivateReplaced
+pub use Rattle.change_desc.specs.Sections
+pub use Rattle.change_desc.specs.Walker

@@ -1,10 +1,13 @@
 -- Where changes move ranges (Reference Manual: RangeSet.map).
-use Rattle.std.specs.Prelude.{ℕ, Bool, ◌&&◌, ◌||◌, ℤ, pos, int_lt, int_le, nat_lt, ◌==◌, if◌then◌else◌, List, Option, Some, None, option_map, option_and_then, filter_map, ◌≤◌, All}
+use Rattle.std.specs.Prelude.{ℕ, ◌+◌, ◌*◌, Bool, ◌&&◌, ◌||◌, ℤ, pos, int_lt, int_le, nat_le, nat_lt, ◌==◌, if◌then◌else◌, List, length, filter, Option, Some, None, option_map, option_and_then, filter_map, ◌≤◌, All}
+use Rattle.std.specs.List.{list_any}
 use Rattle.change_desc.specs.declared.section.Section.{Section}
 use Rattle.change_desc.specs.declared.map_mode.MapMode.{MapMode}
 use Rattle.change_desc.specs.declared.map_mode.MapMode.TheVariants.{Simple}
 use Rattle.change_desc.specs.Sections.{counted}
 use Rattle.change_desc.specs.Positions.{is_negative, map_pos}
+use Rattle.change_desc.specs.Ranges.{meets, replaced}
+use Rattle.change_desc.specs.declared.changed_range.ChangedRange.{ChangedRange}
 use Rattle.stable_order.specs.StableSort.{stable_sort}
 use Rattle.range_set.specs.Rules.{RangeRules}
 use Rattle.range_set.specs.Order.{before}
@@ -58,6 +61,24 @@ module _ {T : Type 0} (rules : RangeRules T) where
   -- each range is moved, what is dropped is left out, and the rest is sorted, ties as they stood
   abbrev pub map_ranges : Changes → List (Ranged T) → List (Ranged T)
   map_ranges d rs = stable_sort (before rules) (filter_map (moved d) rs)
+
+  -- an empty range whose end side is less than its start side
+  abbrev pub is_turned : Ranged T → Bool
+  is_turned r = r.from == r.to && int_lt (rules.end_side r.value) (rules.start_side r.value)
+
+  -- Affected: a range that overlaps or touches the old range of a Replace, or that is empty with an end side less than its
+  -- start side.
+  abbrev pub is_affected : Changes → Ranged T → Bool
+  is_affected d r = list_any (meets r.from r.to) (replaced d) || is_turned r
+
+-- whether a replaced range overlaps or touches the hull of ranges, which runs from their least start to their greatest end
+abbrev pub meets_hull : {T : Type 0} → List (Ranged T) → ChangedRange → Bool
+meets_hull rs c = list_any (λ r. nat_le c.from_a r.to) rs && list_any (λ r. nat_le r.from c.to_a) rs
+
+-- The most ranges that a mapping maps by themselves, where all others are moved with the 128 or fewer of their chunk: 128 for
+-- each range that is affected, and for each Replace that overlaps or touches the hull of the whole set.
+abbrev pub most_mapped : {T : Type 0} → RangeRules T → Changes → List (Ranged T) → ℕ
+most_mapped rules d rs = 128 * (length (filter (is_affected rules d) rs) + length (filter (meets_hull rs) (replaced d)))
 
 -- each range lies in a text of this length
 abbrev pub EndWithin : {T : Type 0} → ℕ → List (Ranged T) → Type 0

@@ -6,11 +6,13 @@ use denote.Ref.{Bor}
 use Rattle.stable_order.specs.StableSort.{stable_sort}
 use Rattle.range_set.specs.Rules.{RangeRules}
 use Rattle.range_set.specs.Order.{before}
+use Rattle.range_set.specs.Seen.{seen}
 use Rattle.range_set.specs.declared.ranged.Ranged.{Ranged}
+use Rattle.range_set.specs.declared.range_ref.RangeRef.{RangeRef}
 
--- each answer of the closure is that of the test
-abbrev pub AnswersAs : {F X : Type 0} → Shared F (Bor X × Unit {0}) Bool → F → (X → Bool) → Type 0
-AnswersAs {F} {X} g f p = (x : X) (r : Bool) → FnReturnsAt g f x r → r ≡ p x
+-- each answer of the closure, of a range as an iterator lends it, is that of the test
+abbrev pub AnswersAs : {F T : Type 0} → Shared F (Bor (RangeRef T) × Unit {0}) Bool → F → (Ranged T → Bool) → Type 0
+AnswersAs {F} {T} g f p = (x : RangeRef T) (r : Bool) → FnReturnsAt g f x r → r ≡ p (seen x)
 
 -- the old ranges that the test allows and the added ones, in order, the old ones first where they tie
 abbrev pub updated : {T : Type 0} → RangeRules T → (Ranged T → Bool) → (old add : List (Ranged T)) → List (Ranged T)

@@ -1,37 +1,44 @@
-ghost use Rattle.std.specs.Prelude.{◌≡◌, ◌≢◌, ◌↔◌, ◌≤◌, [], None, Some, length, IfOk, IfErr, IsTrue, OnOk, filter_map, filter};
-ghost use Rattle.change_desc.specs.Sections.{old_size};
+ghost use Rattle.std.specs.Prelude.{◌≡◌, ◌≢◌, ◌↔◌, ◌+◌, ◌≤◌, ◌<◌, [], None, Some, length, IfOk, IfErr, IsTrue, filter};
+ghost use Rattle.change_desc.specs.Sections.{counted, new_size, old_size};
 ghost use Rattle.range_set.specs.Order.{first_fault, AllForward};
-ghost use Rattle.range_set.specs.Mapping.{moved, map_ranges, EndWithin};
+ghost use Rattle.range_set.specs.Mapping.{map_ranges, most_mapped, EndWithin};
+ghost use Rattle.range_set.specs.PrivateChunks.{AreChunks, flat};
 ghost use Rattle.range_set.specs.Updating.{AnswersAs, updated, overlaps};
 
-use crate::iter::{Between, Iter};
+use crate::between::Between;
+use crate::chunk::Placed;
+use crate::chunk_builder::ChunkBuilder;
+use crate::iter::Iter;
+use crate::moving::{mapped_chunks, put_all};
 use crate::range_error::RangeError;
+use crate::range_ref::RangeRef;
 use crate::range_value::RangeValue;
 use crate::ranged::Ranged;
 use change_desc::Desc;
 use stable_order::sort_stably;
 use std::alloc::{AllocError, Global};
-use std::marker::Model;
+use std::marker::{Brand, Model};
+use std::sync::ledger::{Blank, Ledger};
+use steps::Steps;
 
 /// A set of ranges in order (Reference Manual: RangeSet): by their starts, then by their start sides, then as they were
-/// given.
+/// given. It is a list of chunks of 1 to 128 ranges, which sets share.
 #[derive(Drop)]
 pub struct RangeSet<T: RangeValue> {
-    ranges: Vec<Ranged<T>>,
+    chunks: Vec<Placed<T>>,
+    len: usize,
 }
 
 impl<T: RangeValue> Model for RangeSet<T> {
     ghost use Rattle.std.specs.Prelude.{List};
     ghost use Rattle.range_set.specs.declared.ranged.Ranged.{Ranged};
+    ghost use Rattle.range_set.specs.PrivateChunks.{IsRangeSet, flat};
 
     ghost Value = { List (Ranged T) };
 
-    ghost use Rattle.std.specs.Prelude.{◌≡◌, None};
-    ghost use Rattle.range_set.specs.Order.{first_fault};
+    ghost view = { λ s. flat s.chunks.items };
 
-    ghost view = { λ s. s.ranges.items };
-
-    ghost invariant = { λ s. first_fault T.rules s.ranges.items ≡ None };
+    ghost invariant = { λ s. IsRangeSet T.rules s.chunks.items s.len };
 }
 
 impl<T: RangeValue> RangeSet<T> {
@@ -40,19 +47,20 @@ impl<T: RangeValue> RangeSet<T> {
         ensures { result ≡ [] }
     {
         RangeSet {
-            ranges: Vec::new(alloc),
+            chunks: Vec::new(alloc),
+            len: 0,
         }
     }
 
-    /// The set of these ranges, which stand in order (RangeSet.of). `Err`: the first range that ends before it starts or
-    /// belongs before the one before it, the former where it does both; or out of memory.
+    /// The set of these ranges, which stand in order (RangeSet.of); it copies no value. `Err`: the first range that ends
+    /// before it starts or belongs before the one before it, the former where it does both; or out of memory.
     pub fn of(ranges: Vec<Ranged<T>>) -> Result<RangeSet<T>, RangeError>
         ensures set { IfOk result (λ s. s ≡ ranges.items) }
         ensures in_order { IfOk result (λ s. first_fault T.rules ranges.items ≡ None) }
         ensures refused { IfErr result (λ e. e ≢ RangeError.NoMemory → first_fault T.rules ranges.items ≡ Some e) }
     {
         match fault_in(ranges.as_slice()) {
-            None => Ok(RangeSet { ranges }),
+            None => Ok(set_of(ranges)?),
             Some(fault) => Err(fault),
         }
     }
@@ -61,41 +69,45 @@ impl<T: RangeValue> RangeSet<T> {
     pub fn iter(&self) -> Iter<'_, T>
         ensures { result ≡ self.now }
     {
-        Iter::over(self.ranges.as_slice())
+        Iter::over(self.chunks.as_slice())
     }
 
     /// The ranges that overlap or touch those from the place `from` to the place `to`, in order (RangeSet.between).
     pub fn between(&self, from: u32, to: u32) -> Between<'_, T>
         ensures { result ≡ filter (overlaps from to) self.now }
     {
-        Between::over(self.ranges.as_slice(), from, to)
+        Between::among(Iter::over(self.chunks.as_slice()), from, to)
     }
 
     /// How many ranges there are (RangeSet.size).
     pub fn len(&self) -> usize
         ensures { result ≡ length self.now }
     {
-        self.ranges.len()
+        self.len
     }
 
     /// Whether both have the same ranges with equal values (RangeSet.eq).
     pub fn same(&self, other: &RangeSet<T>) -> bool
         ensures { IsTrue result ↔ (self.now ≡ other.now) }
     {
-        same_ranges(self.ranges.as_slice(), other.ranges.as_slice())
+        self.len == other.len && same_ranges(self.iter(), other.iter())
     }
 
-    /// The same set once more. `Err`: out of memory.
+    /// The same set once more, which shares its chunks. `Err`: out of memory.
     pub fn try_copy(&self) -> Result<RangeSet<T>, AllocError>
         ensures { IfOk result (λ s. s ≡ self.now) }
     {
-        let ranges = copied(*self.ranges.allocator(), self.ranges.as_slice())?;
-        Ok(RangeSet { ranges })
+        let chunks = shared(*self.chunks.allocator(), self.chunks.as_slice())?;
+        Ok(RangeSet {
+            chunks,
+            len: self.len,
+        })
     }
 
-    /// The ranges that `keep` allows and those of `add`, the old ones first where they tie (RangeSet.update). `Err`: the
-    /// first range of `add` that ends before it starts or belongs before the one before it; or out of memory.
-    pub fn update<F: Fn(&Ranged<T>) -> bool>(
+    /// The ranges that `keep` allows and those of `add`, the old ones first where they tie (RangeSet.update). `keep` is asked
+    /// of each range as `iter` lends it; the values of those that it allows are copied. `Err`: the first range of `add` that
+    /// ends before it starts or belongs before the one before it; or out of memory.
+    pub fn update<F: Fn(&RangeRef<'_, T>) -> bool>(
         &self,
         mut add: Vec<Ranged<T>>,
         keep: F,
@@ -109,34 +121,91 @@ impl<T: RangeValue> RangeSet<T> {
             Some(fault) => return Err(fault),
             None => {}
         }
-        let mut ranges = kept(*self.ranges.allocator(), self.ranges.as_slice(), &keep)?;
+        let mut ranges = kept(*self.chunks.allocator(), self.iter(), &keep)?;
         ranges.append(&mut add)?;
         sort_stably(&mut ranges)?;
-        Ok(RangeSet { ranges })
+        Ok(set_of(ranges)?)
     }
 
     /// Whether each range lies in a document of `len` characters.
     pub fn ends_within(&self, len: u32) -> bool
         ensures { IsTrue result ↔ EndWithin len self.now }
     {
-        for range in &self.ranges {
-            if range.from > len || range.to > len {
-                return false;
-            }
-        }
-        true
+        chunks_end_within(self.chunks.as_slice(), len)
     }
 
     /// The set over the new document of some changes (RangeSet.map): each range is moved or dropped, and what stays is
     /// sorted anew. `Err`: out of memory.
     pub fn map(&self, changes: &Desc) -> Result<RangeSet<T>, AllocError>
         requires { EndWithin (old_size changes.now) self.now }
-        ensures { IfOk result (λ s. s ≡ map_ranges T.rules changes.now self.now) }
+        ensures set { IfOk result (λ s. s ≡ map_ranges T.rules changes.now self.now) }
+        ensures inside { IfOk result (λ s. EndWithin (new_size counted changes.now) s) }
     {
-        let mut ranges = mapped(*self.ranges.allocator(), self.ranges.as_slice(), changes)?;
-        sort_stably(&mut ranges)?;
-        Ok(RangeSet { ranges })
+        map_uncounted::<T, Brand>(self, changes, Blank::new(1))
     }
+
+    /// What `map` gives. A chunk whose hull meets no Replace, and in which no empty range has an end side less than its start
+    /// side, is only moved, and shared. Each other range is mapped by itself, which raises `mapped` by one; the values of
+    /// these alone are copied. `Err`: out of memory.
+    pub fn map_steps<L: Ledger>(
+        &self,
+        changes: &Desc,
+        mapped: &mut Steps<L>,
+    ) -> Result<RangeSet<T>, AllocError>
+        requires { EndWithin (old_size changes.now) self.now }
+        ensures set { IfOk result (λ s. s ≡ map_ranges T.rules changes.now self.now) }
+        ensures inside { IfOk result (λ s. EndWithin (new_size counted changes.now) s) }
+        ensures cost { mapped.new ≤ mapped.old + most_mapped T.rules changes.now self.now }
+    {
+        // The proof takes from this line that the number of ranges fits usize.
+        let _len = self.len();
+        let alloc = *self.chunks.allocator();
+        let (chunks, len) = mapped_chunks(alloc, self.chunks.as_slice(), changes, mapped)?;
+        Ok(RangeSet { chunks, len })
+    }
+}
+
+/// A set mapped with a counter of its own.
+fn map_uncounted<T: RangeValue, L: Ledger>(
+    set: &RangeSet<T>,
+    changes: &Desc,
+    blank: Blank,
+) -> Result<RangeSet<T>, AllocError>
+    requires name { blank.name ≡ L.name }
+    requires parts { blank.parts ≡ L.parts }
+    requires some { 0 < blank.parts }
+    requires inside { EndWithin (old_size changes.now) set.now }
+    ensures set { IfOk result (λ s. s ≡ map_ranges T.rules changes.now set.now) }
+    ensures inside { IfOk result (λ s. EndWithin (new_size counted changes.now) s) }
+{
+    let mut mapped: Steps<L> = Steps::new(blank);
+    set.map_steps(changes, &mut mapped)
+}
+
+/// The set of ranges that stand in order. `Err`: out of memory.
+fn set_of<T: RangeValue>(ranges: Vec<Ranged<T>>) -> Result<RangeSet<T>, AllocError>
+    requires { first_fault T.rules ranges.items ≡ None }
+    ensures { IfOk result (λ s. s ≡ ranges.items) }
+{
+    // The proof takes from this line that the number of ranges fits usize.
+    let _len = ranges.len();
+    let mut builder = ChunkBuilder::new(*ranges.allocator());
+    put_all(ranges, &mut builder)?;
+    let (chunks, len) = builder.finish()?;
+    Ok(RangeSet { chunks, len })
+}
+
+/// Whether each range of some chunks lies in a document of `len` characters: whether their hulls do.
+fn chunks_end_within<T: RangeValue>(chunks: &[Placed<T>], len: u32) -> bool
+    requires { AreChunks T.rules chunks.now }
+    ensures { IsTrue result ↔ EndWithin len (flat chunks.now) }
+{
+    for placed in chunks {
+        if placed.start + placed.chunk.reach > len {
+            return false;
+        }
+    }
+    true
 }
 
 /// The first fault of a list of ranges.
@@ -157,63 +226,56 @@ fn fault_in<T: RangeValue>(ranges: &[Ranged<T>]) -> Option<RangeError>
 }
 
 /// Whether both have the same ranges.
-fn same_ranges<T: RangeValue>(left: &[Ranged<T>], right: &[Ranged<T>]) -> bool
-    ensures { IsTrue result ↔ (left.now ≡ right.now) }
+fn same_ranges<'a, 'b, T: RangeValue>(left: Iter<'a, T>, right: Iter<'b, T>) -> bool
+    ensures { IsTrue result ↔ (left.entry ≡ right.entry) }
 {
-    if left.len() != right.len() {
-        return false;
-    }
-    for (a, b) in left.iter().zip(right) {
-        if !a.same(b) {
-            return false;
+    let mut left = left;
+    let mut right = right;
+    loop {
+        match (left.next(), right.next()) {
+            (Some(a), Some(b)) => {
+                if !a.same(&b) {
+                    return false;
+                }
+            }
+            (None, None) => return true,
+            _ => return false,
         }
     }
-    true
 }
 
-/// Copies of all ranges.
-fn copied<T: RangeValue>(alloc: Global, ranges: &[Ranged<T>]) -> Result<Vec<Ranged<T>>, AllocError>
-    ensures { IfOk result (λ v. v.items ≡ ranges.now) }
+/// The same chunks once more, shared. `Err`: out of memory.
+fn shared<T: RangeValue>(alloc: Global, chunks: &[Placed<T>]) -> Result<Vec<Placed<T>>, AllocError>
+    requires { AreChunks T.rules chunks.now }
+    ensures same { IfOk result (λ v. flat v.items ≡ flat chunks.now) }
+    ensures chunks { IfOk result (λ v. AreChunks T.rules v.items) }
 {
-    let mut copies = Vec::with_capacity(alloc, ranges.len())?;
-    for range in ranges {
-        copies.push(range.try_copy(alloc)?)?;
+    let mut copies = Vec::with_capacity(alloc, chunks.len())?;
+    for placed in chunks {
+        let chunk = placed.chunk.clone()?;
+        copies.push(Placed {
+            start: placed.start,
+            chunk,
+        })?;
     }
     Ok(copies)
 }
 
-/// The ranges that changes keep, moved, in their old order.
-fn mapped<T: RangeValue>(
+/// Copies of the ranges that `keep` allows. `Err`: out of memory.
+fn kept<'a, T: RangeValue, F: Fn(&RangeRef<'_, T>) -> bool>(
     alloc: Global,
-    ranges: &[Ranged<T>],
-    changes: &Desc,
-) -> Result<Vec<Ranged<T>>, AllocError>
-    requires { EndWithin (old_size changes.now) ranges.now }
-    ensures { IfOk result (λ v. v.items ≡ filter_map (moved T.rules changes.now) ranges.now) }
-{
-    let mut kept = Vec::new(alloc);
-    for range in ranges {
-        if let Some(moved) = range.moved(alloc, changes)? {
-            kept.push(moved)?;
-        }
-    }
-    Ok(kept)
-}
-
-/// Copies of the ranges that `keep` allows.
-fn kept<T: RangeValue, F: Fn(&Ranged<T>) -> bool>(
-    alloc: Global,
-    ranges: &[Ranged<T>],
+    ranges: Iter<'a, T>,
     keep: &F,
 ) -> Result<Vec<Ranged<T>>, AllocError>
     requires callable { F.IsAlwaysCallable keep.now }
-    requires forward { AllForward ranges.now }
-    ensures value { IfOk result (λ v. (p : _) → AnswersAs F.Fn keep.now p → v.items ≡ filter p ranges.now) }
+    requires forward { AllForward ranges }
+    ensures value { IfOk result (λ v. (p : _) → AnswersAs F.Fn keep.now p → v.items ≡ filter p ranges.entry) }
     ensures forward { IfOk result (λ v. AllForward v.items) }
 {
     let mut kept = Vec::new(alloc);
-    for range in ranges {
-        if keep(range) {
+    let mut rest = ranges;
+    while let Some(range) = rest.next() {
+        if keep(&range) {
             kept.push(range.try_copy(alloc)?)?;
         }
     }

@@ -1,14 +1,11 @@
-ghost use Rattle.std.specs.Prelude.{◌≡◌, ◌↔◌, ◌≤◌, IfOk, IsTrue, option_copied, length};
+ghost use Rattle.std.specs.Prelude.{◌≡◌, option_copied};
 ghost use Rattle.std.specs.Ordering.{is_lt};
-ghost use Rattle.change_desc.specs.Sections.{old_size};
 ghost use Rattle.range_set.specs.Order.{before, precedes};
-ghost use Rattle.range_set.specs.Mapping.{point_ends, span_ends, ends_unless_turned, new_ends, moved};
+ghost use Rattle.range_set.specs.Mapping.{is_turned};
 ghost use Rattle.range_set.specs.Ranking.{before-order};
 
 use crate::range_value::RangeValue;
-use change_desc::{Desc, MapMode};
 use stable_order::Ranked;
-use std::alloc::{AllocError, Global};
 use std::cmp::Ordering;
 
 /// A value with the range that it stands at, from the place `from` to the place `to`, in characters.
@@ -50,106 +47,10 @@ impl<T: RangeValue> Ranged<T> {
         }
     }
 
-    /// Whether both have the same ends and equal values.
-    pub(crate) fn same(&self, other: &Ranged<T>) -> bool
-        ensures { IsTrue result ↔ (self.now ≡ other.now) }
+    /// Whether it is empty with an end side that is less than its start side.
+    pub(crate) fn is_turned(&self) -> bool
+        ensures { result ≡ is_turned T.rules self.now }
     {
-        self.from == other.from && self.to == other.to && self.value.same(&other.value)
-    }
-
-    /// The same range once more. `Err`: out of memory.
-    pub(crate) fn try_copy(&self, alloc: Global) -> Result<Ranged<T>, AllocError>
-        ensures { IfOk result (λ copy. copy ≡ self.now) }
-    {
-        let value = self.value.try_copy(alloc)?;
-        Ok(Ranged {
-            from: self.from,
-            to: self.to,
-            value,
-        })
-    }
-
-    /// Where changes move its ends, unless they drop it.
-    fn new_ends(&self, changes: &Desc) -> Option<(u32, u32)>
-        requires start { self.now.from ≤ old_size changes.now }
-        requires end { self.now.to ≤ old_size changes.now }
-        ensures { result ≡ new_ends T.rules changes.now self.now }
-    {
-        let start_side = self.value.start_side();
-        let end_side = self.value.end_side();
-        let (from, to) = if self.from == self.to {
-            point_ends(self.from, start_side, end_side, self.value.mode(), changes)?
-        } else {
-            span_ends(self.from, self.to, start_side, end_side, changes)?
-        };
-        ends_unless_turned(from, to, start_side, end_side)
-    }
-
-    /// The range where changes move it, unless they drop it. `Err`: out of memory.
-    pub(crate) fn moved(
-        &self,
-        alloc: Global,
-        changes: &Desc,
-    ) -> Result<Option<Ranged<T>>, AllocError>
-        requires start { self.now.from ≤ old_size changes.now }
-        requires end { self.now.to ≤ old_size changes.now }
-        ensures { IfOk result (λ range. range ≡ moved T.rules changes.now self.now) }
-    {
-        match self.new_ends(changes) {
-            Some((from, to)) => {
-                let value = self.value.try_copy(alloc)?;
-                Ok(Some(Ranged { from, to, value }))
-            }
-            None => Ok(None),
-        }
-    }
-}
-
-/// Where the ends of an empty range go.
-fn point_ends(
-    pos: u32,
-    start_side: i32,
-    end_side: i32,
-    mode: MapMode,
-    changes: &Desc,
-) -> Option<(u32, u32)>
-    requires { pos ≤ old_size changes.now }
-    ensures { result ≡ point_ends changes.now pos start_side end_side mode }
-{
-    let from = changes.map_pos(pos, start_side, mode)?;
-    let to = changes.map_pos(pos, end_side, MapMode::Simple)?;
-    if to < from { None } else { Some((from, to)) }
-}
-
-/// Where the ends of a range that isn't empty go.
-fn span_ends(
-    from: u32,
-    to: u32,
-    start_side: i32,
-    end_side: i32,
-    changes: &Desc,
-) -> Option<(u32, u32)>
-    requires start { from ≤ old_size changes.now }
-    requires end { to ≤ old_size changes.now }
-    ensures { result ≡ span_ends changes.now from to start_side end_side }
-{
-    let new_from = changes.map_pos(from, start_side, MapMode::Simple)?;
-    let new_to = changes.map_pos(to, end_side, MapMode::Simple)?;
-    let is_dropped = new_to < new_from || (new_from == new_to && start_side > 0 && end_side <= 0);
-    if is_dropped {
-        None
-    } else {
-        Some((new_from, new_to))
-    }
-}
-
-/// The ends, unless they meet and the end side is less than the start side.
-fn ends_unless_turned(from: u32, to: u32, start_side: i32, end_side: i32) -> Option<(u32, u32)>
-    ensures { result ≡ ends_unless_turned start_side end_side from to }
-{
-    if from == to && end_side < start_side {
-        None
-    } else {
-        Some((from, to))
+        self.from == self.to && self.value.end_side() < self.value.start_side()
     }
 }

@@ -49,6 +49,18 @@ module _ {X : Type 0} (lt : X → X → Bool) where
   list_any-stable_sort q [] = refl
   list_any-stable_sort q (x ∷ xs) = list_any-insert q x (stable_sort lt xs) ∙ ap (λ b. q x || b) (list_any-stable_sort q xs)
 
+  length-insert : (x : X) (xs : List X) → length (insert_by lt x xs) ≡ suc (length xs)
+  length-insert x [] = refl
+  length-insert x (y ∷ ys) = at (lt y x) (length-insert x ys)
+    where
+      at : (b : Bool) → length (insert_by lt x ys) ≡ suc (length ys) → length (cond b (y ∷ insert_by lt x ys) (x ∷ y ∷ ys)) ≡ suc (suc (length ys))
+      at true e = ap suc e
+      at false e = refl
+
+  pub length-stable_sort : (xs : List X) → length (stable_sort lt xs) ≡ length xs
+  length-stable_sort [] = refl
+  length-stable_sort (x ∷ xs) = length-insert x (stable_sort lt xs) ∙ ap suc (length-stable_sort xs)
+
 module _ {X : Type 0} (lt : X → X → Bool) (o : IsStrictWeakOrder lt) where
   pub Rises-from_sorted : (xs : List X) → IsSortedBy lt xs → Rises lt xs
   Rises-from_sorted xs up = Rises-from_index lt xs (λ i j d le l. sorted_far lt o xs up i j d le l)
@@ -60,7 +72,7 @@ module _ {X : Type 0} (lt : X → X → Bool) (o : IsStrictWeakOrder lt) where
   ties_itself : (x : X) → ties lt x x ≡ true
   ties_itself x = let e = not_below_itself x (lt x x) refl in grind (arith, common_steps)
 
-  NoneBelow-chain : (x y : X) (ys : List X) → lt y x ≡ false → NoneBelow lt y ys → NoneBelow lt x ys
+  pub NoneBelow-chain : (x y : X) (ys : List X) → lt y x ≡ false → NoneBelow lt y ys → NoneBelow lt x ys
   NoneBelow-chain x y [] e h = tt
   NoneBelow-chain x y (z ∷ zs) e h = (o.chain z y x h.0 e, NoneBelow-chain x y zs e h.1)
 

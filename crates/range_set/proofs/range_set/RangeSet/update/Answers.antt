@@ -1,15 +1,15 @@
-use Rattle.std.proofs.Common.{subst, sym, ◌∙◌, ap}
-use Rattle.std.specs.Prelude.{None}
+use Rattle.std.proofs.Common.{None, ap, subst, sym, ◌∙◌}
 use Rattle.range_set.specs.Order.{AllForward, first_fault}
-use Rattle.range_set.proofs.RangeOrder.{forward-no_fault, forward-append, no_fault_in_sort}
+use Rattle.range_set.specs.PrivateChunks.{flat}
+use Rattle.range_set.proofs.RangeOrder.{forward-append, forward-no_fault, no_fault_in_sort}
 use Rattle.range_set.proofs.range_set.RangeSet.update.Goals as goal
 
 pub kept-requires-clause-forward : goal.kept-requires-clause-forward
 kept-requires-clause-forward g c =
-    subst AllForward (sym c.as_slice-2.ensures.value) (forward-no_fault g.T.RangeValue.rules 0 None c.self.inside.ranges.items c.self.invariant)
+    subst AllForward (sym (c.iter.ensures ∙ sym c.self.view_is)) (forward-no_fault g.T.RangeValue.rules 0 None (flat c.self.inside.chunks.items) c.self.invariant.order)
 
-pub invariant_of-result : goal.invariant_of-result
-invariant_of-result g c =
+pub set_of-requires : goal.set_of-requires
+set_of-requires g c =
     let r = g.T.RangeValue.rules in
     let added : AllForward c.args.add.items = forward-no_fault r 0 None c.args.add.items (ap (first_fault r) (sym c.as_slice.ensures.value) ∙ sym c.fault_in.ensures.value ∙ c.in-None.is) in
     let all : AllForward c.append.new.self.items = subst AllForward (sym c.in_ok-append.ensures.items) (forward-append c.in_ok-ranges.ranges.items c.args.add.items c.in_ok-ranges.ensures.forward added) in

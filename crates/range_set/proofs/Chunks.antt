@@ -1,0 +1,188 @@
+-- Chunks and builders of them, seen as lists of ranges.
+use Rattle.std.proofs.Common.{◌≡◌, ℕ, zero, suc, ◌+◌, ◌-◌, ◌^◌, ◌<◌, ◌≤◌, max, Bool, true, false, ◌&&◌, ◌||◌, List, [], ◌∷◌, ◌++◌, length, get_or, take, drop, map, refl, sym, ◌∙◌, ap, subst, arith, append_assoc}
+use Rattle.std.proofs.lemmas.List.{append-nil, map-append, length_push, length-append, length-map, take_more}
+use Rattle.std.proofs.lemmas.List.Folds.{list_any-append}
+use Rattle.std.proofs.lemmas.Bool.Decides.{nat_tests}
+use Rattle.std.specs.Prelude.{nat_lt, ◌==◌, int_lt, ℤ}
+use Rattle.std.specs.List.{list_any}
+use Rattle.range_set.specs.Rules.{RangeRules}
+use Rattle.range_set.specs.Order.{AllForward}
+use Rattle.range_set.specs.Mapping.{is_turned}
+use Rattle.range_set.specs.PrivateChunks.{AreChunks, AreSound, Ascend, BeginBy, EndBy, Fit, HaveHulls, IsBuilder, IsChunk, IsRest, built, first_start, flat, greatest_end, shift}
+use Rattle.range_set.specs.declared.ranged.Ranged.{Ranged}
+use Rattle.range_set.specs.declared.chunk.Placed.{Placed}
+use Rattle.range_set.specs.declared.chunk.Chunk.{Chunk}
+use Rattle.range_set.specs.declared.chunk_builder.ChunkBuilder.{ChunkBuilder}
+use Rattle.range_set.proofs.RangeOrder.{forward-append}
+
+pub not_less : (a b : ℕ) → nat_lt a b ≡ false → b ≤ a
+not_less a b h = grind (arith, nat_tests)
+
+pub is_not_less : (a b : ℕ) → b ≤ a → nat_lt a b ≡ false
+is_not_less a b h = grind (arith, nat_tests)
+
+shift_forward : (a b by : ℕ) → nat_lt a b ≡ false → nat_lt (a + by) (b + by) ≡ false
+shift_forward a b by h = grind (arith, nat_tests)
+
+same-shifted : (a b by : ℕ) → (a + by == b + by) ≡ (a == b)
+same-shifted a b by = grind (arith, nat_tests)
+
+-- a test that holds, and one that doesn't
+pub or_first : (x s t : Bool) → x ≡ s → s ≡ true → x ≡ (s || t)
+or_first x true t e h = e
+or_first x false t e h = cc
+
+pub or_second : (x s t : Bool) → x ≡ t → s ≡ false → x ≡ (s || t)
+or_second x true t e h = cc
+or_second x false t e h = e
+
+pub nonempty : (n len : ℕ) → (len == 0) ≡ false → len ≡ n → 1 ≤ n
+nonempty n len h e = grind (arith, nat_tests)
+
+module _ {T : Type 0} where
+  pub flat-append : (ps qs : List (Placed T)) → flat (ps ++ qs) ≡ flat ps ++ flat qs
+  flat-append [] qs = refl
+  flat-append (p ∷ ps) qs =
+      ap (λ r. map (shift p.start) p.chunk.value.ranges.items ++ r) (flat-append ps qs)
+      ∙ sym (append_assoc (map (shift p.start) p.chunk.value.ranges.items) (flat ps) (flat qs))
+
+  pub flat-push : (ps : List (Placed T)) (p : Placed T) → flat (ps ++ p ∷ []) ≡ flat ps ++ map (shift p.start) p.chunk.value.ranges.items
+  flat-push ps p = flat-append ps (p ∷ []) ∙ ap (λ r. flat ps ++ r) (append-nil (map (shift p.start) p.chunk.value.ranges.items))
+
+  greatest-push : (rs : List (Ranged T)) (r : Ranged T) → greatest_end (rs ++ r ∷ []) ≡ max (greatest_end rs) r.to
+  greatest-push [] r = omega arith
+  greatest-push (q ∷ rs) r = let e = greatest-push rs r in omega (arith, e)
+
+  first-push : (rs : List (Ranged T)) (r : Ranged T) → first_start rs ≡ 0 → (rs ≡ [] → r.from ≡ 0) → first_start (rs ++ r ∷ []) ≡ 0
+  first-push [] r h k = k refl
+  first-push (q ∷ rs) r h k = h
+
+  pub end_by_greatest : (rs : List (Ranged T)) (n : ℕ) → greatest_end rs ≤ n → EndBy n rs
+  end_by_greatest [] n h = tt
+  end_by_greatest (r ∷ rs) n h = (omega (arith, h), end_by_greatest rs n (omega (arith, h)))
+
+  -- ranges of a chunk fit their type
+  pub fit_shifted : (start reach : ℕ) (rs : List (Ranged T)) → AllForward rs → EndBy reach rs → start + reach < 2 ^ 32 → Fit (map (shift start) rs)
+  fit_shifted start reach [] f h l = tt
+  fit_shifted start reach (r ∷ rs) f h l =
+      let k = not_less r.to r.from f.0 in
+      ((omega (arith, h.0, k), omega (arith, h.0)), fit_shifted start reach rs f.1 h.1 l)
+
+  pub Fit-append : (xs ys : List (Ranged T)) → Fit xs → Fit ys → Fit (xs ++ ys)
+  Fit-append [] ys h k = k
+  Fit-append (x ∷ xs) ys h k = (h.0, Fit-append xs ys h.1 k)
+
+  forward_shifted : (start : ℕ) (rs : List (Ranged T)) → AllForward rs → AllForward (map (shift start) rs)
+  forward_shifted start [] h = tt
+  forward_shifted start (r ∷ rs) h = (shift_forward r.to r.from start h.0, forward_shifted start rs h.1)
+
+  pub begin_by_append : (n : ℕ) (xs ys : List (Ranged T)) → BeginBy n (xs ++ ys) → BeginBy n ys
+  begin_by_append n [] ys h = h
+  begin_by_append n (x ∷ xs) ys h = begin_by_append n xs ys h.1
+
+  -- an open chunk begins where its first range does
+  pub begins_by : (n start : ℕ) (rs : List (Ranged T)) → (rs ≡ [] → ⊥) → first_start rs ≡ 0 → BeginBy n (map (shift start) rs) → start ≤ n
+  begins_by n start [] some h b = absurd (some refl)
+  begins_by n start (r ∷ rs) some h b = omega (arith, h, b.0)
+
+  pub ascend-begin : (n : ℕ) (xs : List (Ranged T)) (r : Ranged T) (rest : List (Ranged T)) → Ascend n (xs ++ r ∷ rest) → n ≤ r.from
+  ascend-begin n [] r rest h = h.0
+  ascend-begin n (x ∷ xs) r rest h = let k = ascend-begin x.from xs r rest h.1 in omega (arith, h.0, k)
+
+  pub begin_by-next : (n : ℕ) (xs : List (Ranged T)) (r : Ranged T) (rest : List (Ranged T)) → Ascend n (xs ++ r ∷ rest) → BeginBy r.from xs
+  begin_by-next n [] r rest h = tt
+  begin_by-next n (x ∷ xs) r rest h = (ascend-begin x.from xs r rest h.1, begin_by-next x.from xs r rest h.1)
+
+  pub ascend-prefix : (n : ℕ) (xs ys : List (Ranged T)) → Ascend n (xs ++ ys) → Ascend n xs
+  ascend-prefix n [] ys h = tt
+  ascend-prefix n (x ∷ xs) ys h = (h.0, ascend-prefix x.from xs ys h.1)
+
+  pub ascend-less : (m n : ℕ) (xs : List (Ranged T)) → m ≤ n → Ascend n xs → Ascend m xs
+  ascend-less m n [] l h = tt
+  ascend-less m n (x ∷ xs) l h = (omega (arith, h.0), h.1)
+
+  pub ascend-rest : (n : ℕ) (xs ys : List (Ranged T)) → Ascend n (xs ++ ys) → Ascend n ys
+  ascend-rest n [] ys h = h
+  ascend-rest n (x ∷ xs) ys h = ascend-less n x.from ys h.0 (ascend-rest x.from xs ys h.1)
+
+module _ {T : Type 0} (rules : RangeRules T) where
+  pub turned-shifted : (start : ℕ) (r : Ranged T) → is_turned rules (shift start r) ≡ is_turned rules r
+  turned-shifted start r = ap (λ b. b && int_lt (rules.end_side r.value) (rules.start_side r.value)) (same-shifted r.from r.to start)
+
+  -- a range that counts from a place, as one that doesn't
+  abbrev pub counted_from : ℕ → Ranged T → Ranged T
+  counted_from start r = record { from = r.from - start; to = r.to - start; value = r.value }
+
+  turned-counted : (start : ℕ) (r : Ranged T) → start ≤ r.from → start ≤ r.to → is_turned rules (counted_from start r) ≡ is_turned rules r
+  turned-counted start r l m = ap (λ b. b && int_lt (rules.end_side r.value) (rules.start_side r.value)) (same r.from r.to l m)
+    where
+      same : (a b : ℕ) → start ≤ a → start ≤ b → (a - start == b - start) ≡ (a == b)
+      same a b l m = grind (arith, nat_tests)
+
+  pub put_chunk : (start : ℕ) (before after : Chunk T) (r : Ranged T) → IsChunk rules start before → length before.ranges.items < 128 → start ≤ r.from → r.from ≤ r.to → r.to < 2 ^ 32
+      → (before.ranges.items ≡ [] → r.from ≡ start) → after.ranges.items ≡ before.ranges.items ++ counted_from start r ∷ []
+      → after.reach ≡ max before.reach (r.to - start) → after.is_turned ≡ (before.is_turned || is_turned rules r) → IsChunk rules start after
+  put_chunk start before after r h room l f t first items reach turned =
+      let x : Ranged T = counted_from start r in
+      record {
+        few = rw items (omega (arith, length_push before.ranges.items x));
+        first = rw items (first-push before.ranges.items x h.first (λ e. let k = first e in omega (arith, k)));
+        forward = rw items (forward-append before.ranges.items (x ∷ []) h.forward (is_not_less (r.to - start) (r.from - start) (omega arith), tt));
+        reach = reach ∙ (ap (λ n. max n (r.to - start)) h.reach ∙ (sym (greatest-push before.ranges.items x) ∙ ap greatest_end (sym items)));
+        turned = turned ∙ (ap (λ b. b || is_turned rules r) h.turned
+            ∙ (ap (λ b. list_any (is_turned rules) before.ranges.items || b) (sym (turned-counted start r l (omega arith)) ∙ sym (or_false (is_turned rules x)))
+            ∙ (sym (list_any-append (is_turned rules) before.ranges.items (x ∷ [])) ∙ ap (list_any (is_turned rules)) (sym items))));
+        fits = let k = h.fits in omega (arith, reach);
+      }
+    where
+      or_false : (b : Bool) → (b || false) ≡ b
+      or_false true = refl
+      or_false false = refl
+
+  pub shift_counted : (start : ℕ) (r : Ranged T) → start ≤ r.from → start ≤ r.to → shift start (counted_from start r) ≡ r
+  shift_counted start r l m =
+      let f : r.from - start + start ≡ r.from = omega arith in
+      let t : r.to - start + start ≡ r.to = omega arith in
+      ap (λ n. let q : Ranged T = record { from = n; to = r.to - start + start; value = r.value } in q) f
+      ∙ ap (λ n. let q : Ranged T = record { from = r.from; to = n; value = r.value } in q) t
+
+  pub put_ranges : (start : ℕ) (before after : List (Ranged T)) (r : Ranged T) → start ≤ r.from → start ≤ r.to → after ≡ before ++ counted_from start r ∷ [] → map (shift start) after ≡ map (shift start) before ++ r ∷ []
+  put_ranges start before after r l m e =
+      ap (map (shift start)) e ∙ (map-append (shift start) before (counted_from start r ∷ []) ∙ ap (λ q. map (shift start) before ++ q ∷ []) (shift_counted start r l m))
+
+  pub AreChunks-push : (ps : List (Placed T)) (p : Placed T) → AreChunks rules ps → IsChunk rules p.start p.chunk.value → 1 ≤ length p.chunk.value.ranges.items → AreChunks rules (ps ++ p ∷ [])
+  AreChunks-push [] p h k some = ((k, some), tt)
+  AreChunks-push (q ∷ ps) p h k some = (h.0, AreChunks-push ps p h.1 k some)
+
+  pub chunk-at : (ps : List (Placed T)) (i : ℕ) (p : Placed T) → i < length ps → p ≡ get_or ps i p → AreChunks rules ps → IsChunk rules p.start p.chunk.value × (1 ≤ length p.chunk.value.ranges.items)
+  chunk-at [] i p l e h = absurd (omega arith)
+  chunk-at (q ∷ ps) zero p l e h = subst (λ (x : Placed T). IsChunk rules x.start x.chunk.value × (1 ≤ length x.chunk.value.ranges.items)) (sym e) h.0
+  chunk-at (q ∷ ps) (suc i) p l e h = chunk-at ps i p (omega arith) e h.1
+
+  pub hulls : (ps : List (Placed T)) → AreChunks rules ps → HaveHulls ps
+  hulls [] h = tt
+  hulls (p ∷ ps) h =
+      let k : greatest_end p.chunk.value.ranges.items ≤ p.chunk.value.reach = omega (arith, h.0.0.reach) in
+      ((end_by_greatest p.chunk.value.ranges.items p.chunk.value.reach k, h.0.0.fits), hulls ps h.1)
+
+  pub fit_flat : (ps : List (Placed T)) → AreChunks rules ps → Fit (flat ps)
+  fit_flat [] h = tt
+  fit_flat (p ∷ ps) h =
+      let k : greatest_end p.chunk.value.ranges.items ≤ p.chunk.value.reach = omega (arith, h.0.0.reach) in
+      Fit-append (map (shift p.start) p.chunk.value.ranges.items) (flat ps)
+      (fit_shifted p.start p.chunk.value.reach p.chunk.value.ranges.items h.0.0.forward (end_by_greatest p.chunk.value.ranges.items p.chunk.value.reach k) h.0.0.fits)
+      (fit_flat ps h.1)
+
+  pub is_rest : (ps : List (Placed T)) → AreChunks rules ps → IsRest (flat ps) ps
+  is_rest ps h = record { fit = fit_flat ps h; hulls = hulls ps h }
+
+  -- one more chunk after those of a builder, of which none grows
+  pub share_built : (done ended after : List (Placed T)) (start at : ℕ) (before none : List (Ranged T)) (p : Placed T) → flat ended ≡ flat done ++ map (shift start) before → none ≡ []
+      → after ≡ ended ++ p ∷ [] → flat after ++ map (shift at) none ≡ flat done ++ map (shift start) before ++ map (shift p.start) p.chunk.value.ranges.items
+  share_built done ended after start at before none p e n a =
+      ap (λ rs. flat after ++ map (shift at) rs) n
+      ∙ (append-nil (flat after) ∙ (ap flat a ∙ (flat-push ended p ∙ ap (λ rs. rs ++ map (shift p.start) p.chunk.value.ranges.items) e)))
+
+  pub length_shifted : (start : ℕ) (rs : List (Ranged T)) → length (map (shift start) rs) ≡ length rs
+  length_shifted start [] = refl
+  length_shifted start (r ∷ rs) = ap suc (length_shifted start rs)

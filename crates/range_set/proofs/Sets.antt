@@ -1,0 +1,118 @@
+-- Sets of chunks as a whole: their ends, and where a mapped set lies.
+use Rattle.std.proofs.Common.{◌≡◌, ℕ, zero, suc, ◌+◌, ◌^◌, ◌<◌, ◌≤◌, Bool, true, false, ◌&&◌, ◌||◌, cond, List, [], ◌∷◌, ◌++◌, length, get_or, take, map, filter_map, Option, Some, None, refl, sym, ap, subst, ◌∙◌, arith}
+use Rattle.std.proofs.lemmas.List.{append-nil, take_more}
+use Rattle.std.specs.List.{cons_option}
+use Rattle.std.specs.Prelude.{IfSome, nat_lt, ◌==◌, int_lt, int_le, ℤ, pos, option_map, option_and_then}
+use Rattle.change_desc.specs.Sections.{counted, new_size}
+use Rattle.change_desc.specs.Positions.{is_negative, map_pos}
+use Rattle.change_desc.specs.declared.map_mode.MapMode.{MapMode}
+use Rattle.change_desc.specs.declared.map_mode.MapMode.TheVariants.{Simple}
+use Rattle.change_desc.proofs.Bounds.{map_pos-within}
+use Rattle.stable_order.specs.StableSort.{insert_by, stable_sort}
+use Rattle.range_set.specs.Rules.{RangeRules}
+use Rattle.range_set.specs.Order.{AllForward, before}
+use Rattle.range_set.specs.Mapping.{Ends, EndWithin, ends_unless_turned, map_ranges, moved, new_ends, place_of, point_ends, span_ends}
+use Rattle.range_set.specs.PrivateChunks.{AreChunks, EndBy, IsChunk, flat, greatest_end, shift}
+use Rattle.range_set.specs.declared.ranged.Ranged.{Ranged}
+use Rattle.range_set.specs.declared.chunk.Placed.{Placed}
+use Rattle.range_set.specs.declared.chunk.Chunk.{Chunk}
+use Rattle.range_set.proofs.Chunks.{AreChunks-push, chunk-at, end_by_greatest, flat-push, not_less}
+use Rattle.range_set.proofs.Clear.{Sections}
+use Rattle.range_set.proofs.Each.{Within, end_within, within}
+use Rattle.range_set.proofs.Walked.{hull_within, within_prefix, within_rest}
+
+-- ends that lie in a text, if there are any
+abbrev EndsIn : ℕ → Ends → Type 0
+EndsIn n None = Unit {0}
+EndsIn n (Some e) = (e.0 ≤ n) × (e.1 ≤ n)
+
+in_unless : (n : ℕ) (b : Bool) (p q : ℕ) → p ≤ n → q ≤ n → EndsIn n (cond b None (Some (p, q)))
+in_unless n true p q l m = tt
+in_unless n false p q l m = (l, m)
+
+point_in : (d : Sections) (place : ℕ) (s e : ℤ) (m : MapMode) → EndsIn (new_size counted d) (point_ends d place s e m)
+point_in d place s e m = at (place_of d place s m) (place_of d place e Simple) (map_pos-within d place (is_negative s) m) (map_pos-within d place (is_negative e) Simple)
+  where
+    at : (o o' : Option ℕ) → IfSome o (λ q. q ≤ new_size counted d) → IfSome o' (λ q. q ≤ new_size counted d)
+        → EndsIn (new_size counted d) (option_and_then (λ from. option_and_then (λ to. cond (nat_lt to from) None (Some (from, to))) o') o)
+    at None o' h k = tt
+    at (Some from) None h k = tt
+    at (Some from) (Some to) h k = in_unless (new_size counted d) (nat_lt to from) from to h k
+
+span_in : (d : Sections) (from to : ℕ) (s e : ℤ) → EndsIn (new_size counted d) (span_ends d from to s e)
+span_in d from to s e = at (place_of d from s Simple) (place_of d to e Simple) (map_pos-within d from (is_negative s) Simple) (map_pos-within d to (is_negative e) Simple)
+  where
+    at : (o o' : Option ℕ) → IfSome o (λ q. q ≤ new_size counted d) → IfSome o' (λ q. q ≤ new_size counted d)
+        → EndsIn (new_size counted d) (option_and_then (λ p. option_and_then (λ q. cond (nat_lt q p || (p == q && int_lt (pos 0) s && int_le e (pos 0))) None (Some (p, q))) o') o)
+    at None o' h k = tt
+    at (Some p) None h k = tt
+    at (Some p) (Some q) h k = in_unless (new_size counted d) (nat_lt q p || (p == q && int_lt (pos 0) s && int_le e (pos 0))) p q h k
+
+turned_in : (n : ℕ) (s e : ℤ) (o : Ends) → EndsIn n o → EndsIn n (option_and_then (λ ends. ends_unless_turned s e ends.0 ends.1) o)
+turned_in n s e None h = tt
+turned_in n s e (Some p) h = in_unless n (p.0 == p.1 && int_lt e s) p.0 p.1 h.0 h.1
+
+module _ {T : Type 0} (rules : RangeRules T) (d : Sections) where
+  ends_in : (r : Ranged T) → EndsIn (new_size counted d) (new_ends rules d r)
+  ends_in r = turned_in (new_size counted d) (rules.start_side r.value) (rules.end_side r.value) _ (at (r.from == r.to))
+    where
+      at : (b : Bool) → EndsIn (new_size counted d) (cond b (point_ends d r.from (rules.start_side r.value) (rules.end_side r.value) (rules.mode r.value)) (span_ends d r.from r.to (rules.start_side r.value) (rules.end_side r.value)))
+      at true = point_in d r.from (rules.start_side r.value) (rules.end_side r.value) (rules.mode r.value)
+      at false = span_in d r.from r.to (rules.start_side r.value) (rules.end_side r.value)
+
+  images_in : (rs : List (Ranged T)) → Within (new_size counted d) (filter_map (moved rules d) rs)
+  images_in [] = tt
+  images_in (r ∷ rs) = at (new_ends rules d r) (ends_in r) (images_in rs)
+    where
+      at : (o : Ends) → EndsIn (new_size counted d) o → Within (new_size counted d) (filter_map (moved rules d) rs)
+          → Within (new_size counted d) (cons_option (option_map (λ (es : ℕ × ℕ). let q : Ranged T = record { from = es.0; to = es.1; value = r.value } in q) o) (filter_map (moved rules d) rs))
+      at None h k = k
+      at (Some e) h k = (h, k)
+
+  insert_in : (n : ℕ) (r : Ranged T) (rs : List (Ranged T)) → (r.from ≤ n) × (r.to ≤ n) → Within n rs → Within n (insert_by (before rules) r rs)
+  insert_in n r [] h k = (h, tt)
+  insert_in n r (q ∷ rs) h k =
+      elim (before rules q r) as (λ b. Within n (cond b (q ∷ insert_by (before rules) r rs) (r ∷ q ∷ rs)))
+      [ true ↦ (k.0, insert_in n r rs h k.1) | false ↦ (h, k) ]
+
+  sort_in : (n : ℕ) (rs : List (Ranged T)) → Within n rs → Within n (stable_sort (before rules) rs)
+  sort_in n [] h = tt
+  sort_in n (r ∷ rs) h = insert_in n r (stable_sort (before rules) rs) h.0 (sort_in n rs h.1)
+
+  pub map_in : (rs : List (Ranged T)) → EndWithin (new_size counted d) (map_ranges rules d rs)
+  map_in rs = end_within (new_size counted d) (map_ranges rules d rs) (sort_in (new_size counted d) (filter_map (moved rules d) rs) (images_in rs))
+
+module _ {T : Type 0} (rules : RangeRules T) where
+  -- a chunk lies in a text where its hull does
+  hull_in : (len start reach : ℕ) (rs : List (Ranged T)) → AllForward rs → EndBy reach rs → start + reach ≤ len → Within len (map (shift start) rs)
+  hull_in len start reach [] f e l = tt
+  hull_in len start reach (r ∷ rs) f e l = let k = not_less r.to r.from f.0 in ((omega (arith, e.0, k), omega (arith, e.0)), hull_in len start reach rs f.1 e.1 l)
+
+  within_both : (len : ℕ) (xs ys : List (Ranged T)) → Within len xs → Within len ys → Within len (xs ++ ys)
+  within_both len [] ys h k = k
+  within_both len (x ∷ xs) ys h k = (h.0, within_both len xs ys h.1 k)
+
+  pub within_push : (len : ℕ) (ps : List (Placed T)) (i : ℕ) (p : Placed T) → i < length ps → p ≡ get_or ps i p → AreChunks rules ps → p.start + p.chunk.value.reach ≤ len → Within len (flat (take i ps)) → Within len (flat (take (i + 1) ps))
+  within_push len ps i p l e h k w =
+      let chunk = chunk-at rules ps i p l e h in
+      let reach = chunk.0.reach in
+      subst (λ qs. Within len (flat qs)) (sym (take_more ps i p l ∙ ap (λ x. take i ps ++ x ∷ []) (sym e)))
+      (subst (Within len) (sym (flat-push (take i ps) p))
+      (within_both len (flat (take i ps)) _ w (hull_in len p.start p.chunk.value.reach p.chunk.value.ranges.items chunk.0.forward (end_by_greatest p.chunk.value.ranges.items p.chunk.value.reach (omega (arith, reach))) k)))
+
+  pub hull_of : (len : ℕ) (ps : List (Placed T)) (i : ℕ) (p : Placed T) → i < length ps → p ≡ get_or ps i p → AreChunks rules ps → Within len (flat ps) → p.start + p.chunk.value.reach ≤ len
+  hull_of len [] i p l e h w = absurd (omega arith)
+  hull_of len (q ∷ ps) zero p l e h w =
+      let k = hull_within rules [] len q.start q.chunk.value.ranges.items h.0.1 (within_prefix len (map (shift q.start) q.chunk.value.ranges.items) (flat ps) w) in
+      let r = h.0.0.reach in
+      subst (λ (x : Placed T). x.start + x.chunk.value.reach ≤ len) (sym e) (omega (arith, k, r))
+  hull_of len (q ∷ ps) (suc i) p l e h w = hull_of len ps i p (omega arith) e h.1 (within_rest len (map (shift q.start) q.chunk.value.ranges.items) (flat ps) w)
+
+  -- one more chunk that is shared
+  pub flat_shared : (ps done after : List (Placed T)) (i : ℕ) (p q : Placed T) → i < length ps → p ≡ get_or ps i p → q.start ≡ p.start → q.chunk.value ≡ p.chunk.value → flat done ≡ flat (take i ps) → after ≡ done ++ q ∷ [] → flat after ≡ flat (take (i + 1) ps)
+  flat_shared ps done after i p q l e s v h a =
+      ap flat a ∙ (flat-push done q
+      ∙ (ap (λ n. flat done ++ map (shift n) q.chunk.value.ranges.items) s
+      ∙ (ap (λ (ch : Chunk T). flat done ++ map (shift p.start) ch.ranges.items) v
+      ∙ (ap (λ xs. xs ++ map (shift p.start) p.chunk.value.ranges.items) h
+      ∙ sym (ap flat (take_more ps i p l ∙ ap (λ x. take i ps ++ x ∷ []) (sym e)) ∙ flat-push (take i ps) p)))))

@@ -1,0 +1,209 @@
+-- One chunk after another, as they are mapped.
+use Rattle.std.proofs.Common.{◌≡◌, ℕ, zero, suc, ◌+◌, ◌^◌, ◌<◌, ◌≤◌, Bool, true, false, ◌||◌, cond, List, [], ◌∷◌, ◌++◌, length, get_or, take, drop, map, filter_map, Some, add-one, refl, sym, ap, subst, ◌∙◌, arith}
+use Rattle.std.specs.List.{list_any}
+use Rattle.std.specs.Prelude.{IfSome}
+use Rattle.change_desc.specs.Sections.{counted, new_size, old_size}
+use Rattle.change_desc.specs.Ranges.{meets, replaced}
+use Rattle.change_desc.specs.declared.changed_range.ChangedRange.{ChangedRange}
+use Rattle.change_desc.specs.declared.map_mode.MapMode.TheVariants.{Simple}
+use Rattle.change_desc.proofs.Bounds.{map_pos-within}
+use Rattle.stable_order.specs.StableSort.{stable_sort}
+use Rattle.stable_order.proofs.StableSort.{Rises}
+use Rattle.range_set.specs.Rules.{RangeRules}
+use Rattle.range_set.specs.Order.{AllForward, before}
+use Rattle.range_set.proofs.RangeOrder.{forward_filtered, forward_moved}
+use Rattle.range_set.specs.Mapping.{is_turned, moved}
+use Rattle.range_set.specs.PrivateChunks.{AreChunks, Ascend, BeginBy, EndBy, IsChunk, first_start, flat, greatest_end, shift}
+use Rattle.range_set.specs.declared.ranged.Ranged.{Ranged}
+use Rattle.range_set.specs.declared.chunk.Placed.{Placed}
+use Rattle.range_set.proofs.Chunks.{ascend-less, ascend-prefix, ascend-rest, begin_by-next, end_by_greatest, length_shifted}
+use Rattle.range_set.proofs.Clear.{IsClear, Sections, clear_apart, clear_place, map_pos-clear, none-narrow}
+use Rattle.range_set.proofs.ClearChunks.{clear_each, clear_shifts}
+use Rattle.range_set.proofs.Cost.{allowance, chunk_affected}
+use Rattle.range_set.proofs.Each.{Within}
+use Rattle.range_set.proofs.Under.{ClearEach, IsUnder, StartIn, at_clear, rises_ascend, under_clear, under_each, under_init, under_order}
+
+or_left : (a b : Bool) → (a || b) ≡ false → a ≡ false
+or_left false b h = refl
+or_left true b h = h
+
+or_right : (a b : Bool) → (a || b) ≡ false → b ≡ false
+or_right false b h = h
+or_right true b h = cc
+
+module _ {T : Type 0} where
+  pub rest_at : (ps : List (Placed T)) (i : ℕ) (p : Placed T) → i < length ps → p ≡ get_or ps i p → drop i ps ≡ p ∷ drop (i + 1) ps
+  rest_at ps i p l e = at ps i p l e ∙ ap (λ n. p ∷ drop n ps) (sym (add-one i))
+    where
+      at : (ps : List (Placed T)) (i : ℕ) (p : Placed T) → i < length ps → p ≡ get_or ps i p → drop i ps ≡ p ∷ drop (suc i) ps
+      at [] i p l e = absurd (omega arith)
+      at (q ∷ ps) zero p l e = ap (λ x. x ∷ ps) (sym e)
+      at (q ∷ ps) (suc i) p l e = at ps i p (omega arith) e
+
+  -- the next chunk begins at a place or before
+  abbrev pub StartsBy : ℕ → List (Placed T) → Type 0
+  StartsBy a [] = ⊥
+  StartsBy a (p ∷ ps) = p.start ≤ a
+
+  pub within_prefix : (len : ℕ) (xs ys : List (Ranged T)) → Within len (xs ++ ys) → Within len xs
+  within_prefix len [] ys h = tt
+  within_prefix len (x ∷ xs) ys h = (h.0, within_prefix len xs ys h.1)
+
+  pub within_rest : (len : ℕ) (xs ys : List (Ranged T)) → Within len (xs ++ ys) → Within len ys
+  within_rest len [] ys h = h
+  within_rest len (x ∷ xs) ys h = within_rest len xs ys h.1
+
+module _ {T : Type 0} (rules : RangeRules T) (d : Sections) where
+  pub start_in : (xs : List (Ranged T)) → Within (old_size d) xs → StartIn rules d xs
+  start_in [] h = tt
+  start_in (x ∷ xs) h = (h.0.0, start_in xs h.1)
+
+  -- a chunk begins where its first range does
+  begins_at : (n start : ℕ) (rs : List (Ranged T)) → 1 ≤ length rs → first_start rs ≡ 0 → BeginBy n (map (shift start) rs) → start ≤ n
+  begins_at n start [] some f b = absurd (omega arith)
+  begins_at n start (r ∷ rs) some f b = omega (arith, f, b.0)
+
+  pub starts_on : (n a : ℕ) (p : Placed T) (ps : List (Placed T)) → AreChunks rules (p ∷ ps) → Ascend n (flat (p ∷ ps)) → StartsBy a ps → p.start ≤ a
+  starts_on n a p [] h asc s = absurd s
+  starts_on n a p (q ∷ ps) h asc s = at q.chunk.value.ranges.items h.1.0.1 h.1.0.0.first asc
+    where
+      at : (rs : List (Ranged T)) → 1 ≤ length rs → first_start rs ≡ 0 → Ascend n (map (shift p.start) p.chunk.value.ranges.items ++ (map (shift q.start) rs ++ flat ps)) → p.start ≤ a
+      at [] some f asc = absurd (omega arith)
+      at (r ∷ rs) some f asc =
+          let b = begin_by-next n (map (shift p.start) p.chunk.value.ranges.items) (shift q.start r) (map (shift q.start) rs ++ flat ps) asc in
+          let k = begins_at (r.from + q.start) p.start p.chunk.value.ranges.items h.0.1 h.0.0.first b in omega (arith, k, f, s)
+
+  -- what is after a chunk begins no earlier than it
+  ascend_start : (n start : ℕ) (rs ys : List (Ranged T)) → 1 ≤ length rs → first_start rs ≡ 0 → Ascend n (map (shift start) rs ++ ys) → (n ≤ start) × Ascend start ys
+  ascend_start n start [] ys some f h = absurd (omega arith)
+  ascend_start n start (r ∷ rs) ys some f h =
+      (omega (arith, h.0, f), ascend-less start (r.from + start) ys (omega (arith, f)) (ascend-rest (r.from + start) (map (shift start) rs) ys h.1))
+
+  within_start : (len start : ℕ) (rs ys : List (Ranged T)) → 1 ≤ length rs → first_start rs ≡ 0 → Within len (map (shift start) rs ++ ys) → start ≤ len
+  within_start len start [] ys some f h = absurd (omega arith)
+  within_start len start (r ∷ rs) ys some f h = omega (arith, h.0.0, f)
+
+  -- Chunks of which some are mapped: what is done and the run that is to be sorted, how far the walk came, and the replaced ranges
+  -- that may still be met.
+  pub record IsWalked (whole : List (Ranged T)) (rest : List (Placed T)) (done run : List (Ranged T)) (reached : ℕ) (reps : List ChangedRange) : Type 0 where
+    pub under : IsUnder rules d whole done run (flat rest)
+    pub chunks : AreChunks rules rest
+    pub within : Within (old_size d) (flat rest)
+    pub ascend : Ascend reached (flat rest)
+    pub same : (a b : ℕ) → StartsBy a rest → list_any (meets a b) reps ≡ list_any (meets a b) (replaced d)
+
+  pub walked_init : (ps : List (Placed T)) (reps : List ChangedRange) → AreChunks rules ps → Rises (before rules) (flat ps) → Within (old_size d) (flat ps) → reps ≡ replaced d → IsWalked (flat ps) ps [] [] 0 reps
+  walked_init ps reps h r w e = record {
+    under = under_init rules d (flat ps) r;
+    chunks = h;
+    within = w;
+    ascend = rises_ascend rules (flat ps) r;
+    same = λ a b s. ap (list_any (meets a b)) e;
+  }
+
+  -- whether a chunk's ranges are mapped by themselves is seen by the replaced ranges that are left
+  pub affected_same : (whole : List (Ranged T)) (p : Placed T) (rest : List (Placed T)) (done run : List (Ranged T)) (reached : ℕ) (reps after : List ChangedRange) → IsWalked whole (p ∷ rest) done run reached reps
+      → ((a b : ℕ) → p.start ≤ a → list_any (meets a b) after ≡ list_any (meets a b) reps) → (b : Bool)
+      → b ≡ (p.chunk.value.is_turned || list_any (meets p.start (p.start + p.chunk.value.reach)) after) → b ≡ chunk_affected rules d p
+  affected_same whole p rest done run reached reps after h f b e =
+      e ∙ ap (λ x. p.chunk.value.is_turned || x) (f p.start _ (omega arith) ∙ h.same p.start _ (omega arith))
+
+  next_same : (whole : List (Ranged T)) (p : Placed T) (rest : List (Placed T)) (done run : List (Ranged T)) (reached : ℕ) (reps after : List ChangedRange) → IsWalked whole (p ∷ rest) done run reached reps
+      → ((a b : ℕ) → p.start ≤ a → list_any (meets a b) after ≡ list_any (meets a b) reps) → (a b : ℕ) → StartsBy a rest → list_any (meets a b) after ≡ list_any (meets a b) (replaced d)
+  next_same whole p rest done run reached reps after h f a b s =
+      let l = starts_on reached a p rest h.chunks h.ascend s in f a b l ∙ h.same a b l
+
+  pub walked_each : (whole : List (Ranged T)) (p : Placed T) (rest : List (Placed T)) (done run more : List (Ranged T)) (reached next : ℕ) (reps after : List ChangedRange) → IsWalked whole (p ∷ rest) done run reached reps
+      → ((a b : ℕ) → p.start ≤ a → list_any (meets a b) after ≡ list_any (meets a b) reps)
+      → more ≡ run ++ filter_map (moved rules d) (map (shift p.start) p.chunk.value.ranges.items)
+      → ((later : List (Ranged T)) → Ascend reached (map (shift p.start) p.chunk.value.ranges.items ++ later) → Ascend next later)
+      → IsWalked whole rest done more next after
+  walked_each whole p rest done run more reached next reps after h f e g = record {
+    under = under_each rules d whole done run (map (shift p.start) p.chunk.value.ranges.items) (flat rest) more h.under e;
+    chunks = h.chunks.1;
+    within = within_rest (old_size d) (map (shift p.start) p.chunk.value.ranges.items) (flat rest) h.within;
+    ascend = g (flat rest) h.ascend;
+    same = next_same whole p rest done run reached reps after h f;
+  }
+
+  -- what a chunk that isn't affected gives
+  pub record IsClearChunk (whole : List (Ranged T)) (p : Placed T) (rest : List (Placed T)) (done run : List (Ranged T)) (reached : ℕ) : Type 0 where
+    pub clear : IsClear p.start p.start d
+    pub inside : p.start ≤ old_size d
+    pub ascend : reached ≤ p.start
+    pub order : Ascend 0 (done ++ stable_sort (before rules) run)
+    pub fits : clear_place d p.start + p.chunk.value.reach ≤ new_size counted d
+    pub images : map (at_clear rules d) (map (shift p.start) p.chunk.value.ranges.items) ≡ map (shift (clear_place d p.start)) p.chunk.value.ranges.items
+    pub each : ClearEach rules d (map (shift p.start) p.chunk.value.ranges.items)
+
+  -- the end of the hull is in the text
+  pub hull_within : (len start : ℕ) (rs : List (Ranged T)) → 1 ≤ length rs → Within len (map (shift start) rs) → start + greatest_end rs ≤ len
+  hull_within len start [] some w = absurd (omega arith)
+  hull_within len start (r ∷ []) some w = omega (arith, w.0.1)
+  hull_within len start (r ∷ q ∷ rs) some w = let k = hull_within len start (q ∷ rs) (omega arith) w.1 in omega (arith, w.0.1, k)
+
+  clear_within : (p : ℕ) → p ≤ old_size d → IsClear p p d → clear_place d p ≤ new_size counted d
+  clear_within p l h = let w : IfSome (Some (clear_place d p)) (λ q. q ≤ new_size counted d) = subst (λ o. IfSome o (λ q. q ≤ new_size counted d)) (map_pos-clear d p true Simple l h) (map_pos-within d p true Simple) in w
+
+  pub clear_chunk : (whole : List (Ranged T)) (p : Placed T) (rest : List (Placed T)) (done run : List (Ranged T)) (reached : ℕ) (reps : List ChangedRange) → IsWalked whole (p ∷ rest) done run reached reps
+      → chunk_affected rules d p ≡ false → IsClearChunk whole p rest done run reached
+  clear_chunk whole p rest done run reached reps h e =
+      let chunk = h.chunks.0.0 in
+      let items = p.chunk.value.ranges.items in
+      let hull = or_right p.chunk.value.is_turned (list_any (meets p.start (p.start + p.chunk.value.reach)) (replaced d)) e in
+      let turned : list_any (is_turned rules) items ≡ false = sym chunk.turned ∙ or_left p.chunk.value.is_turned (list_any (meets p.start (p.start + p.chunk.value.reach)) (replaced d)) e in
+      let inside = within_prefix (old_size d) (map (shift p.start) items) (flat rest) h.within in
+      let reach_is = chunk.reach in
+      let ends = end_by_greatest items p.chunk.value.reach (omega (arith, reach_is)) in
+      let each = clear_each rules d p.start p.chunk.value.reach items hull chunk.forward ends turned inside in
+      let some : 0 < length (map (shift p.start) items) = let n = length_shifted rules p.start items in let m = h.chunks.0.1 in omega (arith, n, m) in
+      let end : p.start + p.chunk.value.reach ≤ old_size d = let k = hull_within (old_size d) p.start items h.chunks.0.1 inside in omega (arith, k, reach_is) in
+      let far = clear_apart d p.start (p.start + p.chunk.value.reach) (omega arith) hull in
+      let last = none-narrow p.start (p.start + p.chunk.value.reach) (p.start + p.chunk.value.reach) (p.start + p.chunk.value.reach) (replaced d) (omega arith) (omega arith) hull in
+      let bound = clear_within (p.start + p.chunk.value.reach) end last in
+      record {
+        clear = none-narrow p.start (p.start + p.chunk.value.reach) p.start p.start (replaced d) (omega arith) (omega arith) hull;
+        inside = omega (arith, end);
+        ascend = (ascend_start reached p.start items (flat rest) h.chunks.0.1 chunk.first h.ascend).0;
+        order = under_order rules d whole done run (map (shift p.start) items) (flat rest) h.under some each (start_in (flat rest) (within_rest (old_size d) (map (shift p.start) items) (flat rest) h.within));
+        fits = omega (arith, far, bound);
+        images = clear_shifts rules d p.start p.chunk.value.reach items hull chunk.forward ends;
+        each = each;
+      }
+
+  pub walked_clear : (whole : List (Ranged T)) (p : Placed T) (rest : List (Placed T)) (done run more : List (Ranged T)) (reached : ℕ) (reps after : List ChangedRange) → IsWalked whole (p ∷ rest) done run reached reps
+      → ((a b : ℕ) → p.start ≤ a → list_any (meets a b) after ≡ list_any (meets a b) reps) → IsClearChunk whole p rest done run reached
+      → more ≡ done ++ stable_sort (before rules) run ++ map (shift (clear_place d p.start)) p.chunk.value.ranges.items
+      → IsWalked whole rest more [] p.start after
+  walked_clear whole p rest done run more reached reps after h f k e =
+      let items = p.chunk.value.ranges.items in
+      let some : 0 < length (map (shift p.start) items) = let n = length_shifted rules p.start items in let m = h.chunks.0.1 in omega (arith, n, m) in
+      let later = within_rest (old_size d) (map (shift p.start) items) (flat rest) h.within in
+      record {
+        under = under_clear rules d whole done run (map (shift p.start) items) (flat rest) more h.under some k.each (start_in (flat rest) later)
+            (e ∙ ap (λ xs. done ++ stable_sort (before rules) run ++ xs) (sym k.images));
+        chunks = h.chunks.1;
+        within = later;
+        ascend = (ascend_start reached p.start items (flat rest) h.chunks.0.1 h.chunks.0.0.first h.ascend).1;
+        same = next_same whole p rest done run reached reps after h f;
+      }
+
+  pub at_chunk : (whole : List (Ranged T)) (ps : List (Placed T)) (i : ℕ) (p : Placed T) (done run : List (Ranged T)) (reached : ℕ) (reps : List ChangedRange) → i < length ps → p ≡ get_or ps i p
+      → IsWalked whole (drop i ps) done run reached reps → IsWalked whole (p ∷ drop (i + 1) ps) done run reached reps
+  at_chunk whole ps i p done run reached reps l e h = subst (λ (qs : List (Placed T)). IsWalked whole qs done run reached reps) (rest_at ps i p l e) h
+
+  pub at_end : (whole : List (Ranged T)) (ps : List (Placed T)) (i : ℕ) (done run : List (Ranged T)) (reached : ℕ) (reps : List ChangedRange) → length ps ≤ i
+      → IsWalked whole (drop i ps) done run reached reps → IsUnder rules d whole done run []
+  at_end whole ps i done run reached reps l h = subst (λ (qs : List (Placed T)). IsUnder rules d whole done run (flat qs)) (none ps i l) h.under
+    where
+      none : (ps : List (Placed T)) (i : ℕ) → length ps ≤ i → drop i ps ≡ []
+      none [] zero l = refl
+      none [] (suc i) l = refl
+      none (q ∷ ps) zero l = absurd (omega arith)
+      none (q ∷ ps) (suc i) l = none ps i (omega arith)
+
+  pub allowance_at : (ps : List (Placed T)) (i : ℕ) (p : Placed T) (b : Bool) → i < length ps → p ≡ get_or ps i p → chunk_affected rules d p ≡ b → allowance rules d (drop i ps) ≡ cond b 128 0 + allowance rules d (drop (i + 1) ps)
+  allowance_at ps i p b l e a = ap (allowance rules d) (rest_at ps i p l e) ∙ ap (λ x. cond x 128 0 + allowance rules d (drop (i + 1) ps)) a
+
+  pub run_forward : (whole done run later : List (Ranged T)) → IsUnder rules d whole done run later → AllForward run
+  run_forward whole done run later h = subst AllForward (sym h.run_is) (forward_filtered rules (moved rules d) (forward_moved rules d) h.sources)

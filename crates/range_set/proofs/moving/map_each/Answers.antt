@@ -1,0 +1,80 @@
+use Rattle.std.proofs.Common.{◌≡◌, ◌+◌, ◌<◌, ◌≤◌, List, [], ◌++◌, length, get_or, drop, map, ap, subst, sym, ◌∙◌, refl, arith}
+use Rattle.std.proofs.lemmas.List.{append-nil}
+use Rattle.std.specs.List.{cons_option}
+use Rattle.change_desc.specs.Walker.{Walk}
+use Rattle.range_set.specs.declared.chunk.Chunk.{Chunk}
+use Rattle.range_set.specs.declared.ranged.Ranged.{Ranged}
+use Rattle.range_set.specs.Mapping.{moved}
+use Rattle.range_set.specs.PrivateChunks.{Ascend, shift}
+use Rattle.range_set.proofs.Each.{ascend_first, ascend_more, each_more, forward_item, item_fits, within, within_at}
+use Rattle.change_desc.specs.Sections.{old_size}
+use Rattle.range_set.proofs.moving.map_each.Goals as goal
+use Rattle.range_set.proofs.moving.map_each.Goals.{in-Some+in_ok-push-in-Some, in-None}
+
+pub overflow_add-range : goal.overflow_add-range
+overflow_add-range g c =
+    let r = c.range-item.result in
+    let i = c.loop-range.range-index in
+    let start = c.args.placed.now.start in
+    let items = c.args.placed.now.chunk.value.ranges.items in
+    let same = c.deref-range-items.ensures.value ∙ ap (λ (ch : Chunk g.row.T.Denot). ch.ranges.items) c.deref.ensures in
+    let l : i < length items = subst (λ (xs : List (Ranged g.row.T.Denot)). i < length xs) same c.loop-range-test.true in
+    let is : r ≡ get_or items i r = subst (λ (xs : List (Ranged g.row.T.Denot)). r ≡ get_or xs i r) same c.range-item.is in
+    let fits = item_fits g.T.RangeValue.rules start c.args.placed.now.chunk.value i r c.requires.chunk l is in
+    omega (arith, fits.0)
+
+pub overflow_add-range-in-loop-range : goal.overflow_add-range-in-loop-range
+overflow_add-range-in-loop-range g c =
+    let r = c.range-item.result in
+    let i = c.loop-range.range-index in
+    let start = c.args.placed.now.start in
+    let items = c.args.placed.now.chunk.value.ranges.items in
+    let same = c.deref-range-items.ensures.value ∙ ap (λ (ch : Chunk g.row.T.Denot). ch.ranges.items) c.deref.ensures in
+    let l : i < length items = subst (λ (xs : List (Ranged g.row.T.Denot)). i < length xs) same c.loop-range-test.true in
+    let is : r ≡ get_or items i r = subst (λ (xs : List (Ranged g.row.T.Denot)). r ≡ get_or xs i r) same c.range-item.is in
+    let fits = item_fits g.T.RangeValue.rules start c.args.placed.now.chunk.value i r c.requires.chunk l is in
+    omega (arith, fits.1)
+
+pub moved-requires : goal.moved-requires
+moved-requires g c =
+    let r = c.range-item.result in
+    let i = c.loop-range.range-index in
+    let start = c.args.placed.now.start in
+    let items = c.args.placed.now.chunk.value.ranges.items in
+    let same = c.deref-range-items.ensures.value ∙ ap (λ (ch : Chunk g.row.T.Denot). ch.ranges.items) c.deref.ensures in
+    let l : i < length items = subst (λ (xs : List (Ranged g.row.T.Denot)). i < length xs) same c.loop-range-test.true in
+    let is : r ≡ get_or items i r = subst (λ (xs : List (Ranged g.row.T.Denot)). r ≡ get_or xs i r) same c.range-item.is in
+    let size = ap old_size c.loop-range.invariant.desc in
+    let inside = within_at (old_size c.args.walker.now.desc) start items i r l is (within _ _ c.requires.inside) in
+    let forward = forward_item items i r l is c.requires.chunk.forward in
+    record {
+      start = omega (arith, size, inside.0);
+      end = omega (arith, size, inside.1);
+      forward = omega (arith, forward);
+      ascending = ascend_first _ start items i r l is (c.loop-range.invariant.walk [] (subst (Ascend c.args.walker.now.reached) (sym (append-nil (map (shift start) items))) c.requires.ascending));
+    }
+
+pub loop-range-preserved : goal.loop-range-preserved
+loop-range-preserved g c =
+    let rules = g.T.RangeValue.rules in
+    let r = c.range-item.result in
+    let i = c.loop-range.range-index in
+    let start = c.args.placed.now.start in
+    let items = c.args.placed.now.chunk.value.ranges.items in
+    let before = c.loop-range.invariant in
+    let same = c.deref-range-items.ensures.value ∙ ap (λ (ch : Chunk g.row.T.Denot). ch.ranges.items) c.deref.ensures in
+    let l : i < length items = subst (λ (xs : List (Ranged g.row.T.Denot)). i < length xs) same c.loop-range-test.true in
+    let is : r ≡ get_or items i r = subst (λ (xs : List (Ranged g.row.T.Denot)). r ≡ get_or xs i r) same c.range-item.is in
+    let f = moved rules c.args.walker.now.desc in
+    let o = c.in_ok-moved.ensures.value ∙ ap (λ d. moved rules d (shift start r)) before.desc in
+    let more : c.match-branch-2.run.items ≡ c.loop-range.run.items ++ cons_option c.in_ok-moved.field-0 [] = elim c.match-branch-2.branch [
+      | in-Some+in_ok-push-in-Some w ↦ ap (λ v. v.items) w.run-is ∙ (w.in_ok-push-in-Some.ensures.items ∙ ap (λ o. c.loop-range.run.items ++ cons_option o []) (sym w.in-Some.is))
+      | in-None w ↦ ap (λ v. v.items) w.run-is ∙ (sym (append-nil c.loop-range.run.items) ∙ ap (λ o. c.loop-range.run.items ++ cons_option o []) (sym w.in-None.is))
+    ] in
+    record {
+      run = each_more f start items c.args.run.now.items c.loop-range.run.items c.match-branch-2.run.items i r c.in_ok-moved.field-0 l is o before.run more;
+      desc = ap (λ (w : Walk). w.desc) c.moved.ensures.walk ∙ before.desc;
+      walk = λ later h. subst (λ (w : Walk). Ascend w.reached (map (shift start) (drop (i + 1) items) ++ later)) (sym c.moved.ensures.walk)
+          (ascend_more _ start items later i r l is (before.walk later h));
+      cost = let t = c.tick.ensures in let k = before.cost in omega (arith, t, k);
+    }

@@ -1,0 +1,28 @@
+use Rattle.std.proofs.Common.{◌≡◌, ◌++◌, [], None, length, ap, subst, sym, ◌∙◌, arith}
+use Rattle.range_set.specs.Order.{first_fault}
+use Rattle.range_set.specs.PrivateChunks.{Ascend}
+use Rattle.range_set.proofs.RangeOrder.{forward-no_fault, rises-no_fault}
+use Rattle.range_set.proofs.Under.{rises_ascend}
+use Rattle.range_set.proofs.range_set.set_of.Goals as goal
+
+pub put_all-requires : goal.put_all-requires
+put_all-requires g c =
+    let rules = g.T.RangeValue.rules in
+    let none = c.new-builder.ensures.ranges in
+    let count = ap length none in
+    let len = c.len-len.ensures ∙ c.args.ranges.ok.0 in
+    let fits = c.len-len.type_inv in
+    record {
+      builder = c.new-builder.ensures.builder;
+      room = omega (arith, count, len, fits);
+      order = subst (λ xs. Ascend 0 (xs ++ c.args.ranges.items)) (sym none) (rises_ascend rules c.args.ranges.items (rises-no_fault rules c.args.ranges.items c.requires));
+      forward = forward-no_fault rules 0 None c.args.ranges.items c.requires;
+    }
+
+pub invariant_of-result : goal.invariant_of-result
+invariant_of-result g c =
+    let same = c.in_ok-chunks.ensures.ranges ∙ (c.in_ok-put_all.ensures.ranges ∙ ap (λ xs. xs ++ c.args.ranges.items) c.new-builder.ensures.ranges) in
+    record { sound = c.in_ok-chunks.ensures.chunks; order = ap (first_fault g.T.RangeValue.rules) same ∙ c.requires }
+
+pub returns : goal.returns
+returns g c = c.in_ok-chunks.ensures.ranges ∙ (c.in_ok-put_all.ensures.ranges ∙ ap (λ xs. xs ++ c.args.ranges.items) c.new-builder.ensures.ranges)

@@ -1,0 +1,64 @@
+ghost use Rattle.std.specs.Prelude.{IfOk, [], map, ◌++◌, ◌+◌, ◌∷◌, ◌≡◌, ◌≤◌, ◌<◌, ◌^◌, length};
+ghost use Rattle.range_set.specs.PrivateChunks.{IsChunk, shift};
+
+use crate::range_value::RangeValue;
+use crate::ranged::Ranged;
+use std::alloc::{AllocError, Global};
+use std::rc::Rc;
+
+/// The greatest number of ranges of a chunk.
+pub(crate) const MAX_RANGES: usize = 128;
+
+/// Up to 128 ranges in order, whose places count from the start of the first.
+#[derive(Drop)]
+pub(crate) struct Chunk<T> {
+    pub(crate) ranges: Vec<Ranged<T>>,
+    /// Their greatest end: the hull of the chunk runs from its place to its place and this.
+    pub(crate) reach: u32,
+    /// Whether one of them is empty with an end side less than its start side.
+    pub(crate) is_turned: bool,
+}
+
+/// A chunk, which sets share, at its place: the start of its first range, in characters.
+#[derive(Drop)]
+pub(crate) struct Placed<T> {
+    pub(crate) start: u32,
+    pub(crate) chunk: Rc<Chunk<T>>,
+}
+
+impl<T: RangeValue> Chunk<T> {
+    /// The chunk without ranges.
+    pub(crate) fn empty(alloc: Global) -> Chunk<T>
+        ensures ranges { result.ranges.items ≡ [] }
+        ensures chunk { IsChunk T.rules 0 result }
+    {
+        Chunk {
+            ranges: Vec::new(alloc),
+            reach: 0,
+            is_turned: false,
+        }
+    }
+
+    /// Puts a range after the others of a chunk at the place `start`. `Err`: out of memory.
+    pub(crate) fn put(&mut self, start: u32, range: Ranged<T>) -> Result<(), AllocError>
+        requires chunk { IsChunk T.rules start self.old }
+        requires room { length self.old.ranges.items < 128 }
+        requires after { start ≤ range.from }
+        requires forward { range.from ≤ range.to }
+        requires first { self.old.ranges.items ≡ [] → range.from ≡ start }
+        ensures chunk { IfOk result (λ _. IsChunk T.rules start self.new) }
+        ensures ranges { IfOk result (λ _. map (shift start) self.new.ranges.items ≡ map (shift start) self.old.ranges.items ++ range ∷ []) }
+    {
+        let is_turned = range.is_turned();
+        let from = range.from - start;
+        let to = range.to - start;
+        self.ranges.push(Ranged {
+            from,
+            to,
+            value: range.value,
+        })?;
+        self.reach = self.reach.max(to);
+        self.is_turned = self.is_turned || is_turned;
+        Ok(())
+    }
+}

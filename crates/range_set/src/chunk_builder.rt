@@ -1,0 +1,121 @@
+ghost use Rattle.std.specs.Prelude.{IfOk, [], ◌++◌, ◌+◌, ◌∷◌, ◌≡◌, ◌≤◌, ◌<◌, ◌^◌, length, map};
+ghost use Rattle.range_set.specs.PrivateChunks.{AreChunks, AreSound, BeginBy, IsBuilder, IsChunk, built, flat, shift};
+
+use crate::chunk::{Chunk, MAX_RANGES, Placed};
+use crate::range_value::RangeValue;
+use crate::ranged::Ranged;
+use std::alloc::{AllocError, Global};
+use std::mem;
+use std::rc::Rc;
+
+/// Cuts ranges that come in order into chunks: those that are done, and one that is growing, at the place `start`.
+#[derive(Drop)]
+pub(crate) struct ChunkBuilder<T> {
+    pub(crate) done: Vec<Placed<T>>,
+    pub(crate) start: u32,
+    pub(crate) growing: Chunk<T>,
+    pub(crate) len: usize,
+}
+
+impl<T: RangeValue> ChunkBuilder<T> {
+    /// A builder without ranges.
+    pub(crate) fn new(alloc: Global) -> ChunkBuilder<T>
+        ensures builder { IsBuilder T.rules result }
+        ensures ranges { built result ≡ [] }
+    {
+        ChunkBuilder {
+            done: Vec::new(alloc),
+            start: 0,
+            growing: Chunk::empty(alloc),
+            len: 0,
+        }
+    }
+
+    /// Puts a range after the others. `Err`: out of memory.
+    pub(crate) fn push(&mut self, range: Ranged<T>) -> Result<(), AllocError>
+        requires builder { IsBuilder T.rules self.old }
+        requires room { length (built self.old) + 1 < 2 ^ 64 }
+        requires after { BeginBy range.from (built self.old) }
+        requires forward { range.from ≤ range.to }
+        ensures builder { IfOk result (λ _. IsBuilder T.rules self.new) }
+        ensures ranges { IfOk result (λ _. built self.new ≡ built self.old ++ range ∷ []) }
+    {
+        self.make_room(range.from)?;
+        self.growing.put(self.start, range)?;
+        self.len += 1;
+        Ok(())
+    }
+
+    /// Makes the growing chunk one that a range can be put into that begins at `from`. `Err`: out of memory.
+    fn make_room(&mut self, from: u32) -> Result<(), AllocError>
+        requires builder { IsBuilder T.rules self.old }
+        requires after { BeginBy from (built self.old) }
+        ensures builder { IfOk result (λ _. IsBuilder T.rules self.new) }
+        ensures ranges { IfOk result (λ _. built self.new ≡ built self.old) }
+        ensures room { IfOk result (λ _. length self.new.growing.ranges.items < 128) }
+        ensures after { IfOk result (λ _. self.new.start ≤ from) }
+        ensures first { IfOk result (λ _. self.new.growing.ranges.items ≡ [] → from ≡ self.new.start) }
+    {
+        if self.growing.ranges.len() == MAX_RANGES {
+            seal(&mut self.done, self.start, &mut self.growing)?;
+            self.start = from;
+        } else if self.growing.ranges.is_empty() {
+            self.start = from;
+        }
+        Ok(())
+    }
+
+    /// Puts a chunk after the ranges, at a place of its own, and shares it. `Err`: out of memory.
+    pub(crate) fn share(&mut self, start: u32, chunk: &Rc<Chunk<T>>) -> Result<(), AllocError>
+        requires builder { IsBuilder T.rules self.old }
+        requires chunk { IsChunk T.rules start chunk.now.value }
+        requires some { 1 ≤ length chunk.now.value.ranges.items }
+        requires room { length (built self.old) + length chunk.now.value.ranges.items < 2 ^ 64 }
+        ensures builder { IfOk result (λ _. IsBuilder T.rules self.new) }
+        ensures ranges { IfOk result (λ _. built self.new ≡ built self.old ++ map (shift start) chunk.now.value.ranges.items) }
+    {
+        seal(&mut self.done, self.start, &mut self.growing)?;
+        let count = chunk.ranges.len();
+        self.done.push(Placed {
+            start,
+            chunk: chunk.clone()?,
+        })?;
+        self.len += count;
+        Ok(())
+    }
+
+    /// The chunks of all ranges, and how many ranges there are. `Err`: out of memory.
+    pub(crate) fn finish(mut self) -> Result<(Vec<Placed<T>>, usize), AllocError>
+        requires { IsBuilder T.rules self }
+        ensures chunks { IfOk result (λ made. AreSound T.rules made.0.items made.1) }
+        ensures ranges { IfOk result (λ made. flat made.0.items ≡ built self) }
+    {
+        seal(&mut self.done, self.start, &mut self.growing)?;
+        Ok((self.done, self.len))
+    }
+}
+
+/// Ends the growing chunk, if it has ranges, and begins one without ranges. `Err`: out of memory.
+fn seal<T: RangeValue>(
+    done: &mut Vec<Placed<T>>,
+    start: u32,
+    growing: &mut Chunk<T>,
+) -> Result<(), AllocError>
+    requires chunks { AreChunks T.rules done.old.items }
+    requires chunk { IsChunk T.rules start growing.old }
+    ensures chunks { IfOk result (λ _. AreChunks T.rules done.new.items) }
+    ensures ranges { IfOk result (λ _. flat done.new.items ≡ flat done.old.items ++ map (shift start) growing.old.ranges.items) }
+    ensures opened { IfOk result (λ _. IsChunk T.rules start growing.new) }
+    ensures empty { IfOk result (λ _. growing.new.ranges.items ≡ []) }
+{
+    let alloc = *done.allocator();
+    let chunk = mem::replace(growing, Chunk::empty(alloc));
+    if chunk.ranges.is_empty() {
+        return Ok(());
+    }
+    done.push(Placed {
+        start,
+        chunk: Rc::new(alloc, chunk)?,
+    })?;
+    Ok(())
+}

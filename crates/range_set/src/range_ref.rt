@@ -1,0 +1,133 @@
+ghost use Rattle.std.specs.Prelude.{◌≡◌, ◌↔◌, ◌≤◌, IfOk, IsTrue};
+ghost use Rattle.change_desc.specs.Sections.{old_size};
+ghost use Rattle.range_set.specs.Mapping.{ends_unless_turned, moved, new_ends, point_ends, span_ends};
+ghost use Rattle.range_set.specs.Seen.{seen};
+
+use crate::range_value::RangeValue;
+use crate::ranged::Ranged;
+use change_desc::{MapMode, PositionWalker};
+use std::alloc::{AllocError, Global};
+
+/// A range of a set, with its value lent. Places are in characters.
+#[derive(Drop)]
+pub struct RangeRef<'a, T> {
+    pub from: u32,
+    pub to: u32,
+    pub value: &'a T,
+}
+
+impl<'a, T: RangeValue> RangeRef<'a, T> {
+    /// Whether both have the same ends and equal values.
+    pub(crate) fn same(&self, other: &RangeRef<'_, T>) -> bool
+        ensures { IsTrue result ↔ (seen self.now ≡ seen other.now) }
+    {
+        self.from == other.from && self.to == other.to && self.value.same(other.value)
+    }
+
+    /// The range with a copy of its value. `Err`: out of memory.
+    pub(crate) fn try_copy(&self, alloc: Global) -> Result<Ranged<T>, AllocError>
+        ensures { IfOk result (λ copy. copy ≡ seen self.now) }
+    {
+        let value = self.value.try_copy(alloc)?;
+        Ok(Ranged {
+            from: self.from,
+            to: self.to,
+            value,
+        })
+    }
+
+    /// The range where the changes of a walk move it, unless they drop it; the walk comes to its start. `Err`: out of memory.
+    pub(crate) fn moved(
+        &self,
+        alloc: Global,
+        walker: &mut PositionWalker,
+    ) -> Result<Option<Ranged<T>>, AllocError>
+        requires start { self.now.from ≤ old_size walker.old.desc }
+        requires end { self.now.to ≤ old_size walker.old.desc }
+        requires forward { self.now.from ≤ self.now.to }
+        requires ascending { walker.old.reached ≤ self.now.from }
+        ensures value { IfOk result (λ range. range ≡ moved T.rules walker.old.desc (seen self.now)) }
+        ensures walk { walker.new ≡ record { desc = walker.old.desc; reached = self.now.from } }
+    {
+        match self.new_ends(walker) {
+            Some((from, to)) => {
+                let value = self.value.try_copy(alloc)?;
+                Ok(Some(Ranged { from, to, value }))
+            }
+            None => Ok(None),
+        }
+    }
+
+    /// Where the changes of a walk move its ends, unless they drop it.
+    fn new_ends(&self, walker: &mut PositionWalker) -> Option<(u32, u32)>
+        requires start { self.now.from ≤ old_size walker.old.desc }
+        requires end { self.now.to ≤ old_size walker.old.desc }
+        requires forward { self.now.from ≤ self.now.to }
+        requires ascending { walker.old.reached ≤ self.now.from }
+        ensures value { result ≡ new_ends T.rules walker.old.desc (seen self.now) }
+        ensures walk { walker.new ≡ record { desc = walker.old.desc; reached = self.now.from } }
+    {
+        let start_side = self.value.start_side();
+        let end_side = self.value.end_side();
+        let (from, to) = if self.from == self.to {
+            point_ends(self.from, start_side, end_side, self.value.mode(), walker)?
+        } else {
+            span_ends(self.from, self.to, start_side, end_side, walker)?
+        };
+        ends_unless_turned(from, to, start_side, end_side)
+    }
+}
+
+/// Where the ends of an empty range go.
+fn point_ends(
+    pos: u32,
+    start_side: i32,
+    end_side: i32,
+    mode: MapMode,
+    walker: &mut PositionWalker,
+) -> Option<(u32, u32)>
+    requires inside { pos ≤ old_size walker.old.desc }
+    requires ascending { walker.old.reached ≤ pos }
+    ensures value { result ≡ point_ends walker.old.desc pos start_side end_side mode }
+    ensures walk { walker.new ≡ record { desc = walker.old.desc; reached = pos } }
+{
+    let from = walker.map_pos(pos, start_side, mode)?;
+    let to = walker.map_pos(pos, end_side, MapMode::Simple)?;
+    if to < from { None } else { Some((from, to)) }
+}
+
+/// Where the ends of a range that isn't empty go. Its end is looked for from its start on, by a walk of its own.
+fn span_ends(
+    from: u32,
+    to: u32,
+    start_side: i32,
+    end_side: i32,
+    walker: &mut PositionWalker,
+) -> Option<(u32, u32)>
+    requires end { to ≤ old_size walker.old.desc }
+    requires forward { from ≤ to }
+    requires ascending { walker.old.reached ≤ from }
+    ensures value { result ≡ span_ends walker.old.desc from to start_side end_side }
+    ensures walk { walker.new ≡ record { desc = walker.old.desc; reached = from } }
+{
+    let new_from = walker.map_pos(from, start_side, MapMode::Simple)?;
+    let mut ahead = walker.again();
+    let new_to = ahead.map_pos(to, end_side, MapMode::Simple)?;
+    let is_dropped = new_to < new_from || (new_from == new_to && start_side > 0 && end_side <= 0);
+    if is_dropped {
+        None
+    } else {
+        Some((new_from, new_to))
+    }
+}
+
+/// The ends, unless they meet and the end side is less than the start side.
+fn ends_unless_turned(from: u32, to: u32, start_side: i32, end_side: i32) -> Option<(u32, u32)>
+    ensures { result ≡ ends_unless_turned start_side end_side from to }
+{
+    if from == to && end_side < start_side {
+        None
+    } else {
+        Some((from, to))
+    }
+}
