@@ -24,6 +24,7 @@ fn each_status_has_its_line(rt: HostRuntime) {
 }
 
 /// A reader that gives one byte a call, up to a number of them, and fails then.
+#[derive(Drop)]
 struct Reader {
     left: u8,
 }
@@ -54,6 +55,7 @@ fn standard_input_gives_what_its_reader_gives(rt: HostRuntime) {
 }
 
 /// A writer that keeps what it takes, and takes no byte once it has this many.
+#[derive(Drop)]
 struct Writer {
     kept: Vec<u8>,
     most: usize,

@@ -39,7 +39,7 @@ same_takes old now new (Some input) t e h = record { fits = omega (arith, h.fits
 pub record Scanned (kept : List ℕ) (old now : Progress) (told now_told : Option (List ℕ)) : Type 0 where
   pub part : List ℕ
   pub one : HasNoBreak part
-  pub front : kept ≡ take 1048577 part
+  pub prefix : kept ≡ take 1048577 part
   pub len : length part + length now.rest ≡ length old.rest + (now.taken - old.taken)
   pub limit : now.limit ≡ old.limit
   pub later : old.taken ≤ now.taken
@@ -53,7 +53,7 @@ pub begins : (old : Progress) (told : Option (List ℕ)) → old.taken ≤ old.l
 begins old told within start = record {
   part = [];
   one = tt;
-  front = refl;
+  prefix = refl;
   len = omega arith;
   limit = refl;
   later = omega arith;
@@ -78,7 +78,7 @@ pub cut_none : (kept new_kept : List ℕ) (old now new : Progress) (told t : Opt
 cut_none kept new_kept old now new told t s same cut = record {
   part = s.part ++ now.rest;
   one = no_break_append s.part now.rest s.one cut.one;
-  front = cut.kept ∙ ap (λ k. take 1048577 (k ++ now.rest)) s.front ∙ take_prefix 1048577 s.part now.rest;
+  prefix = cut.kept ∙ ap (λ k. take 1048577 (k ++ now.rest)) s.prefix ∙ take_prefix 1048577 s.part now.rest;
   len = omega (arith, s.len, length-append s.part now.rest, ap length cut.none, same.taken);
   limit = same.limit ∙ s.limit;
   later = omega (arith, s.later, same.taken);
@@ -97,7 +97,7 @@ pub filled : (kept : List ℕ) (old now new : Progress) (told t u : Option (List
 filled kept old now new told t u s empty limit fills takes from = record {
   part = s.part;
   one = s.one;
-  front = s.front;
+  prefix = s.prefix;
   len = omega (arith, s.len, ap length empty, fills.0, fills.3, s.later);
   limit = limit ∙ s.limit;
   later = omega (arith, s.later, fills.0);
@@ -135,14 +135,14 @@ rest_scanned kept new_kept old now new told t b s same cut e =
     let c = when_false _ _ b e cut in (cut_none kept new_kept old now new told t s same c, c.none, c.one)
 
 answered : (r : Reading) (kept : Vec ℕ Global) (line : List ℕ) (old new : Progress) (input : List ℕ) → kept.items ≡ take 1048577 line → IsLineOrTooLong r kept → IsNextLine line old new input → Reads r old new input
-answered (Line bytes) kept line old new input front is next =
-    let short : length line ≤ 1048577 = omega (arith, is.0, ap length front, length-take 1048577 line) in
-    let same : bytes.items ≡ line = ap (λ (v : Vec ℕ Global). v.items) is.1 ∙ front ∙ take_all 1048577 line short in
+answered (Line bytes) kept line old new input prefix is next =
+    let short : length line ≤ 1048577 = omega (arith, is.0, ap length prefix, length-take 1048577 line) in
+    let same : bytes.items ≡ line = ap (λ (v : Vec ℕ Global). v.items) is.1 ∙ prefix ∙ take_all 1048577 line short in
     (omega (arith, is.0, ap (λ (v : Vec ℕ Global). length v.items) is.1), subst (λ l. IsNextLine l old new input) (sym same) next)
-answered TooLong kept line old new input front is next = (line, omega (arith, is, ap length front, length-take 1048577 line), next)
-answered End kept line old new input front is next = absurd is
-answered Failed kept line old new input front is next = absurd is
-answered Budget kept line old new input front is next = absurd is
+answered TooLong kept line old new input prefix is next = (line, omega (arith, is, ap length prefix, length-take 1048577 line), next)
+answered End kept line old new input prefix is next = absurd is
+answered Failed kept line old new input prefix is next = absurd is
+answered Budget kept line old new input prefix is next = absurd is
 
 pub at_break : (r : Reading) (kept : List ℕ) (new_kept : Vec ℕ Global) (old now new : Progress) (told t : Option (List ℕ)) (b : Bool) → Scanned kept old now told t → SameCounts now new
     → MatchBool b (CutsLine kept new_kept.items now.rest new.rest) (TakesRest kept new_kept.items now.rest new.rest) → b ≡ true → IsLineOrTooLong r new_kept → IfSome told (Reads r old new)
@@ -151,9 +151,9 @@ at_break r kept new_kept old now new told t b s same either e is = reads told s.
   reads None h = tt
   reads (Some input) h =
       let cut = when_true _ _ b e either in
-      let front : new_kept.items ≡ take 1048577 (s.part ++ cut.part) = cut.kept ∙ ap (λ k. take 1048577 (k ++ cut.part)) s.front ∙ take_prefix 1048577 s.part cut.part in
+      let prefix : new_kept.items ≡ take 1048577 (s.part ++ cut.part) = cut.kept ∙ ap (λ k. take 1048577 (k ++ cut.part)) s.prefix ∙ take_prefix 1048577 s.part cut.part in
       let bytes : pending old new input ≡ (s.part ++ cut.part) ++ 10 ∷ new.rest = ap (λ n. old.rest ++ take (n - old.taken) input) same.taken ∙ sym h ∙ ap (λ r. s.part ++ r) cut.bytes ∙ sym (append_assoc s.part cut.part (10 ∷ new.rest)) in
-      answered r new_kept (s.part ++ cut.part) old new input front is
+      answered r new_kept (s.part ++ cut.part) old new input prefix is
       (record { start = s.start; one = no_break_append s.part cut.part s.one cut.one; place = inl (record { bytes = bytes; goes_on = same.ended ∙ s.goes_on }) })
 
 pub same_left : (old now new : Progress) (kept : List ℕ) (told t : Option (List ℕ)) → Scanned kept old now told t → SameCounts now new → IfSome told (λ i. TakesOf old new i t)
@@ -167,12 +167,12 @@ at_end r kept old now new told t s empty fills from some is = reads told s.left 
   reads (Some input) l h =
       let no_left : left_of old now input ≡ [] = subst (λ o. IfSome o (FillsFrom Ended now new)) l.left from in
       let bytes : pending old new input ≡ s.part = ap (λ n. old.rest ++ take (n - old.taken) input) fills.0 ∙ sym h ∙ ap (λ r. s.part ++ r) empty ∙ append-nil s.part in
-      answered r kept s.part old new input s.front is (record {
+      answered r kept s.part old new input s.prefix is (record {
         start = s.start;
         one = s.one;
         place = inr (record {
           bytes = bytes;
-          some = omega (arith, some, ap length s.front, length-take 1048577 s.part);
+          some = omega (arith, some, ap length s.prefix, length-take 1048577 s.part);
           no_rest = fills.2;
           no_left = ap (λ n. drop (n - old.taken) input) fills.0 ∙ no_left;
           ended = fills.1;
@@ -186,7 +186,7 @@ at_nothing kept old now new told t s empty fills from none = reads told s.left s
   reads None l h = tt
   reads (Some input) l h = λ _.
       let no_left : left_of old now input ≡ [] = subst (λ o. IfSome o (FillsFrom Ended now new)) l.left from in
-      let no_part : length s.part ≡ 0 = omega (arith, none, ap length s.front, length-take 1048577 s.part) in
+      let no_part : length s.part ≡ 0 = omega (arith, none, ap length s.prefix, length-take 1048577 s.part) in
       let lengths : length s.part + length now.rest ≡ length old.rest + length (take (now.taken - old.taken) input) = sym (length-append s.part now.rest) ∙ ap length h ∙ length-append old.rest (take (now.taken - old.taken) input) in
       let no_rest : length old.rest ≡ 0 = omega (arith, lengths, no_part, ap length empty) in
       let no_input : length input ≡ 0 = omega (arith, lengths, no_part, ap length empty, ap length no_left, length-take (now.taken - old.taken) input, length-drop (now.taken - old.taken) input) in
@@ -210,8 +210,8 @@ at_budget kept old now new told t s empty fills = reads told s.bytes where
       (subst HasNoBreak bytes s.one, s.start)
 
 pub end_advances : (r : Reading) (kept : List ℕ) (old now new : Progress) (told t : Option (List ℕ)) → Scanned kept old now told t → now.rest ≡ [] → Fills Ended now new → new.limit ≡ now.limit → 0 < length kept → Advances r old new
-end_advances (Line bytes) kept old now new told t s empty fills limit some = omega (arith, some, s.len, s.limit, s.later, s.within, ap length s.front, length-take 1048577 s.part, ap length empty, fills.0, ap length fills.2, limit)
-end_advances TooLong kept old now new told t s empty fills limit some = omega (arith, some, s.len, s.limit, s.later, s.within, ap length s.front, length-take 1048577 s.part, ap length empty, fills.0, ap length fills.2, limit)
+end_advances (Line bytes) kept old now new told t s empty fills limit some = omega (arith, some, s.len, s.limit, s.later, s.within, ap length s.prefix, length-take 1048577 s.part, ap length empty, fills.0, ap length fills.2, limit)
+end_advances TooLong kept old now new told t s empty fills limit some = omega (arith, some, s.len, s.limit, s.later, s.within, ap length s.prefix, length-take 1048577 s.part, ap length empty, fills.0, ap length fills.2, limit)
 end_advances End kept old now new told t s empty fills limit some = tt
 end_advances Failed kept old now new told t s empty fills limit some = tt
 end_advances Budget kept old now new told t s empty fills limit some = tt

@@ -13,8 +13,8 @@ pub record Progress : Type 0 where
   pub rest : List ℕ
 
 -- a measure of what is still to come: each line takes some of it
-abbrev pub ahead : Progress → ℕ
-ahead p = (p.limit + 1 - p.taken) + length p.rest
+abbrev pub to_come : Progress → ℕ
+to_come p = (p.limit + 1 - p.taken) + length p.rest
 
 -- the bytes that stood ready, and those that were taken of the input since
 abbrev pub pending : Progress → Progress → List ℕ → List ℕ
@@ -52,8 +52,8 @@ Reads Budget old new input = HasNoBreak (old.rest ++ take (old.limit - old.taken
 
 -- a line was answered, and less is to come
 abbrev pub Advances : Reading → Progress → Progress → Type 0
-Advances (Line bytes) old new = ahead new < ahead old
-Advances TooLong old new = ahead new < ahead old
+Advances (Line bytes) old new = to_come new < to_come old
+Advances TooLong old new = to_come new < to_come old
 Advances _ old new = Unit {0}
 
 -- no more than the limit was taken, or one byte more where that is the answer

@@ -93,8 +93,8 @@ fn read_prefix<S: Source>(source: &mut S, buffer: &mut [u8], most: u128) -> Resu
     } else {
         most as usize
     };
-    let (front, _) = buffer.split_at_mut(room);
-    source.read(front)
+    let (prefix, _) = buffer.split_at_mut(room);
+    source.read(prefix)
 }
 
 fn line_or_too_long(line: Vec<u8>) -> Reading

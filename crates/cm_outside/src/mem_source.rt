@@ -90,8 +90,8 @@ impl Source for MemSource {
         let (_, rest) = self.bytes.split_at(self.at);
         let count = rest.len().min(self.piece.bytes()).min(room.len());
         let (given, _) = rest.split_at(count);
-        let (front, _) = room.split_at_mut(count);
-        front.copy_from_slice(given);
+        let (prefix, _) = room.split_at_mut(count);
+        prefix.copy_from_slice(given);
         self.at += count;
         Ok(count)
     }

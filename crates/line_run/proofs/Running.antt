@@ -43,7 +43,7 @@ stops first now (Some input) (Some before) left held_now p g =
     let all : first (lines_of input) ≡ g.text ++ now more = ap first g.cuts.lines ∙ g.follows more in
     record {
       len = length g.text;
-      front = g.wrote ∙ ap (λ t. Some (before ++ t)) (sym (ap (take (length g.text)) all ∙ take_at g.text (now more) (length g.text) refl));
+      prefix = g.wrote ∙ ap (λ t. Some (before ++ t)) (sym (ap (take (length g.text)) all ∙ take_at g.text (now more) (length g.text) refl));
     }
 
 take_past : (first rest : List ℕ) (n : ℕ) → take (length first + n) (first ++ rest) ≡ first ++ take n rest
@@ -95,7 +95,7 @@ write_stops first now next input before left left_now held_now held_new line p q
     let cut : take (length g.text + n) (first (lines_of input)) ≡ g.text ++ take f.len failed.text =
     ap (take (length g.text + n)) all ∙ take_past g.text (failed.text ++ next more) n
     ∙ ap (λ x. g.text ++ x) (take-append-le n failed.text (next more) (omega arith) ∙ take_min f.len failed.text) in
-    record { len = length g.text + n; front = f.front ∙ ap Some (append_assoc before g.text (take f.len failed.text) ∙ ap (λ x. before ++ x) (sym cut)) }
+    record { len = length g.text + n; prefix = f.prefix ∙ ap Some (append_assoc before g.text (take f.len failed.text) ∙ ap (λ x. before ++ x) (sym cut)) }
 
 line_stops : (first now next : Replies) (input before : List ℕ) (left left_now held_now held_new : Option (List ℕ)) (line : List ℕ) (p q : Progress) (status : Status) (limit taken : ℕ) → Going first now input left (Some before) held_now p → p.taken ≤ q.taken
     → TakesOf p q (drop p.taken input) left_now → IsNextLine line p q (drop p.taken input) → RespondsTo line now next held_now held_new (result.Err status) → Wrote first status limit taken input before held_new

@@ -4,7 +4,7 @@ use Rattle.cm_outside.proofs.Scanning.{then_takes, rest_scanned, at_break, same_
 use Rattle.cm_outside.proofs.line_reader.LineReader.read_line.Goals as goal
 
 pub cut-requires : goal.cut-requires
-cut-requires g c = omega (arith, ap length c.loop-line.invariant.scanned.front, length-take 1048577 c.loop-line.invariant.scanned.part)
+cut-requires g c = omega (arith, ap length c.loop-line.invariant.scanned.prefix, length-take 1048577 c.loop-line.invariant.scanned.part)
 
 pub returns-then-branch-clause-left : goal.returns-then-branch-clause-left
 returns-then-branch-clause-left g c = same_left _ _ _ _ _ _ c.loop-line.invariant.scanned c.cut.ensures.counts
