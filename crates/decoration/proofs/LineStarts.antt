@@ -1,11 +1,11 @@
 -- A place is the start of a line exactly where the line that it stands in starts there.
 use Rattle.std.proofs.Common.{◌≡◌, ℕ, zero, suc, ◌+◌, ◌-◌, ◌<◌, ◌≤◌, Bool, true, false, ◌||◌, cond, List, [], ◌∷◌, length, Some, refl, sym, ap, ◌∙◌, arith}
 use Rattle.std.specs.Prelude.{slice_get, ◌==◌}
-use Rattle.std.specs.List.{list_any}
+use Rattle.std.specs.List.{list_any, onto_first}
 use Rattle.std.proofs.lemmas.Bool.Decides.{nat_tests}
 use Rattle.line_tree.specs.declared.line.Line.{Line}
 use Rattle.line_tree.specs.Text.{line_feed}
-use Rattle.line_tree.specs.Lines.{onto_first, numbered, parts_of, IsLineOf}
+use Rattle.line_tree.specs.Lines.{numbered, line_texts, IsLineOf}
 use Rattle.decoration.specs.Places.{is_line_start}
 
 abbrev starts_at : ℕ → Line → Bool
@@ -47,7 +47,7 @@ found (part ∷ parts) number from (suc i) place line h s e =
     ∙ found parts (number + 1) (from + length part + 1) i place line h s e
 
 pub line_start : (text : List ℕ) (place : ℕ) (line : Line) → IsLineOf text line → line.from ≤ place → place ≤ line.to → is_line_start text place ≡ (line.from == place)
-line_start text place line h s e = found (parts_of text) 1 0 (line.number - 1) place line h s e
+line_start text place line h s e = found (line_texts text) 1 0 (line.number - 1) place line h s e
 
 -- how many characters some lines take, each with a break
 abbrev extent : List (List ℕ) → ℕ
@@ -58,25 +58,25 @@ some_onto : (c : ℕ) (parts : List (List ℕ)) → 0 < length (onto_first c par
 some_onto c [] = omega arith
 some_onto c (part ∷ parts) = omega arith
 
-some_part : (text : List ℕ) → 0 < length (parts_of text)
+some_part : (text : List ℕ) → 0 < length (line_texts text)
 some_part [] = omega arith
 some_part (c ∷ cs) = at (c == line_feed)
   where
-    at : (b : Bool) → 0 < length (cond b ([] ∷ parts_of cs) (onto_first c (parts_of cs)))
+    at : (b : Bool) → 0 < length (cond b ([] ∷ line_texts cs) (onto_first c (line_texts cs)))
     at true = omega arith
-    at false = some_onto c (parts_of cs)
+    at false = some_onto c (line_texts cs)
 
 extent_onto : (c : ℕ) (parts : List (List ℕ)) → 0 < length parts → extent (onto_first c parts) ≡ extent parts + 1
 extent_onto c [] h = absurd (omega arith)
 extent_onto c (part ∷ parts) h = omega arith
 
-extent-parts : (text : List ℕ) → extent (parts_of text) ≡ length text + 1
+extent-parts : (text : List ℕ) → extent (line_texts text) ≡ length text + 1
 extent-parts [] = refl
 extent-parts (c ∷ cs) = at (extent-parts cs) (c == line_feed)
   where
-    at : extent (parts_of cs) ≡ length cs + 1 → (b : Bool) → extent (cond b ([] ∷ parts_of cs) (onto_first c (parts_of cs))) ≡ length (c ∷ cs) + 1
+    at : extent (line_texts cs) ≡ length cs + 1 → (b : Bool) → extent (cond b ([] ∷ line_texts cs) (onto_first c (line_texts cs))) ≡ length (c ∷ cs) + 1
     at e true = omega (arith, e)
-    at e false = omega (arith, e, extent_onto c (parts_of cs) (some_part cs))
+    at e false = omega (arith, e, extent_onto c (line_texts cs) (some_part cs))
 
 none_beyond : (parts : List (List ℕ)) (number from place : ℕ) → from + extent parts ≤ place → list_any (starts_at place) (numbered number from parts) ≡ false
 none_beyond [] number from place h = refl
@@ -85,4 +85,4 @@ none_beyond (part ∷ parts) number from place h =
 
 -- no line starts past the text
 pub no_line_start : (text : List ℕ) (place : ℕ) → length text < place → is_line_start text place ≡ false
-no_line_start text place h = none_beyond (parts_of text) 1 0 place (omega (arith, extent-parts text))
+no_line_start text place h = none_beyond (line_texts text) 1 0 place (omega (arith, extent-parts text))

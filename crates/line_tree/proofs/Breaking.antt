@@ -1,8 +1,8 @@
 -- A text about one of its breaks.
-use Rattle.std.proofs.Common.{◌≡◌, ℕ, ◌+◌, ◌-◌, ◌<◌, ◌≤◌, List, [], ◌∷◌, ◌++◌, length, get_or, take, drop, sym, ◌∙◌, ap, arith}
-use Rattle.std.proofs.lemmas.List.{take-append-drop, drop_more, take_all, length-take, length-drop}
+use Rattle.std.proofs.Common.{◌≡◌, ℕ, ◌+◌, ◌-◌, List, ◌∷◌, ◌++◌, length, take, drop, sym, ◌∙◌, ap, arith}
+use Rattle.std.proofs.lemmas.List.{take-append-drop, drop_more, take_all, length-drop}
 use Rattle.line_tree.specs.Breaks.{count_breaks, IsBreakAt}
-use Rattle.line_tree.proofs.Counts.{count-append, count-break, count_take}
+use Rattle.line_tree.proofs.Counts.{count-append, count-break}
 
 -- the break, and the characters before and after it
 pub record CutAt (cs : List ℕ) (before place : ℕ) : Type 0 where

@@ -1,6 +1,6 @@
 -- Pieces one after the other.
-use Rattle.std.proofs.Common.{◌≡◌, ℕ, zero, suc, ◌+◌, ◌-◌, ◌<◌, ◌≤◌, ◌^◌, min, List, [], ◌∷◌, ◌++◌, length, get_or, take, drop, refl, sym, ◌∙◌, ap, subst, arith, append_assoc, length-append}
-use Rattle.std.proofs.lemmas.List.{append-nil, take_more, take-append-drop, drop_more, length-drop, get_or_default, get_or_read}
+use Rattle.std.proofs.Common.{◌≡◌, ℕ, zero, suc, ◌+◌, ◌-◌, ◌<◌, ◌≤◌, ◌^◌, List, [], ◌∷◌, ◌++◌, length, get_or, take, drop, refl, sym, ◌∙◌, ap, subst, arith, append_assoc, length-append}
+use Rattle.std.proofs.lemmas.List.{append-nil, take_more, take-append-drop, drop_more, get_or_read}
 use Rattle.std.specs.List.{concat}
 use Rattle.line_tree.specs.Breaks.{count_breaks, IsBreakAt, IsCounted}
 use Rattle.line_tree.specs.Pieces.{piece_of, StartsAt, HoldsPlace, HoldsBreak}

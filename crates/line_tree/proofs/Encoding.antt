@@ -1,5 +1,5 @@
 -- Characters in UTF-8.
-use Rattle.std.proofs.Common.{◌≡◌, ℕ, ◌+◌, List, [], ◌∷◌, ◌++◌, length, get_or, take, drop, refl, sym, ◌∙◌, ap, append_assoc}
+use Rattle.std.proofs.Common.{◌≡◌, ℕ, ◌+◌, List, [], ◌∷◌, ◌++◌, length, get_or, take, refl, sym, ◌∙◌, ap, append_assoc}
 use Rattle.std.specs.Prelude.{encode_utf8, encode_utf8_all, ◌<◌}
 use Rattle.std.proofs.lemmas.List.{append-nil, take_more}
 

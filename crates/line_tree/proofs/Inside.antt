@@ -1,8 +1,8 @@
 -- A list that stands inside another: before it stands `a`, after it `b`.
-use Rattle.std.proofs.Common.{◌≡◌, ℕ, zero, suc, ◌+◌, ◌-◌, ◌<◌, ◌≤◌, min, List, [], ◌∷◌, ◌++◌, length, get_or, take, drop, refl, sym, ◌∙◌, ap, arith, append_assoc, length-append}
-use Rattle.std.proofs.lemmas.List.{append-nil, take_all, take_min, drop_min, take_rest, take-append-le, drop-append-le, take-take, length-take, length-drop, get_or-append-add, get_or_append_left}
+use Rattle.std.proofs.Common.{◌≡◌, ℕ, zero, suc, ◌+◌, ◌-◌, ◌<◌, ◌≤◌, min, List, [], ◌∷◌, ◌++◌, length, get_or, take, drop, refl, sym, ◌∙◌, ap, arith, length-append}
+use Rattle.std.proofs.lemmas.List.{take_all, take_min, drop_min, take_rest, take-append-le, drop-append-le, take-take, length-drop, get_or-append-add, get_or_append_left}
 use Rattle.line_tree.specs.Breaks.{count_breaks, IsBreakAt}
-use Rattle.line_tree.proofs.Counts.{count-append, count-break}
+use Rattle.line_tree.proofs.Counts.{count-append}
 
 pub take_past : (a b : List ℕ) (n : ℕ) → length a ≤ n → take n (a ++ b) ≡ a ++ take (n - length a) b
 take_past [] b n h = ap (λ k. take k b) (let e : n ≡ n - 0 = omega arith in e)

@@ -10,3 +10,4 @@ pub mod Breaking
 pub mod LineOf
 pub mod Encoding
 pub mod Cutting
+pub mod Replacing

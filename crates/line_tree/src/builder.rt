@@ -195,18 +195,21 @@ impl TextBuilder {
         }
     }
 
-    /// Adds a leaf to the last lines.
-    fn push_lines(&mut self, leaf: &Leaf) -> Result<(), AllocError>
+    /// Adds some characters of a leaf, to the last lines if there is room for them.
+    fn push_lines(&mut self, leaf: &Leaf, from: u32, count: u32) -> Result<(), AllocError>
         requires few { count_breaks leaf.now < 64 }
-        requires fits { length self.old + length leaf.now < 2 ^ 32 }
-        ensures { OnOk result (self.new ≡ self.old ++ leaf.now) }
+        requires within { from + count ≤ length leaf.now }
+        requires fits { length self.old + count < 2 ^ 32 }
+        ensures { OnOk result (self.new ≡ self.old ++ take count (drop from leaf.now)) }
     {
-        if self.last.breaks() + leaf.breaks() > 63 {
-            return self.push_tree(&make_leaf(self.alloc, leaf.part(0, leaf.len())?)?);
+        let _fits = leaf.len();
+        let breaks = leaf.breaks_before(from + count) - leaf.breaks_before(from);
+        if self.last.breaks() + breaks > 63 {
+            return self.push_tree(&make_leaf(self.alloc, leaf.part(from, count)?)?);
         }
-        match self.last.push_whole(leaf) {
+        match self.last.push_leaf(leaf, from, count) {
             Ok(()) => {
-                self.len += leaf.len();
+                self.len += count;
                 Ok(())
             }
             Err(error) => {
@@ -216,12 +219,24 @@ impl TextBuilder {
         }
     }
 
+    /// The text so far, and then another.
+    fn followed_by(&self, text: &Text) -> Result<Text, AllocError>
+        requires { length self.now + length text.now.characters < 2 ^ 32 }
+        ensures { IfOk result (λ t. t.characters ≡ self.now ++ text.now.characters) }
+    {
+        if self.len == 0 {
+            text.try_copy()
+        } else {
+            self.text()?.append(text)
+        }
+    }
+
     /// Adds a text after those that were put in, as a tree.
     fn push_tree(&mut self, text: &Text) -> Result<(), AllocError>
         requires { length self.old + length text.now.characters < 2 ^ 32 }
         ensures { OnOk result (self.new ≡ self.old ++ text.now.characters) }
     {
-        let whole = self.text()?.append(text)?;
+        let whole = self.followed_by(text)?;
         self.len = whole.len();
         self.done = Done::Open(whole);
         self.last = LeafBuilder::new(self.alloc);
@@ -234,8 +249,28 @@ impl TextBuilder {
         ensures { OnOk result (self.new ≡ self.old ++ text.now.characters) }
     {
         match &*text.node {
-            Node::Leaf(leaf) => self.push_lines(leaf),
+            Node::Leaf(leaf) => self.push_lines(leaf, 0, leaf.len()),
             Node::Branch(_) => self.push_tree(text),
+        }
+    }
+
+    /// Adds some characters of a text, and shares its parts.
+    pub(crate) fn push_slice(
+        &mut self,
+        text: &Text,
+        from: u32,
+        count: u32,
+    ) -> Result<(), AllocError>
+        requires within { from + count ≤ length text.now.characters }
+        requires fits { length self.old + count < 2 ^ 32 }
+        ensures { OnOk result (self.new ≡ self.old ++ take count (drop from text.now.characters)) }
+    {
+        match &*text.node {
+            Node::Leaf(leaf) => self.push_lines(leaf, from, count),
+            Node::Branch(_) => {
+                let _fits = text.len();
+                self.push_tree(&text.slice(from, from + count)?)
+            }
         }
     }
 
@@ -243,6 +278,12 @@ impl TextBuilder {
     pub fn finish(self) -> Result<Text, AllocError>
         ensures { IfOk result (λ t. t.characters ≡ self) }
     {
-        self.text()
+        let TextBuilder {
+            done,
+            last,
+            len: _,
+            alloc,
+        } = self;
+        with_leaf(alloc, &done, last.finish()?)
     }
 }

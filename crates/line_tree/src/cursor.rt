@@ -88,7 +88,7 @@ impl<'a> TextCursor<'a> {
         if count <= COPIED {
             copy_characters(self.text, self.pos, count, builder)?;
         } else {
-            builder.push_text(&self.text.slice(self.pos, self.pos + count)?)?;
+            builder.push_slice(self.text, self.pos, count)?;
         }
         self.pos += count;
         Ok(())

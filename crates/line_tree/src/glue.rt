@@ -1,12 +1,14 @@
-ghost use Rattle.std.specs.Prelude.{◌≡◌, ◌++◌, ◌∷◌, [], ◌+◌, ◌^◌, ◌<◌, ◌≤◌, length, take, drop, IfOk, OnOk};
-ghost use Rattle.line_tree.specs.Text.{line_feed};
+ghost use Rattle.std.specs.Prelude.{◌≡◌, ◌++◌, ◌∷◌, [], ◌+◌, ◌-◌, ◌^◌, ◌<◌, ◌≤◌, length, take, drop, IfOk, OnOk};
+ghost use Rattle.line_tree.specs.Text.{line_feed, replaced};
+ghost use Rattle.line_tree.specs.Breaks.{count_breaks};
 ghost use Rattle.line_tree.specs.Parts.{after_break, HaveHeight};
 ghost use Rattle.line_tree.specs.Places.{AddsBoth, IsLevel, before_break};
 
+use crate::leaf::Leaf;
 use crate::leaf_builder::LeafBuilder;
 use crate::text::{Node, Text};
 use crate::tree::{add_copies, add_level, add_lines, join_copies, one_text};
-use std::alloc::AllocError;
+use std::alloc::{AllocError, Global};
 use std::slice;
 
 /// The parts of a text of this height, or else the text alone.
@@ -55,7 +57,7 @@ fn glue_leaves(left: &Text, right: &Text, out: &mut Vec<Text>) -> Result<(), All
     let mut builder = LeafBuilder::new(alloc);
     builder.push_whole(left)?;
     builder.push_whole(right)?;
-    add_lines(alloc, builder.leaf()?, out)
+    add_lines(alloc, builder.finish()?, out)
 }
 
 /// Adds one or two texts, as high as the higher of the two, that are `left`, a break and then `right`.
@@ -140,4 +142,37 @@ pub(crate) fn before_parts(
     }
     let back = join_copies(text.alloc(), &parts[start..], height)?;
     append_lines(&text, &back)
+}
+
+/// The lines of a leaf with those of another in place of the characters from `from` to `to`.
+pub(crate) fn replace_lines(
+    leaf: &Leaf,
+    from: u32,
+    to: u32,
+    inserted: &Leaf,
+) -> Result<Text, AllocError>
+    requires order { from ≤ to }
+    requires within { to ≤ length leaf.now }
+    requires few { count_breaks leaf.now < 64 }
+    requires few_inserted { count_breaks inserted.now < 64 }
+    requires fits { length leaf.now - (to - from) + length inserted.now < 2 ^ 32 }
+    ensures { IfOk result (λ t. t.characters ≡ replaced from to inserted.now leaf.now) }
+{
+    let alloc = leaf.alloc();
+    let mut builder = LeafBuilder::new(alloc);
+    builder.push_leaf(leaf, 0, from)?;
+    builder.push_whole(inserted)?;
+    builder.push_leaf(leaf, to, leaf.len() - to)?;
+    lines_of_leaf(alloc, builder.finish()?)
+}
+
+/// The text of some lines, of which there are at most 127.
+fn lines_of_leaf(alloc: Global, leaf: Leaf) -> Result<Text, AllocError>
+    requires few { count_breaks leaf < 127 }
+    requires fits { length leaf < 2 ^ 32 }
+    ensures { IfOk result (λ t. t.characters ≡ leaf) }
+{
+    let mut pieces = Vec::new(alloc);
+    add_lines(alloc, leaf, &mut pieces)?;
+    one_text(alloc, pieces, 0)
 }

@@ -128,11 +128,13 @@ impl LeafBuilder {
         requires fits { length self.old + count < 2 ^ 32 }
         ensures { OnOk result (self.new ≡ self.old ++ take count (drop from piece.now)) }
     {
-        let characters = piece.chars();
-        if count == characters.len() && self.last.len() + count > PIECE_LEN / 2 {
+        if count == 0 {
+            return Ok(());
+        }
+        if count == piece.len() as usize && self.last.len() + count > PIECE_LEN / 2 {
             self.share(piece)
         } else {
-            self.push_all(&characters[from..from + count])
+            self.push_all(&piece.chars()[from..from + count])
         }
     }
 
@@ -145,6 +147,9 @@ impl LeafBuilder {
         let mut skip = from as usize;
         let mut left = count as usize;
         for piece in &leaf.pieces {
+            if left == 0 {
+                return Ok(());
+            }
             let len = piece.len() as usize;
             let start = skip.min(len);
             let now = left.min(len - start);
@@ -180,6 +185,26 @@ impl LeafBuilder {
     }
 }
 
+impl LeafBuilder {
+    /// The leaf of what was added.
+    pub(crate) fn finish(self) -> Result<Leaf, AllocError>
+        ensures { IfOk result (λ l. l ≡ self) }
+    {
+        let LeafBuilder {
+            mut pieces,
+            last,
+            len,
+            breaks,
+        } = self;
+        push_piece(&mut pieces, last.as_slice())?;
+        Ok(Leaf {
+            pieces,
+            len,
+            breaks,
+        })
+    }
+}
+
 impl Leaf {
     /// Some of the characters, as a leaf of their own.
     pub(crate) fn part(&self, from: u32, count: u32) -> Result<Leaf, AllocError>
@@ -188,6 +213,6 @@ impl Leaf {
     {
         let mut builder = LeafBuilder::new(self.alloc());
         builder.push_leaf(self, from, count)?;
-        builder.leaf()
+        builder.finish()
     }
 }

@@ -8,28 +8,23 @@ use std::rc::Rc;
 /// The greatest number of characters that are put into one piece.
 pub(crate) const PIECE_LEN: usize = 4096;
 
-/// Some characters that leaves share.
+/// Some characters that leaves share. Their numbers stand beside them, so that looking for a place reads no characters.
 #[derive(Drop)]
 pub(crate) struct Piece {
-    content: Rc<Content>,
-}
-
-/// The characters of a piece, and how many of them are breaks.
-#[derive(Drop)]
-struct Content {
-    characters: Vec<char>,
+    characters: Rc<Vec<char>>,
+    len: u32,
     breaks: u32,
 }
 
 impl Model for Piece {
-    ghost use Rattle.std.specs.Prelude.{◌≡◌, ◌^◌, ◌<◌, List, ℕ, length};
-    ghost use Rattle.line_tree.specs.Breaks.{count_breaks};
+    ghost use Rattle.std.specs.Prelude.{List, ℕ};
+    ghost use Rattle.line_tree.specs.Breaks.{IsCounted};
 
     ghost Value = { List ℕ };
 
-    ghost view = { λ p. p.content.value.characters.items };
+    ghost view = { λ p. p.characters.value.items };
 
-    ghost invariant = { λ p. (p.content.value.breaks ≡ count_breaks p.content.value.characters.items) × (length p.content.value.characters.items < 2 ^ 32) };
+    ghost invariant = { λ p. IsCounted p.characters.value.items p.len p.breaks };
 }
 
 impl Piece {
@@ -38,31 +33,35 @@ impl Piece {
         requires { length characters.now < 2 ^ 32 }
         ensures { IfOk result (λ p. p ≡ characters.now) }
     {
+        let len = characters.len() as u32;
         let breaks = breaks_in(characters);
-        let characters = Vec::from_slice(alloc, characters)?;
-        let content = Rc::new(alloc, Content { characters, breaks })?;
-        Ok(Piece { content })
+        let characters = Rc::new(alloc, Vec::from_slice(alloc, characters)?)?;
+        Ok(Piece {
+            characters,
+            len,
+            breaks,
+        })
     }
 
     /// The characters.
     pub(crate) fn chars(&self) -> &[char]
         ensures { result.now ≡ self.now }
     {
-        self.content.characters.as_slice()
+        self.characters.as_slice()
     }
 
     /// How many characters it has.
     pub(crate) fn len(&self) -> u32
         ensures { result ≡ length self.now }
     {
-        self.content.characters.len() as u32
+        self.len
     }
 
     /// How many breaks are among them.
     pub(crate) fn breaks(&self) -> u32
         ensures { result ≡ count_breaks self.now }
     {
-        self.content.breaks
+        self.breaks
     }
 
     /// The same piece once more, which shares the characters.
@@ -70,7 +69,9 @@ impl Piece {
         ensures { IfOk result (λ p. p ≡ self.now) }
     {
         Ok(Piece {
-            content: self.content.clone()?,
+            characters: self.characters.clone()?,
+            len: self.len,
+            breaks: self.breaks,
         })
     }
 }

@@ -6,7 +6,7 @@ ghost use Rattle.line_tree.specs.Breaks.{count_breaks, IsBreakAt};
 ghost use Rattle.line_tree.specs.LineEnds.{StartsLine, EndsLine};
 
 use crate::builder::TextBuilder;
-use crate::glue::{after_parts, append_glued, before_parts};
+use crate::glue::{after_parts, append_glued, before_parts, replace_lines};
 use crate::leaf::Leaf;
 use crate::line::Line;
 use crate::parts::{part_at, part_of_break};
@@ -421,6 +421,19 @@ impl Text {
         requires fits { length self.now.characters - (to - from) + length inserted.now.characters < 2 ^ 32 }
         ensures { IfOk result (λ t. t.characters ≡ replaced from to inserted.now.characters self.now.characters) }
     {
+        match (&*self.node, &*inserted.node) {
+            (Node::Leaf(leaf), Node::Leaf(inserted)) => replace_lines(leaf, from, to, inserted),
+            _ => self.replace_parts(from, to, inserted),
+        }
+    }
+
+    /// The same of a text or an inserted text that has parts.
+    fn replace_parts(&self, from: u32, to: u32, inserted: &Text) -> Result<Text, AllocError>
+        requires order { from ≤ to }
+        requires within { to ≤ length self.now.characters }
+        requires fits { length self.now.characters - (to - from) + length inserted.now.characters < 2 ^ 32 }
+        ensures { IfOk result (λ t. t.characters ≡ replaced from to inserted.now.characters self.now.characters) }
+    {
         let front = self.front(from)?;
         let back = self.back(to)?;
         front.append(inserted)?.append(&back)
@@ -440,7 +453,13 @@ impl Text {
         requires within { to ≤ length self.now.characters }
         ensures { IfOk result (λ t. t.characters ≡ slice from to self.now.characters) }
     {
-        self.front(to)?.back(from)
+        if from == 0 {
+            self.front(to)
+        } else if to == self.len() {
+            self.back(from)
+        } else {
+            self.front(to)?.back(from)
+        }
     }
 
     /// The same text once more, which shares all its parts. `Err`: out of memory.

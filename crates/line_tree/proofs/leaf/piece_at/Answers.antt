@@ -1,5 +1,4 @@
-use Rattle.std.proofs.Common.{◌<◌, length, take, arith}
-use Rattle.std.specs.List.{concat}
+use Rattle.std.proofs.Common.{arith}
 use Rattle.line_tree.proofs.Concats.{length_more, count_more}
 use Rattle.line_tree.proofs.leaf.piece_at.Goals as goal
 

@@ -1,5 +1,4 @@
-use Rattle.std.proofs.Common.{◌≡◌, ◌∷◌, ◌++◌, ◌+◌, ◌-◌, take, drop, length, ap, ◌∙◌, arith}
-use Rattle.line_tree.specs.Breaks.{count_breaks}
+use Rattle.std.proofs.Common.{◌≡◌, ◌+◌, take, drop, ◌∙◌, arith}
 use Rattle.line_tree.proofs.Breaking.{cut_at}
 use Rattle.line_tree.proofs.Seams.{adds_two}
 use Rattle.line_tree.proofs.tree.add_lines.Goals as goal

@@ -1,5 +1,5 @@
-use Rattle.std.proofs.Common.{◌≡◌, ◌∙◌, ◌-◌, ◌+◌, ◌<◌, length, sym, ap, subst, arith}
-use Rattle.line_tree.specs.Breaks.{count_breaks, IsBreakAt}
+use Rattle.std.proofs.Common.{◌-◌, length, ap, subst, arith}
+use Rattle.line_tree.specs.Breaks.{IsBreakAt}
 use Rattle.line_tree.proofs.Concats.{at_break}
 use Rattle.line_tree.proofs.leaf.Leaf.break_place.Goals as goal
 

@@ -1,4 +1,4 @@
-use Rattle.std.proofs.Common.{◌∙◌, sym, ap, take, ◌-◌, arith}
+use Rattle.std.proofs.Common.{ap, take, ◌-◌, arith}
 use Rattle.line_tree.specs.Breaks.{count_breaks}
 use Rattle.line_tree.proofs.Concats.{at_place}
 use Rattle.line_tree.proofs.leaf.Leaf.breaks_before.Goals as goal

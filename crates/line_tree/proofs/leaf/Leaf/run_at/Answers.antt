@@ -1,5 +1,4 @@
-use Rattle.std.proofs.Common.{◌≡◌, ◌∙◌, ◌-◌, ◌+◌, ◌≤◌, sym, ap, take, drop, length, subst, arith}
-use Rattle.std.proofs.lemmas.List.{length-take, length-drop, take_rest}
+use Rattle.std.proofs.Common.{◌-◌, arith}
 use Rattle.line_tree.proofs.Concats.{at_place}
 use Rattle.line_tree.proofs.Inside.{rest_run}
 use Rattle.line_tree.proofs.leaf.Leaf.run_at.Goals as goal

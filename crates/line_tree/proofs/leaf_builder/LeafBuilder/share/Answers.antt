@@ -1,7 +1,5 @@
-use Rattle.std.proofs.Common.{◌≡◌, ◌++◌, ◌∷◌, [], ◌+◌, ◌<◌, ◌^◌, length, ◌∙◌, ap, sym, subst, arith}
-use Rattle.std.proofs.lemmas.List.{append-nil}
+use Rattle.std.proofs.Common.{◌≡◌, ◌++◌, length, ◌∙◌, ap, arith}
 use Rattle.std.specs.List.{concat}
-use Rattle.line_tree.specs.Breaks.{count_breaks, IsCounted}
 use Rattle.line_tree.proofs.Concats.{shared_more, counted_more}
 use Rattle.line_tree.proofs.leaf_builder.LeafBuilder.share.Goals as goal
 

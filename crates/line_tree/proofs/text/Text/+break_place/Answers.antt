@@ -1,4 +1,4 @@
-use Rattle.std.proofs.Common.{◌<◌, ◌+◌, length, sym, ◌∙◌, ap, subst, arith}
+use Rattle.std.proofs.Common.{◌+◌, length, sym, ◌∙◌, ap, subst, arith}
 use Rattle.line_tree.specs.Breaks.{count_breaks, IsBreakAt}
 use Rattle.line_tree.specs.Places.{PartHoldsBreak}
 use Rattle.line_tree.proofs.Nodes.{at_branch}

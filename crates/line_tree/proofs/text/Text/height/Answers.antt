@@ -1,4 +1,4 @@
-use Rattle.std.proofs.Common.{◌^◌, ap, arith}
+use Rattle.std.proofs.Common.{arith}
 use Rattle.line_tree.proofs.LineCounts.{length-lines}
 use Rattle.line_tree.proofs.text.Text.height.Goals as goal
 

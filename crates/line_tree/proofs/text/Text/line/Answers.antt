@@ -1,4 +1,4 @@
-use Rattle.std.proofs.Common.{◌≡◌, ◌-◌, ◌+◌, ℕ, ap, ◌∙◌, arith}
+use Rattle.std.proofs.Common.{arith}
 use Rattle.line_tree.proofs.LineCounts.{length-lines}
 use Rattle.line_tree.proofs.LineOf.{line_numbered, line_order}
 use Rattle.line_tree.proofs.text.Text.line.Goals as goal

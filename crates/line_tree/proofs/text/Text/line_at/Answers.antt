@@ -1,6 +1,4 @@
-use Rattle.std.proofs.Common.{◌≡◌, ◌-◌, ◌+◌, ap, sym, ◌∙◌, arith}
-use Rattle.std.specs.Prelude.{slice_get}
-use Rattle.line_tree.specs.Lines.{lines_of}
+use Rattle.std.proofs.Common.{sym, arith}
 use Rattle.line_tree.proofs.LineOf.{line_numbered, place_in_line}
 use Rattle.line_tree.proofs.text.Text.line_at.Goals as goal
 

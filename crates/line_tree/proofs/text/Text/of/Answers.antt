@@ -1,4 +1,4 @@
-use Rattle.std.proofs.Common.{◌++◌, false, sym, ◌∙◌, ap, subst, arith, length-append}
+use Rattle.std.proofs.Common.{◌++◌, false, sym, ◌∙◌, ap, subst, arith}
 use Rattle.std.proofs.lemmas.List.{append-nil, nil_from_length}
 use Rattle.std.proofs.lemmas.Result.{IfOk-weaker}
 use Rattle.line_tree.specs.Text.{BeginsWithReturn, cut, cut_after}
