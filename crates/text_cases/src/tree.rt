@@ -1,0 +1,104 @@
+//! A text of 4,096 breaks as a tree.
+use crate::made::{replaced, text};
+use line_tree::{Line, Text};
+use std::alloc::{AllocError, Global};
+use std::test::Fail;
+
+fn breaks(alloc: Global) -> Result<Text, AllocError> {
+    text(alloc, &['\n'; 4096])
+}
+
+#[test]
+fn a_text_of_breaks_is_a_low_tree(rt: HostRuntime) -> Result<(), Fail> {
+    let text = breaks(rt.alloc())?;
+    assert!(rt; text.len() == 4096);
+    assert!(rt; text.lines() == 4097);
+    assert!(rt; text.height() <= 12);
+    Ok(())
+}
+
+fn line_at(text: &Text, pos: u32) -> Option<Line> {
+    if pos > text.len() {
+        return None;
+    }
+    Some(text.line_at(pos))
+}
+
+#[test]
+fn a_line_is_found_in_the_tree(rt: HostRuntime) -> Result<(), Fail> {
+    let want = Line {
+        number: 2049,
+        from: 2048,
+        to: 2048,
+    };
+    assert!(rt; line_at(&breaks(rt.alloc())?, 2048) == Some(want));
+    Ok(())
+}
+
+/// How many lines the leaves have that were met, and the most that one has.
+#[derive(Clone, Copy)]
+struct Leaves {
+    lines: u64,
+    most: u64,
+}
+
+/// Adds the parts of each text to a list, and the lines of those that have none to the leaves.
+fn descend(texts: &[Text], leaves: Leaves, out: &mut Vec<Text>) -> Result<Leaves, AllocError> {
+    let mut found = leaves;
+    for text in texts {
+        if text.parts().is_empty() {
+            found = Leaves {
+                lines: found.lines.saturating_add(text.lines()),
+                most: found.most.max(text.lines()),
+            };
+        }
+        for part in text.parts() {
+            out.push(part.try_copy()?)?;
+        }
+    }
+    Ok(found)
+}
+
+/// The leaves that are found through the parts, of a tree of at most 12 levels.
+fn found_leaves(alloc: Global, text: &Text) -> Result<Leaves, AllocError> {
+    let mut level = Vec::new(alloc);
+    level.push(text.try_copy()?)?;
+    let mut found = Leaves { lines: 0, most: 0 };
+    for _ in 0..13 {
+        let mut next = Vec::new(alloc);
+        found = descend(level.as_slice(), found, &mut next)?;
+        level = next;
+    }
+    Ok(found)
+}
+
+fn has_leaves(alloc: Global, text: &Text, lines: u64) -> Result<bool, AllocError> {
+    let found = found_leaves(alloc, text)?;
+    Ok(found.lines == lines && found.most <= 64)
+}
+
+/// The tree with ten breaks in its midst replaced by three characters.
+fn changed(alloc: Global) -> Result<Text, AllocError> {
+    let inserted = text(alloc, &['a', '\n', 'b'])?;
+    replaced(&breaks(alloc)?, 1000, 1010, &inserted)
+}
+
+#[test]
+fn leaves_are_found_through_the_parts(rt: HostRuntime) -> Result<(), Fail> {
+    assert!(rt; has_leaves(rt.alloc(), &breaks(rt.alloc())?, 4097)?);
+    assert!(rt; has_leaves(rt.alloc(), &changed(rt.alloc())?, 4088)?);
+    Ok(())
+}
+
+#[test]
+fn a_change_reaches_a_few_lines(rt: HostRuntime) -> Result<(), Fail> {
+    let text = changed(rt.alloc())?;
+    let want = Line {
+        number: 1002,
+        from: 1002,
+        to: 1003,
+    };
+    assert!(rt; text.len() == 4089);
+    assert!(rt; line_at(&text, 1002) == Some(want));
+    Ok(())
+}
