@@ -1,0 +1,157 @@
+use crate::numbered::described;
+use change_desc::{Desc, MapMode, Section};
+use cm_plain::Str;
+use decoration::{
+    Color, Deco, DecoError, DecoSet, Inclusive, Kind, Layers, Style, place, place_line,
+};
+use line_tree::Text;
+use range_set::{RangeSet, RangeValue};
+use std::alloc::Global;
+use std::test::*;
+
+const NEITHER: Inclusive = Inclusive {
+    start: false,
+    end: false,
+};
+
+const BOTH: Inclusive = Inclusive {
+    start: true,
+    end: true,
+};
+
+/// The set of one mark from 2 to 4.
+fn marked(alloc: Global, inclusive: Inclusive) -> Result<DecoSet, Fail> {
+    let mark = place(Deco::mark(Style::plain(), inclusive), 2, 4)
+        .ok()
+        .ok_or("a mark")?;
+    let mut ranges = Vec::new(alloc);
+    ranges.push(mark)?;
+    Ok(RangeSet::of(ranges)?)
+}
+
+/// The ends of the first range of a mapped set, and how many ranges there are.
+fn mapped(set: &DecoSet, changes: &Desc) -> Result<(usize, Option<(u32, u32)>), Fail> {
+    if !set.ends_within(changes.len()) {
+        return Ok((7, None));
+    }
+    let new = set.map(changes)?;
+    let first = new.iter().next().map(|range| (range.from, range.to));
+    Ok((new.len(), first))
+}
+
+fn mapped_mark(alloc: Global, inclusive: Inclusive) -> Result<(usize, Option<(u32, u32)>), Fail> {
+    let set = marked(alloc, inclusive)?;
+    let changes = described(
+        alloc,
+        &[Section::Keep(1), Section::Replace(4, 0), Section::Keep(1)],
+    )?;
+    mapped(&set, &changes)
+}
+
+#[test]
+fn an_inclusive_mark_may_become_empty(rt: HostRuntime) -> Result<(), Fail> {
+    assert!(rt; mapped_mark(rt.alloc(), BOTH)? == (1, Some((1, 1))));
+    assert!(rt; mapped_mark(rt.alloc(), NEITHER)? == (0, None));
+    Ok(())
+}
+
+#[test]
+fn each_kind_has_its_ranges(rt: HostRuntime) -> Result<(), Fail> {
+    let cases = [
+        (Kind::Mark, 2, 1, Some(DecoError::Reversed { index: 0 })),
+        (Kind::Mark, 1, 1, Some(DecoError::EmptyMark)),
+        (Kind::Mark, 1, 2, None),
+        (Kind::Widget, 1, 2, Some(DecoError::NotEmpty)),
+        (Kind::Widget, 1, 1, None),
+        (Kind::Replace, 3, 3, Some(DecoError::BadReplace)),
+        (Kind::Replace, 3, 4, None),
+        (Kind::Line, 0, 4, Some(DecoError::NotEmpty)),
+        (Kind::Line, 0, 0, None),
+    ];
+    for (kind, from, to, error) in cases {
+        assert!(rt; kind.check(from, to).err() == error);
+    }
+    Ok(())
+}
+
+/// The side of a widget's ends, and whether its copy is the same; none where the side is refused.
+fn widget_side(alloc: Global, side: i32) -> Result<Option<(i32, i32, bool)>, Fail> {
+    let Ok(widget) = Deco::widget(Str::empty(alloc), Style::plain(), side) else {
+        return Ok(None);
+    };
+    let copy = widget.try_copy(alloc)?;
+    Ok(Some((
+        widget.start_side(),
+        widget.end_side(),
+        copy.same(&widget) && widget.is_point(),
+    )))
+}
+
+#[test]
+fn a_widget_has_a_side(rt: HostRuntime) -> Result<(), Fail> {
+    let cases = [(0, -1), (1, 1), (-3, -4), (10000, 10000), (-10000, -10001)];
+    for (side, end) in cases {
+        assert!(rt; widget_side(rt.alloc(), side)? == Some((end, end, true)));
+    }
+    for side in [10001, -10001] {
+        assert!(rt; widget_side(rt.alloc(), side)? == None);
+    }
+    Ok(())
+}
+
+/// Where a line decoration is placed, and how it moves; none where no line starts at the place.
+fn line_at(text: &Text, pos: u32) -> Option<(u32, u32, MapMode)> {
+    match place_line(text, pos, Style::plain()) {
+        Ok(range) => Some((range.from, range.to, range.value.mode())),
+        Err(_) => None,
+    }
+}
+
+#[test]
+fn a_line_decoration_stands_at_a_line_start(rt: HostRuntime) -> Result<(), Fail> {
+    let text = Text::of(rt.alloc(), &['a', 'b', '\n', 'c'])?;
+    for pos in [0, 3] {
+        assert!(rt; line_at(&text, pos) == Some((pos, pos, MapMode::TrackBefore)));
+    }
+    for pos in [1, 2, 4, 5] {
+        assert!(rt; line_at(&text, pos) == None);
+    }
+    Ok(())
+}
+
+/// Layers of a set of one mark and of one without ranges.
+fn layers(alloc: Global) -> Result<Layers, Fail> {
+    let mut sets = Vec::new(alloc);
+    sets.push(marked(alloc, BOTH)?)?;
+    sets.push(RangeSet::empty(alloc))?;
+    Ok(Layers::of(sets))
+}
+
+/// How many sets a copy of some layers has, and whether it is the same.
+fn copied(layers: &Layers) -> Result<(usize, bool), Fail> {
+    let copy = layers.try_copy()?;
+    Ok((copy.sets().len(), copy.same(layers)))
+}
+
+#[test]
+fn layers_are_compared_and_copied(rt: HostRuntime) -> Result<(), Fail> {
+    let shown = layers(rt.alloc())?;
+    assert!(rt; copied(&shown)? == (2, true));
+    assert!(rt; !shown.same(&Layers::empty(rt.alloc())));
+    assert!(rt; Color::of(8).is_none());
+    Ok(())
+}
+
+/// Whether a replacement with a text is the same as its copy.
+fn replacement_is_copied(alloc: Global) -> Result<bool, Fail> {
+    let text = Str::of(alloc, &['x'])?;
+    let deco = Deco::replace(text, Style::plain(), NEITHER);
+    let copy = deco.try_copy(alloc)?;
+    Ok(copy.same(&deco))
+}
+
+#[test]
+fn a_replacement_is_copied(rt: HostRuntime) -> Result<(), Fail> {
+    assert!(rt; replacement_is_copied(rt.alloc())?);
+    Ok(())
+}
