@@ -1,6 +1,7 @@
 use crate::effect_kinds::EffectKinds;
 
 /// What specs are merged over.
+#[derive(Drop)]
 pub struct Frame<'a, M> {
     /// The length of the start document, in characters.
     pub len: u32,
