@@ -1,6 +1,9 @@
-pub mod Meeting
-pub mod Leading
-pub mod Swapped
-pub mod Moved
+pub mod Calls
+pub mod Counted
 pub mod Keeping
+pub mod Leading
+pub mod Meeting
+pub mod Moved
 pub mod Returning
+pub mod Same
+pub mod Swapped

@@ -1,5 +1,5 @@
 -- Worked examples of the definitions on short texts, each by computation. 97 is 'a', 98 is 'b'.
-use Rattle.std.specs.Prelude.{◌≡◌, ℕ, true, false, ℤ, pos, List, [], ◌∷◌, length, Some, None, refl}
+use Rattle.std.specs.Prelude.{◌≡◌, ℕ, true, false, ℤ, pos, List, [], ◌∷◌, length, Some, None, option_map, refl}
 use Rattle.change_desc.specs.declared.section.Section.{Section}
 use Rattle.change_desc.specs.Sections.{spelled}
 use Rattle.change_desc.specs.Algebra.{span}
@@ -7,8 +7,14 @@ use Rattle.selection.specs.Selections.{SelectionView}
 use Rattle.history.specs.declared.isolation.Isolation.{Isolation}
 use Rattle.history.specs.declared.isolation.Isolation.TheVariants.{Before, After, Full}
 use Rattle.history.specs.declared.step_input.StepInput.{StepInput}
-use Rattle.history.specs.Histories.{HistoryView, empty}
+use Rattle.history.specs.declared.item.Item.TheVariants.{Select}
+use Rattle.history.specs.declared.group.Group.TheVariants.{Closed}
+use Rattle.history.specs.declared.lists.Lists.{Lists}
+use Rattle.history.specs.declared.restore.Restore.{Restore}
+use Rattle.history.specs.Histories.{empty}
+use Rattle.history.specs.Items.{change_count}
 use Rattle.history.specs.Joining.{deletion}
+use Rattle.history.specs.Reading.{restored_item}
 use Rattle.history.specs.Restoring.{given_by}
 use Rattle.history.specs.Steps.{step}
 
@@ -23,9 +29,10 @@ start = record { ranges = record { anchor = 0; head = 0 } ∷ []; main = 0 }
 abbrev pub change : Sections → (document : List ℕ) → (time : ℤ) → StepInput
 change changes document time = record {
   changes = changes;
+  effects = [];
   document = record { characters = document; height = 0 };
   selection = start;
-  selects = false;
+  given = None;
   min_depth = pos 100;
   delay = pos 500;
   time = Some time;
@@ -48,10 +55,10 @@ second = change (insert 1 (98 ∷ []) (97 ∷ [])) (97 ∷ []) (pos 100)
 
 -- a selection and no change between
 abbrev pub selecting : StepInput
-selecting = record (change (insert 0 [] (97 ∷ [])) (97 ∷ []) (pos 50)) { selects = true }
+selecting = record (change (insert 0 [] (97 ∷ [])) (97 ∷ []) (pos 50)) { given = Some start }
 
-abbrev pub depth : HistoryView → ℕ × ℕ
-depth h = (length h.done, length h.undone)
+abbrev pub depth : Lists → ℕ × ℕ
+depth h = (change_count h.done, change_count h.undone)
 
 pub joined : depth (step (step empty first) second) ≡ (1, 0)
 joined = refl
@@ -116,8 +123,29 @@ undelayed = refl
 pub shallow : step empty (record first { min_depth = pos 0 }) ≡ empty
 shallow = refl
 
+-- a selection elsewhere leaves the one before, which an undo of selections gives back
+abbrev pub cursor : ℕ → SelectionView
+cursor n = record { ranges = record { anchor = n; head = n } ∷ []; main = 0 }
+
+abbrev pub elsewhere : StepInput
+elsewhere = record selecting { given = Some (cursor 1) }
+
+pub left : (step (step empty first) elsewhere).done ≡ Select (record { selection = start; time = Some (pos 50); user_event = None }) ∷ (step empty first).done
+left = refl
+
+pub goes_back : option_map (λ (r : Restore). r.selection) (restored_item (pos 0) (pos 2) (step (step empty first) elsewhere).done) ≡ Some start
+goes_back = refl
+
+-- going back moves it to what can be done again, with the selection that is left then
+abbrev pub going_back : StepInput
+going_back = record elsewhere { selection = cursor 1; given = Some start; from_history = Some (pos 2) }
+
+pub gone_back : step (step (step empty first) elsewhere) going_back ≡
+    record (step empty first) { undone = Select (record { selection = cursor 1; time = None; user_event = None }) ∷ []; group = Closed }
+gone_back = refl
+
 -- an undo, and then a redo, give back the texts between
-abbrev pub taken_back : HistoryView
+abbrev pub taken_back : Lists
 taken_back = step (step (step empty first) second) (record (change (span spelled 2 0 2 []) (97 ∷ 98 ∷ []) (pos 200)) { from_history = Some (pos 0) })
 
 pub taken_back-depth : depth taken_back ≡ (0, 1)

@@ -1,50 +1,41 @@
--- Histories as plain data, and where their events lead from (manual: history, historyField).
-use Rattle.std.specs.Prelude.{◌≡◌, ℕ, ◌≤◌, Bool, true, eqb, ◌&&◌, List, [], ◌∷◌}
+-- Where the items of a history lead from (manual: history, historyField).
+use Rattle.std.specs.Prelude.{◌≡◌, ℕ, ◌≤◌, Bool, true, false, eqb, ◌&&◌, List, [], ◌∷◌, is_none}
 use Rattle.line_tree.specs.Text.{max_len}
 use Rattle.change_desc.specs.Sections.{spelled, old_size, new_size}
-use Rattle.selection.specs.Selections.{LieIn}
-use Rattle.history.specs.declared.event.Event.{Event}
-use Rattle.history.specs.declared.group.Group.{Group}
+use Rattle.selection.specs.Selections.{LieIn, first_outside}
+use Rattle.history.specs.declared.item.Item.{Item}
+use Rattle.history.specs.declared.item.Item.TheVariants.{Change, Select}
 use Rattle.history.specs.declared.group.Group.TheVariants.{Closed}
+use Rattle.history.specs.declared.lists.Lists.{Lists}
+use Rattle.history.specs.Items.{begins_with_change}
 
--- A history: what can be undone and what can be done again, each newest first, and whether the newest event that can be
--- undone, which is also called a group, is still open to further changes.
-pub record HistoryView : Type 0 where
-  pub done : List Event
-  pub undone : List Event
-  pub group : Group
-
-abbrev pub empty : HistoryView
+abbrev pub empty : Lists
 empty = record { done = []; undone = []; group = Closed }
 
--- the newest event of a list, if there is one, starts in a document of this length
-abbrev pub starts_at : ℕ → List Event → Bool
-starts_at len [] = true
-starts_at len (e ∷ es) = eqb (old_size e.changes) len
+-- the newest Change of a list, if there is one, starts in a document of this length, in which each newer Select lies
+abbrev pub leads : ℕ → List Item → Bool
+leads len [] = true
+leads len (Change c ∷ items) = eqb (old_size c.changes) len
+leads len (Select s ∷ items) = is_none (first_outside len s.selection.ranges) && leads len items
 
--- Leads from: the newest event of each list that has one starts in a document of this length.
-abbrev pub leads_from : ℕ → HistoryView → Bool
-leads_from len h = starts_at len h.done && starts_at len h.undone
+-- Leads from: both lists do.
+abbrev pub leads_from : ℕ → Lists → Bool
+leads_from len h = leads len h.done && leads len h.undone
 
--- each event of a list starts where the one before it leads, the first in a document of this length; no document between is
--- too long, and each selection lies in the document that its event leads to
-abbrev pub LeadOn : ℕ → List Event → Type 0
+-- each item of a list starts where the one before it leads, the first in a document of this length; a Select leads nowhere else.
+-- No document between is too long, and each selection lies in the document that its item leads to.
+abbrev pub LeadOn : ℕ → List Item → Type 0
 LeadOn len [] = Unit {0}
-LeadOn len (e ∷ es) =
-    (old_size e.changes ≡ len) × (new_size spelled e.changes ≤ max_len) × LieIn (new_size spelled e.changes) e.selection.ranges × LeadOn (new_size spelled e.changes) es
+LeadOn len (Change c ∷ items) =
+    (old_size c.changes ≡ len) × (new_size spelled c.changes ≤ max_len) × LieIn (new_size spelled c.changes) c.selection.ranges × LeadOn (new_size spelled c.changes) items
+LeadOn len (Select s ∷ items) = LieIn len s.selection.ranges × LeadOn len items
 
--- how long the document is that a list starts in
-abbrev pub first_len : List Event → ℕ
-first_len [] = 0
-first_len (e ∷ es) = old_size e.changes
+-- a list of items that lead on from some document
+abbrev pub AreItems : List Item → Type 0
+AreItems items = (len : ℕ) × LeadOn len items
 
--- a list of events that lead on from a document that isn't too long
-pub record AreEvents (es : List Event) : Type 0 where
-  pub lead_on : LeadOn (first_len es) es
-  pub short : first_len es ≤ max_len
-
--- what each history keeps: both lists lead on, and where nothing can be undone no group is open
-pub record IsHistory (h : HistoryView) : Type 0 where
-  pub done : AreEvents h.done
-  pub undone : AreEvents h.undone
-  pub group : h.done ≡ [] → h.group ≡ Closed
+-- what each history keeps: both lists lead on, and a group is open only where a Change is the newest item that can be undone
+pub record IsHistory (h : Lists) : Type 0 where
+  pub done : AreItems h.done
+  pub undone : AreItems h.undone
+  pub group : begins_with_change h.done ≡ false → h.group ≡ Closed

@@ -5,8 +5,11 @@ pub use Rattle.change_desc.specs.Ranges
 pub use Rattle.change_set.specs.Same
 pub use Rattle.selection.specs.Selections
 pub use Rattle.cm_plain.specs.UserEvents
+pub use Rattle.kept_effects.specs.MappedValues
+pub mod Items
 pub mod Histories
 pub mod Joining
+pub mod Selecting
 pub mod Moving
 pub mod Steps
 pub mod Restoring

@@ -1,51 +1,86 @@
--- Where changes that aren't recorded move the events of a list (manual: Transaction.addToHistory).
-use Rattle.std.specs.Prelude.{◌≡◌, ℕ, Bool, true, false, cond, not, ◌||◌, ltb, List, [], ◌∷◌, Option, Some, None}
+-- Where changes that aren't recorded move the items of a list (manual: Transaction.addToHistory).
+use Rattle.std.specs.Prelude.{◌≡◌, ℕ, Bool, true, false, cond, not, ◌&&◌, ltb, List, [], ◌∷◌, ◌++◌, Option, Some, None}
 use Rattle.line_tree.specs.Text.{max_len}
 use Rattle.change_desc.specs.declared.section.Section.{Section}
-use Rattle.change_desc.specs.Sections.{spelled, counted, lengths, new_size}
+use Rattle.change_desc.specs.Sections.{spelled, counted, lengths, new_size, old_size}
 use Rattle.change_desc.specs.Algebra.{map_over}
 use Rattle.change_desc.specs.Ranges.{changes_nothing}
+use Rattle.kept_effects.specs.MappedValues.{moved_effects}
 use Rattle.selection.specs.Selections.{moved_selection}
-use Rattle.history.specs.declared.event.Event.{Event}
-use Rattle.history.specs.declared.event.Moved.{Moved}
+use Rattle.history.specs.declared.item.ChangeItem.{ChangeItem}
+use Rattle.history.specs.declared.item.SelectItem.{SelectItem}
+use Rattle.history.specs.declared.item.Item.{Item}
+use Rattle.history.specs.declared.item.Item.TheVariants.{Change, Select}
+use Rattle.history.specs.declared.moving.Moved.{Moved}
+use Rattle.history.specs.Histories.{LeadOn}
 
--- an event's changes over the new document
-abbrev pub changes_over : List (Section ℕ) → Event → List (Section (List ℕ))
-changes_over over e = map_over spelled e.changes over false
+-- a Change's changes over the new document
+abbrev pub changes_over : List (Section ℕ) → ChangeItem → List (Section (List ℕ))
+changes_over over c = map_over spelled c.changes over false
 
--- the changes as they stand after an event, in the document that it leads to
-abbrev pub behind : List (Section ℕ) → Event → List (Section ℕ)
-behind over e = map_over counted over (lengths spelled e.changes) true
+-- the changes as they stand after a Change, in the document that it leads to
+abbrev pub over_after : List (Section ℕ) → ChangeItem → List (Section ℕ)
+over_after over c = map_over counted over (lengths spelled c.changes) true
 
--- Moved event: its changes over the new document, and its selection over the changes after it.
-abbrev pub moved_event : List (Section ℕ) → Event → Event
-moved_event over e = record { changes = changes_over over e; selection = moved_selection (behind over e) e.selection }
+-- Moved Change: its changes over the new document, and its effects and selection over the changes as they stand after it.
+abbrev pub moved_change : List (Section ℕ) → ChangeItem → ChangeItem
+moved_change over c =
+    let after = over_after over c in
+    record { changes = changes_over over c; effects = moved_effects after c.effects; selection = moved_selection after c.selection }
+
+-- Moved Select: it is never dropped.
+abbrev pub moved_select : List (Section ℕ) → SelectItem → SelectItem
+moved_select over s = record { selection = moved_selection over s.selection; time = s.time; user_event = s.user_event }
 
 -- it would lead to a document that is too long
-abbrev pub is_too_long : List (Section ℕ) → Event → Bool
-is_too_long over e = ltb max_len (new_size spelled (changes_over over e))
+abbrev pub is_too_long : List (Section ℕ) → ChangeItem → Bool
+is_too_long over c = ltb max_len (new_size spelled (changes_over over c))
 
--- before others, unless it has been left without changes
-abbrev pub put_kept : Event → List Event → List Event
-put_kept e es = cond (changes_nothing e.changes) es (e ∷ es)
+abbrev pub is_nil : {X : Type 0} → List X → Bool
+is_nil [] = true
+is_nil (x ∷ xs) = false
 
--- Moved events: the newest over the changes, each next over the changes as they stand after the one before it. What is left
--- without changes is dropped, and from the first that would lead to a document that is too long the rest of the list.
-abbrev pub events_over : List (Section ℕ) → List Event → List Event
-events_over over [] = []
-events_over over (e ∷ es) = cond (is_too_long over e) [] (put_kept (moved_event over e) (events_over (behind over e) es))
+-- no change and no effect is left
+abbrev pub is_idle : ChangeItem → Bool
+is_idle c = changes_nothing c.changes && is_nil c.effects
 
--- whether the newest event stays
-abbrev pub newest_stays : List (Section ℕ) → List Event → Bool
+-- before others, unless nothing is left of it
+abbrev pub put_kept : ChangeItem → List Item → List Item
+put_kept c items = cond (is_idle c) items (Change c ∷ items)
+
+-- Moved items: the newest over the changes, each next over the changes as they stand after the one before it. A Change of which
+-- nothing is left is dropped, and from the first that would lead to a document that is too long the rest of the list.
+abbrev pub items_over : List (Section ℕ) → List Item → List Item
+items_over over [] = []
+items_over over (Select s ∷ items) = Select (moved_select over s) ∷ items_over over items
+items_over over (Change c ∷ items) = cond (is_too_long over c) [] (put_kept (moved_change over c) (items_over (over_after over c) items))
+
+-- whether the newest item stays
+abbrev pub newest_stays : List (Section ℕ) → List Item → Bool
 newest_stays over [] = false
-newest_stays over (e ∷ es) = not (is_too_long over e || changes_nothing (changes_over over e))
+newest_stays over (item ∷ items) = not (is_nil (items_over over (item ∷ [])))
 
--- what private clauses say of one moved event: none where it would be too long
-pub record IsMoved (over : List (Section ℕ)) (e : Event) (m : Moved) : Type 0 where
-  pub fits : is_too_long over e ≡ false
-  pub event : m.event ≡ moved_event over e
-  pub after_it : m.behind ≡ behind over e
+-- what private clauses say of items to which a moved one was put, where there is room for it: what stands after them goes over the
+-- changes as they stand after it
+pub record PutsSome (over : List (Section ℕ)) (item : Item) (old new : List Item) (after : List (Section ℕ)) : Type 0 where
+  pub gives : (items : List Item) → new ++ items_over after items ≡ old ++ items_over over (item ∷ items)
+  pub leads : (items : List Item) → LeadOn (old_size over) (item ∷ items) → LeadOn (old_size after) items
 
-abbrev pub MovesTo : List (Section ℕ) → Event → Option Moved → Type 0
-MovesTo over e None = is_too_long over e ≡ true
-MovesTo over e (Some m) = IsMoved over e m
+-- and where it would be too long
+pub record PutsNone (over : List (Section ℕ)) (item : Item) (old new : List Item) : Type 0 where
+  pub gives : (items : List Item) → items_over over (item ∷ items) ≡ []
+  pub same : new ≡ old
+
+abbrev pub PutsMoved : List (Section ℕ) → Item → (old new : List Item) → Option (List (Section ℕ)) → Type 0
+PutsMoved over item old new None = PutsNone over item old new
+PutsMoved over item old new (Some after) = PutsSome over item old new after
+
+-- what private clauses say of one moved Change: none where it would be too long
+pub record IsMoved (over : List (Section ℕ)) (c : ChangeItem) (m : Moved) : Type 0 where
+  pub fits : is_too_long over c ≡ false
+  pub item : m.item ≡ moved_change over c
+  pub after_it : m.after ≡ over_after over c
+
+abbrev pub MovesTo : List (Section ℕ) → ChangeItem → Option Moved → Type 0
+MovesTo over c None = is_too_long over c ≡ true
+MovesTo over c (Some m) = IsMoved over c m

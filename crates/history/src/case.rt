@@ -1,14 +1,18 @@
 /// How a step of a document bears on its history.
 #[derive(Clone, Copy, Drop)]
 pub enum Case {
-    /// The newest event that can be undone is undone.
+    /// The newest Change that can be undone is undone.
     Undo,
-    /// The newest event that was undone is done again.
+    /// The newest Change that was undone is done again.
     Redo,
-    /// There are no changes.
+    /// The selection goes back to the newest one that was left.
+    UndoSelection,
+    /// The selection goes to the newest one that was gone back from.
+    RedoSelection,
+    /// There are no changes and no inverted effects.
     Unchanged,
-    /// There are changes that are not to be recorded.
+    /// There are some that are not to be recorded.
     Unrecorded,
-    /// There are changes to be recorded.
+    /// There are some to be recorded.
     Recorded,
 }

@@ -1,36 +1,44 @@
-ghost use Rattle.std.specs.Prelude.{IfOk, is_some, length, ◌≡◌, ◌||◌};
+ghost use Rattle.std.specs.Prelude.{IfOk, is_some, length, option_copied, ◌≡◌, ◌||◌};
 ghost use Rattle.change_desc.specs.Sections.{old_size};
 ghost use Rattle.change_desc.specs.Ranges.{replaced};
-ghost use Rattle.history.specs.Joining.{any_meets, is_joinable, is_met, is_near, is_soon, is_within, some_meet};
-ghost use Rattle.history.specs.Steps.{is_false, is_from, way_back};
+ghost use Rattle.history.specs.Joining.{any_meets, first_change, is_joinable, is_met, is_near, is_soon, is_within, some_meet};
+ghost use Rattle.history.specs.Selecting.{are_close, are_selecting, goes_elsewhere, is_false, left_select, makes_select, select_joins};
+ghost use Rattle.history.specs.Steps.{goes_over, is_from, is_idle_step, own_case, start_select, way_back};
 
-use crate::event::Event;
+use crate::case::Case;
 use crate::group::Group;
 use crate::isolation::Isolation;
+use crate::item::{ChangeItem, SelectItem};
+use crate::shared_item::SharedItem;
 use change_desc::{ChangedRange, Desc, Touch};
 use change_set::ChangeSet;
-use cm_plain::Str;
+use cm_plain::{KeptEffect, Str};
 use line_tree::Text;
+use listed::Listed;
 use selection::Selection;
-use std::alloc::AllocError;
+use std::alloc::{AllocError, Global};
 
-/// The user event of typed text, and that of a deletion (Reference Manual, Transaction.userEvent).
+/// The user event of typed text, that of a deletion, and that of a selection (Reference Manual, Transaction.userEvent).
 const INPUT_TYPE: [char; 10] = ['i', 'n', 'p', 'u', 't', '.', 't', 'y', 'p', 'e'];
 
 const DELETION: [char; 6] = ['d', 'e', 'l', 'e', 't', 'e'];
+
+const SELECTING: [char; 6] = ['s', 'e', 'l', 'e', 'c', 't'];
 
 /// A step of a document, as its history sees it (Reference Manual, Transaction). Times are in milliseconds.
 #[derive(Drop)]
 pub struct StepInput {
     /// The changes of the start document.
     pub changes: ChangeSet,
+    /// What undoes the effects of the step, in the start document.
+    pub effects: Listed<KeptEffect>,
     /// The start document.
     pub document: Text,
     /// The selection in the start document.
     pub selection: Selection,
-    /// Whether the step gives a selection.
-    pub selects: bool,
-    /// How many events that can be undone are kept (HistoryConfig.minDepth); 0 or less keeps none.
+    /// The selection in the new document, if the step gives one.
+    pub given: Option<Selection>,
+    /// How many Changes that can be undone are kept (HistoryConfig.minDepth); 0 or less keeps none.
     pub min_depth: i64,
     /// A change joins a group whose last change is less than this time ago (HistoryConfig.newGroupDelay); where it is 0 or
     /// less none joins.
@@ -39,11 +47,12 @@ pub struct StepInput {
     pub time: Option<i64>,
     /// The user event (Transaction.userEvent).
     pub user_event: Option<Str>,
-    /// Whether the changes are to be recorded (Transaction.addToHistory); they are where nothing is said.
+    /// Whether the step is to be recorded (Transaction.addToHistory); it is where nothing is said.
     pub add_to_history: Option<bool>,
     /// Where the group of the changes is closed (isolateHistory).
     pub isolate: Option<Isolation>,
-    /// That the changes come from the history itself: 0 from an undo, 1 from a redo.
+    /// That the step comes from the history itself: 0 from an undo and 1 from a redo of changes, 2 from an undo and 3 from a
+    /// redo of a selection alone.
     pub from_history: Option<i64>,
 }
 
@@ -55,28 +64,45 @@ fn is_within(last: i64, now: i64, delay: i64) -> bool
 }
 
 impl StepInput {
-    /// Whether it says that it undoes an event.
-    pub(crate) fn is_undo(&self) -> bool
-        ensures { result ≡ is_from 0 self.now.from_history }
+    /// Whether it says that it comes from the history, by this number.
+    pub(crate) fn is_from(&self, number: i64) -> bool
+        ensures { result ≡ is_from number self.now.from_history }
     {
         match self.from_history {
-            Some(0) => true,
-            _ => false,
+            Some(given) => given == number,
+            None => false,
         }
     }
 
-    /// Whether it says that it does an event again.
-    pub(crate) fn is_redo(&self) -> bool
-        ensures { result ≡ is_from 1 self.now.from_history }
+    /// Whether it changes nothing, and its effects need not be undone.
+    fn is_idle(&self) -> bool
+        ensures { result ≡ is_idle_step self.now }
     {
-        match self.from_history {
-            Some(1) => true,
-            _ => false,
+        self.changes.is_empty() && self.effects.as_slice().is_empty()
+    }
+
+    /// Whether it goes over the newest item of a list, by the list's number, where that is a Select.
+    pub(crate) fn goes_over(&self, number: i64, is_select: bool) -> bool
+        ensures { result ≡ goes_over number self.now is_select }
+    {
+        self.is_from(number) && self.changes.is_empty() && is_select
+    }
+
+    /// Its case where it doesn't go over an item.
+    pub(crate) fn own_case(&self) -> Case
+        ensures { result ≡ own_case self.now }
+    {
+        if self.is_idle() {
+            Case::Unchanged
+        } else if self.is_unrecorded() {
+            Case::Unrecorded
+        } else {
+            Case::Recorded
         }
     }
 
     /// Whether its changes are not to be recorded.
-    pub(crate) fn is_unrecorded(&self) -> bool
+    fn is_unrecorded(&self) -> bool
         ensures { result ≡ (is_some self.now.from_history || is_false self.now.add_to_history) }
     {
         match (self.from_history, self.add_to_history) {
@@ -105,29 +131,142 @@ impl StepInput {
         }
     }
 
-    /// The event that leads back to its start.
-    pub(crate) fn way_back(&self) -> Result<Event, AllocError>
+    /// The Change that leads back to its start. `Err`: out of memory.
+    pub(crate) fn way_back(&self, alloc: Global) -> Result<ChangeItem, AllocError>
         requires { old_size self.now.changes ≡ length self.now.document.characters }
-        ensures { IfOk result (λ event. event ≡ way_back self.now) }
+        ensures { IfOk result (λ change. change ≡ way_back self.now) }
     {
-        Ok(Event {
+        Ok(ChangeItem {
             changes: self.changes.invert(&self.document)?,
+            effects: copied(alloc, self.effects.as_slice())?,
             selection: self.selection.try_copy()?,
         })
     }
 
-    /// Whether a range that it replaces overlaps or touches one that the newest event replaces.
-    pub(crate) fn is_near(&self, events: &[Event]) -> Result<bool, AllocError>
-        ensures { IfOk result (λ near. near ≡ is_near self.now events.now) }
+    /// Its start selection by itself. `Err`: out of memory.
+    pub(crate) fn start_select(&self) -> Result<SelectItem, AllocError>
+        ensures { IfOk result (λ select. select ≡ start_select self.now) }
     {
-        match events.first() {
+        Ok(SelectItem {
+            selection: self.selection.try_copy()?,
+            time: None,
+            user_event: None,
+        })
+    }
+
+    /// The selection that it leaves, with its time and user event. `Err`: out of memory.
+    pub(crate) fn left_select(&self) -> Result<SelectItem, AllocError>
+        ensures { IfOk result (λ select. select ≡ left_select self.now) }
+    {
+        Ok(SelectItem {
+            selection: self.selection.try_copy()?,
+            time: self.time,
+            user_event: copied_event(&self.user_event)?,
+        })
+    }
+
+    /// Whether it gives a selection that differs from the start one.
+    fn goes_elsewhere(&self) -> bool
+        ensures { result ≡ goes_elsewhere self.now }
+    {
+        match &self.given {
+            None => false,
+            Some(given) => !self.selection.same(given),
+        }
+    }
+
+    /// Whether the selection that it leaves is kept.
+    pub(crate) fn makes_select(&self) -> bool
+        ensures { result ≡ makes_select self.now }
+    {
+        self.goes_elsewhere() && !is_false(self.add_to_history) && self.from_history.is_none()
+    }
+
+    /// Whether the selection that it leaves joins a Select.
+    pub(crate) fn select_joins(&self, select: &SelectItem) -> bool
+        ensures { result ≡ select_joins select.now self.now }
+    {
+        are_selecting(&select.user_event, &self.user_event)
+            && are_close(select.time, self.time, self.delay)
+            && select.selection.ranges().len() == self.selection.ranges().len()
+    }
+
+    /// Whether a range that it replaces overlaps or touches one that the newest item, a Change, replaces.
+    pub(crate) fn is_near(&self, items: &[SharedItem]) -> Result<bool, AllocError>
+        ensures { IfOk result (λ near. near ≡ is_near self.now items.now) }
+    {
+        match first_change(items) {
             None => Ok(false),
-            Some(event) => {
+            Some(change) => {
                 let own = self.changes.desc()?;
-                let other = event.changes.desc()?;
+                let other = change.changes.desc()?;
                 some_meet(&own, &other)
             }
         }
+    }
+}
+
+/// The newest item, if it is a Change.
+pub(crate) fn first_change(items: &[SharedItem]) -> Option<&ChangeItem>
+    ensures { option_copied result ≡ first_change items.now }
+{
+    match items.first() {
+        None => None,
+        Some(item) => item.item().as_change(),
+    }
+}
+
+/// Whether it is said to be false.
+fn is_false(said: Option<bool>) -> bool
+    ensures { result ≡ is_false said }
+{
+    match said {
+        Some(false) => true,
+        _ => false,
+    }
+}
+
+/// Whether both events are the same, `select` or below it.
+fn are_selecting(first: &Option<Str>, second: &Option<Str>) -> bool
+    ensures { result ≡ are_selecting first.now second.now }
+{
+    match (first, second) {
+        (Some(a), Some(b)) => a.chars() == b.chars() && a.is_below(&SELECTING),
+        _ => false,
+    }
+}
+
+/// Whether both times are given and less than the delay apart.
+fn are_close(first: Option<i64>, second: Option<i64>, delay: i64) -> bool
+    ensures { result ≡ are_close first second delay }
+{
+    match (first, second) {
+        (Some(a), Some(b)) => is_within(b, a, delay) && is_within(a, b, delay),
+        _ => false,
+    }
+}
+
+/// The same effects once more.
+pub(crate) fn copied(
+    alloc: Global,
+    effects: &[KeptEffect],
+) -> Result<Listed<KeptEffect>, AllocError>
+    ensures { IfOk result (λ copies. copies ≡ effects.now) }
+{
+    let mut copies = Vec::with_capacity(alloc, effects.len())?;
+    for effect in effects {
+        copies.push(effect.try_copy(alloc)?)?;
+    }
+    Ok(Listed::new(copies))
+}
+
+/// The same event once more, if there is one.
+pub(crate) fn copied_event(event: &Option<Str>) -> Result<Option<Str>, AllocError>
+    ensures { IfOk result (λ copy. copy ≡ event.now) }
+{
+    match event {
+        None => Ok(None),
+        Some(event) => Ok(Some(event.try_copy()?)),
     }
 }
 
@@ -153,7 +292,7 @@ fn some_of_meet(ranges: &[ChangedRange], changes: &Desc) -> bool
 
 /// Whether a range overlaps or touches one that is replaced.
 fn any_meets(range: ChangedRange, changes: &Desc) -> bool
-    ensures { result ≡ any_meets range.from_a range.to_a (replaced changes.now) }
+    ensures { result ≡ any_meets (replaced changes.now) range }
 {
     is_met(changes.touches(range.from_a, range.to_a))
 }

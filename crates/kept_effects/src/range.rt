@@ -3,8 +3,8 @@ ghost use Rattle.change_desc.specs.Positions.{is_negative};
 ghost use Rattle.change_desc.specs.Sections.{old_size};
 ghost use Rattle.kept_effects.specs.MappedValues.{AreIn, ends_in, ends_of, mapped_ends, place_after, range_value, two_numbers};
 
-use cm_plain::{Plain, TooDeep};
 use change_desc::{Desc, MapMode};
+use cm_plain::{Plain, TooDeep};
 use std::alloc::{AllocError, Global};
 
 /// The numbers of a list of two whole numbers.
@@ -47,7 +47,9 @@ fn place_after(changes: &Desc, position: u32, side: i32) -> u32
     requires { position ≤ old_size changes.now }
     ensures { result ≡ place_after changes.now position (is_negative side) }
 {
-    changes.map_pos(position, side, MapMode::Simple).unwrap_or(0)
+    changes
+        .map_pos(position, side, MapMode::Simple)
+        .unwrap_or(0)
 }
 
 /// The list of the two ends of a range.

@@ -45,11 +45,7 @@ fn mapped_position(
 }
 
 /// A value that may be a range.
-fn mapped_range(
-    alloc: Global,
-    value: &Plain,
-    changes: &Desc,
-) -> Result<Option<Plain>, AllocError>
+fn mapped_range(alloc: Global, value: &Plain, changes: &Desc) -> Result<Option<Plain>, AllocError>
     ensures { IfOk result (λ mapped. mapped ≡ mapped_range changes.now value.now) }
 {
     match ends_of(changes.len(), value) {

@@ -1,10 +1,11 @@
 use Rattle.std.proofs.Common.{◌≡◌, ℕ, true, false, length, subst, sym, ap, ◌∙◌}
 use Rattle.std.proofs.lemmas.Result.{IfOk-weaker}
 use Rattle.change_desc.specs.Sections.{new_size, spelled}
-use Rattle.history.specs.Histories.{HistoryView, IsHistory, empty, leads_from}
+use Rattle.history.specs.Histories.{IsHistory, empty, leads_from}
+use Rattle.history.specs.declared.lists.Lists.{Lists}
 use Rattle.history.specs.Restoring.{Restores}
 use Rattle.history.specs.Steps.{case_of, cut_to, in_case, start_of}
-use Rattle.history.proofs.Keeping.{next-leads}
+use Rattle.history.proofs.Keeping.{step-leads}
 use Rattle.history.proofs.Returning.{next-restores}
 use Rattle.history.proofs.history.History.step.Goals as goal
 
@@ -14,7 +15,7 @@ returns-then-leads_from-clause-leads c =
     let i = c.args.input.now in
     let e : true ≡ leads_from (length i.document.characters) h = sym c.if-leads_from.true ∙ (c.leads_from.ensures ∙ ap (λ (n : ℕ). leads_from n h) c.len.ensures) in
     IfOk-weaker c.next.result (λ n. n ≡ cut_to i.min_depth (in_case (case_of h i) h i)) (λ n. leads_from (new_size spelled i.changes) n ≡ true)
-    (next-leads i (record { starts = c.requires.starts; short = c.requires.short; new_short = c.requires.new_short; inside = c.requires.inside }) h
+    (step-leads i (record { starts = c.requires.starts; short = c.requires.short; new_short = c.requires.new_short; inside = c.requires.inside }) h
     (subst IsHistory c.self.view_is c.self.invariant) true e) c.next.ensures
 
 pub returns-then-leads_from-clause-restores : goal.returns-then-leads_from-clause-restores
@@ -32,8 +33,8 @@ returns-clause-leads c =
     let e : false ≡ leads_from (length i.document.characters) h = sym c.if-leads_from.false ∙ (c.leads_from.ensures ∙ ap (λ (n : ℕ). leads_from n h) c.len.ensures) in
     let start : c.empty-start.result ≡ empty = c.empty-start.ensures in
     IfOk-weaker c.next-2.result (λ n. n ≡ cut_to i.min_depth (in_case (case_of c.empty-start.result i) c.empty-start.result i)) (λ n. leads_from (new_size spelled i.changes) n ≡ true)
-    (λ n f. next-leads i (record { starts = c.requires.starts; short = c.requires.short; new_short = c.requires.new_short; inside = c.requires.inside }) h
-    (subst IsHistory c.self.view_is c.self.invariant) false e n (f ∙ ap (λ (v : HistoryView). cut_to i.min_depth (in_case (case_of v i) v i)) start)) c.next-2.ensures
+    (λ n f. step-leads i (record { starts = c.requires.starts; short = c.requires.short; new_short = c.requires.new_short; inside = c.requires.inside }) h
+    (subst IsHistory c.self.view_is c.self.invariant) false e n (f ∙ ap (λ (v : Lists). cut_to i.min_depth (in_case (case_of v i) v i)) start)) c.next-2.ensures
 
 pub returns-clause-restores : goal.returns-clause-restores
 returns-clause-restores c =
@@ -43,4 +44,4 @@ returns-clause-restores c =
     let start : c.empty-start.result ≡ empty = c.empty-start.ensures in
     IfOk-weaker c.next-2.result (λ n. n ≡ cut_to i.min_depth (in_case (case_of c.empty-start.result i) c.empty-start.result i)) (Restores (start_of h i) i)
     (λ n f. next-restores i (record { starts = c.requires.starts; short = c.requires.short; new_short = c.requires.new_short; inside = c.requires.inside }) h false e n
-    (f ∙ ap (λ (v : HistoryView). cut_to i.min_depth (in_case (case_of v i) v i)) start)) c.next-2.ensures
+    (f ∙ ap (λ (v : Lists). cut_to i.min_depth (in_case (case_of v i) v i)) start)) c.next-2.ensures

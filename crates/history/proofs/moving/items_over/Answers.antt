@@ -1,0 +1,17 @@
+use Rattle.std.proofs.Common.{subst, ap, ◌∙◌}
+use Rattle.history.specs.Moving.{PutsMoved, is_nil}
+use Rattle.history.proofs.Moved.{stays-none, stays-some}
+use Rattle.history.proofs.moving.items_over.Goals as goal
+
+pub returns-in-None-clause-stays : goal.returns-in-None-clause-stays
+returns-in-None-clause-stays c =
+    stays-none c.args.over.now c.in_ok-try_copy.field-0 c.item.result.now c.in-Some.newest.now c.args.items.now c.in-Some.others.now c.new-all.result.items c.push_moved.new.items.items
+    c.in_ok-try_copy.ensures.ok c.item.ensures c.in-Some.ensures.cases.0 c.new-all.ensures.items
+    (subst (PutsMoved c.in_ok-try_copy.field-0 c.item.result.now c.new-all.result.items c.push_moved.new.items.items) c.in-None.is c.in_ok-push_moved.ensures)
+
+pub returns-in_ok-extend_moved-in-Some-2-clause-stays : goal.returns-in_ok-extend_moved-in-Some-2-clause-stays
+returns-in_ok-extend_moved-in-Some-2-clause-stays c =
+    stays-some c.args.over.now c.in_ok-try_copy.field-0 c.item.result.now c.in-Some.newest.now c.args.items.now c.in-Some.others.now c.new-all.result.items c.push_moved.new.items.items
+    c.in_ok-try_copy.ensures.ok c.item.ensures c.in-Some.ensures.cases.0 c.new-all.ensures.items c.in-Some-2.after c.is_nil-newest_stays.result
+    (subst (PutsMoved c.in_ok-try_copy.field-0 c.item.result.now c.new-all.result.items c.push_moved.new.items.items) c.in-Some-2.is c.in_ok-push_moved.ensures)
+    (c.is_nil-newest_stays.ensures ∙ ap is_nil c.deref.ensures.value)
