@@ -13,6 +13,3 @@ mod text;
 pub use kept_effect::{KeptEffect, KeptMap};
 pub use plain::{MAX_DEPTH, Plain, PlainList, TooDeep};
 pub use text::Str;
-
-#[cfg(test)]
-mod tests;
