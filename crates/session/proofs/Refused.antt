@@ -56,13 +56,13 @@ specs_fail specs specs_now kinds len error same none refused =
       at (errors.BadMain main count) is = named specs len _ (is (λ f. absurd (let g : ⊥ = cc f in g)))
       at (errors.SelectionOutside place n) is = named specs len _ (is (λ f. absurd (let g : ⊥ = cc f in g)))
       at (errors.UnknownEffect id) is = named specs len _ (is (λ f. absurd (let g : ⊥ = cc f in g)))
-  at (errors.UnknownCompartment id) is = named specs len _ (is (λ f. absurd (let g : ⊥ = cc f in g)))
+      at (errors.UnknownCompartment id) is = named specs len _ (is (λ f. absurd (let g : ⊥ = cc f in g)))
       at errors.NoMemory is = tt
 
 -- specs that are merged
 pub draft_made : (specs specs_now : List (Spec Plain)) (kinds : EffectKinds) (len : ℕ) (d : Draft Plain) → specs_now ≡ specs → kinds ≡ no_kinds → d ≡ merged kinds no_maps len specs_now
     → transactions.specs_refusal len max_len kinds None specs_now ≡ None → drafted specs len ≡ Ok d
-draft_made specs specs_now kinds len d same no_kinds made none =
+draft_made specs specs_now kinds len d same undeclared made none =
     ap (λ r. unless (option_and_then specs_refusal r) (merged no_kinds no_maps len specs))
-    (sym (ap (λ xs. transactions.specs_refusal len max_len no_kinds None xs) same) ∙ sym (ap (λ ks. transactions.specs_refusal len max_len ks None specs_now) no_kinds) ∙ none)
-    ∙ ap Ok (sym (made ∙ ap (λ ks. merged ks no_maps len specs_now) no_kinds ∙ ap (λ xs. merged no_kinds no_maps len xs) same))
+    (sym (ap (λ xs. transactions.specs_refusal len max_len no_kinds None xs) same) ∙ sym (ap (λ ks. transactions.specs_refusal len max_len ks None specs_now) undeclared) ∙ none)
+    ∙ ap Ok (sym (made ∙ ap (λ ks. merged ks no_maps len specs_now) undeclared ∙ ap (λ xs. merged no_kinds no_maps len xs) same))
