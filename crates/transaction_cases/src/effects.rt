@@ -1,6 +1,6 @@
 use crate::drafts::{Coded, alone, are_effects, changing, code, effect, kinds, merged, together};
 use cm_plain::{KeptEffect, Plain};
-use ext_tree::ExtIds;
+use listed::Listed;
 use std::alloc::{AllocError, Global};
 use std::test::Fail;
 use transaction::{Draft, Effect, Spec, TransactionError};
@@ -65,14 +65,14 @@ fn effects_on_the_configuration_stay(rt: HostRuntime) -> Result<(), Fail> {
 fn rooted(alloc: Global) -> Result<Spec<Plain>, AllocError> {
     let mut spec = changing(alloc, 0, 0, &[])?;
     let ids = vec![in alloc; 3, 4]?;
-    spec.effects.push(Effect::Root(ExtIds::of(ids)))?;
+    spec.effects.push(Effect::Root(Listed::new(ids)))?;
     Ok(spec)
 }
 
 /// Whether a draft has one effect, which sets this root.
 fn is_rooted(draft: &Draft<Plain>, want: &[u32]) -> bool {
     match draft.effects.as_slice() {
-        [Effect::Root(ids)] => ids.ids() == want,
+        [Effect::Root(ids)] => ids.as_slice() == want,
         _ => false,
     }
 }
