@@ -70,16 +70,10 @@ fn asked(alloc: Global, words: &[&str]) -> Result<Option<Words>, AllocError> {
 fn one_word_is_accepted(rt: HostRuntime) -> Result<(), Fail> {
     let alloc = rt.alloc();
     assert!(rt; asked(alloc, &["replay"])? == Some(Words::Replay));
-    let others = [
-        [].as_slice(),
-        ["make"].as_slice(),
-        ["Replay"].as_slice(),
-        ["replay "].as_slice(),
-        ["replay", "replay"].as_slice(),
-    ];
-    for words in others {
-        assert!(rt; asked(alloc, words)? == None);
-    }
+    assert!(rt; asked(alloc, &[])? == None);
+    assert!(rt; asked(alloc, &["make"])? == None);
+    assert!(rt; asked(alloc, &["replay "])? == None);
+    assert!(rt; asked(alloc, &["replay", "replay"])? == None);
     Ok(())
 }
 
