@@ -5,8 +5,8 @@ Usage: bench/replay.py [LINES]     100,000 lines where no number is given
 
 Each time is the processor time of the program, the least of five runs. The script prints the time of `./ccm replay`
 over these lines, the time that python3 needs for `json.loads` of the same lines alone, and their ratio, and then what a
-line costs among half as many and among twice as many lines. A document is kept as a list of lines of text and copied by
-each change, so the cost of a line grows with the document; it doesn't grow with the number of lines before it.
+line costs among half as many and among twice as many lines. Each change copies the one piece of this document; what a
+line costs doesn't grow with the number of lines before it.
 """
 import os
 import resource

@@ -280,3 +280,57 @@ fn maps_before_another(rt: HostRuntime) -> Result<(), Fail> {
     );
     Ok(())
 }
+
+/// More sections than a description has room for without memory.
+const MANY: [Section<u32>; 12] = [
+    Section::Keep(1),
+    Section::Replace(1, 2),
+    Section::Keep(1),
+    Section::Replace(1, 2),
+    Section::Keep(1),
+    Section::Replace(1, 2),
+    Section::Keep(1),
+    Section::Replace(1, 2),
+    Section::Keep(1),
+    Section::Replace(1, 2),
+    Section::Keep(1),
+    Section::Replace(1, 2),
+];
+
+/// Many sections and then no change.
+fn many_and_none(alloc: Global) -> Result<Desc, AllocError> {
+    let many = described(alloc, &MANY)?;
+    let none = described(alloc, &[Section::Keep(18)])?;
+    composed(alloc, &many, &none)
+}
+
+/// Many sections over no change.
+fn many_over_none(alloc: Global) -> Result<Desc, AllocError> {
+    let many = described(alloc, &MANY)?;
+    let none = described(alloc, &[Section::Keep(12)])?;
+    if none.len() != many.len() || many.mapped_len(&none) != 18 {
+        return Ok(Desc::new(alloc));
+    }
+    many.map(&none, false)
+}
+
+/// Many sections turned round twice.
+fn many_turned_twice(alloc: Global) -> Result<Desc, AllocError> {
+    let back = described(alloc, &MANY)?.inverted()?;
+    back.inverted()
+}
+
+#[test]
+fn many_sections_are_kept(rt: HostRuntime) -> Result<(), Fail> {
+    let many = described(rt.alloc(), &MANY)?;
+    assert!(rt; is_copied(&many, &MANY)?);
+    Ok(())
+}
+
+#[test]
+fn many_sections_compose_map_and_turn(rt: HostRuntime) -> Result<(), Fail> {
+    assert!(rt; is(&many_and_none(rt.alloc())?, &MANY));
+    assert!(rt; is(&many_over_none(rt.alloc())?, &MANY));
+    assert!(rt; is(&many_turned_twice(rt.alloc())?, &MANY));
+    Ok(())
+}

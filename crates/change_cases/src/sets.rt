@@ -208,6 +208,32 @@ fn a_set_over_another_length_is_refused(rt: HostRuntime) -> Result<(), Fail> {
     Ok(())
 }
 
+/// The set of an insertion as a set and of a deletion, in one list of changes of a document of three characters.
+fn with_a_set(alloc: Global) -> Result<ChangeSet, ChangesError> {
+    let insertion = set(alloc, &[(1, 1, &['x'])], 3)?;
+    let deletion = change(alloc, 0, 1, &[])?;
+    let changes = [Change::Set(insertion), deletion];
+    ChangeSet::of(alloc, &changes, 3, 100)
+}
+
+#[test]
+fn a_set_is_a_change_among_others(rt: HostRuntime) -> Result<(), Fail> {
+    let made = with_a_set(rt.alloc())?;
+    let old = text(rt.alloc(), &['a', 'b', 'c'])?;
+    assert!(rt;
+        is_long(
+            &made,
+            &[
+                Section::Replace(1, 0),
+                Section::Replace(0, 1),
+                Section::Keep(2)
+            ]
+        )?
+    );
+    assert!(rt; makes(&made, &old, &['x', 'b', 'c'])?);
+    Ok(())
+}
+
 /// Two sets, one after the other; where they don't meet, the first alone.
 fn composed(first: &ChangeSet, second: &ChangeSet) -> Result<ChangeSet, AllocError> {
     if first.new_len() == second.len() {

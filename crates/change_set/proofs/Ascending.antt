@@ -1,5 +1,5 @@
 -- One more change put after those that begin before it.
-use Rattle.std.proofs.Common.{◌≡◌, ℕ, ◌+◌, ◌-◌, ◌≤◌, ◌<◌, ◌^◌, List, [], ◌∷◌, ◌++◌, length, refl, sym, ap, subst, ◌∙◌, append_assoc, arith}
+use Rattle.std.proofs.Common.{◌≡◌, ℕ, ◌+◌, ◌-◌, ◌≤◌, ◌<◌, ◌^◌, List, [], ◌∷◌, ◌++◌, length, refl, ap, subst, append_assoc, arith}
 use Rattle.change_desc.specs.declared.section.Section.{Section}
 use Rattle.change_desc.specs.declared.section.Section.TheVariants.{Keep, Replace}
 use Rattle.change_desc.specs.Sections.{Sections, spelled, old_of, new_of, old_size, new_size, normal, IsSet}

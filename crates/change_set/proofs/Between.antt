@@ -1,11 +1,9 @@
 -- One section further in a walk over the texts of two sets.
-use Rattle.std.proofs.Common.{◌≡◌, ℕ, zero, suc, ◌+◌, ◌-◌, ◌≤◌, ◌<◌, Bool, true, false, List, [], ◌∷◌, ◌++◌, length, take, drop, refl, sym, ap, ◌∙◌, append_assoc, drop-drop, arith, length-take-le, length-drop, length-append}
+use Rattle.std.proofs.Common.{◌≡◌, ℕ, zero, suc, ◌+◌, ◌-◌, ◌≤◌, Bool, true, false, List, [], ◌∷◌, ◌++◌, length, take, drop, refl, ap, ◌∙◌, append_assoc, arith, length-take-le, length-append}
 use Rattle.change_desc.specs.declared.section.Section.{Section}
 use Rattle.change_desc.specs.declared.section.Section.TheVariants.{Keep, Replace}
 use Rattle.change_desc.specs.Sections.{old_of, old_size}
-use Rattle.change_set.specs.declared.place.Place.{Place}
-use Rattle.change_set.specs.Places.{marks_at, IsPlace}
-use Rattle.change_set.specs.Texts.{marked, unmarked, kept_marks, texts_between, text_of_section}
+use Rattle.change_set.specs.Texts.{marked, unmarked, texts_between, text_of_section}
 
 marked-unmarked : (m : List Bool) → marked m + unmarked m ≡ length m
 marked-unmarked [] = refl

@@ -1,17 +1,17 @@
 -- Composed and mapped sets from their lengths and their texts in a row.
-use Rattle.std.proofs.Common.{◌≡◌, ℕ, ◌+◌, ◌≤◌, ◌<◌, ◌^◌, Bool, List, [], ◌∷◌, ◌++◌, length, refl, sym, ap, subst, ◌∙◌, arith, length-append}
+use Rattle.std.proofs.Common.{◌≡◌, ℕ, ◌≤◌, ◌<◌, ◌^◌, Bool, List, [], ◌∷◌, length, refl, sym, subst, ◌∙◌, arith, length-append}
 use Rattle.change_desc.specs.declared.section.Section.{Section}
 use Rattle.change_desc.specs.declared.section.Section.TheVariants.{Keep, Replace}
 use Rattle.change_desc.specs.Sections.{spelled, counted, lengths, inverted, old_size, new_size, IsSet}
 use Rattle.change_desc.specs.Compose.{compose}
 use Rattle.change_desc.specs.Map.{map_over}
 use Rattle.change_desc.proofs.Normal.{spelled_laws}
-use Rattle.change_desc.proofs.Merges.{old_size-lengths, new_size-lengths}
+use Rattle.change_desc.proofs.Merges.{new_size-lengths}
 use Rattle.change_desc.proofs.Lengths.{spelled_sizes, compose-lengths, map_over-lengths}
 use Rattle.change_desc.proofs.Turns.{old_size-turned}
 use Rattle.change_set.specs.Texts.{written, filled, text_total, kept_marks, unmarked, texts_between}
 use Rattle.change_set.proofs.Walks.{is_set-texts}
-use Rattle.change_set.proofs.Written.{filled-lengths, written-compose, written-map_over, unmarked-kept_marks}
+use Rattle.change_set.proofs.Written.{filled-lengths, written-compose, unmarked-kept_marks}
 
 module _ {C : Type 0} where
   pub text_total-lengths : (s : List (Section (List C))) → text_total (lengths spelled s) ≡ length (written s)

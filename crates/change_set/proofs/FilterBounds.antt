@@ -1,7 +1,7 @@
 -- How long the new texts of the parts of a filtered set are at most.
-use Rattle.std.proofs.Common.{◌≡◌, ℕ, zero, suc, ◌+◌, ◌≤◌, Bool, true, false, cond, List, [], ◌∷◌, ◌++◌, length, refl, sym, ap, ◌∙◌, arith, length-append}
+use Rattle.std.proofs.Common.{◌≡◌, ℕ, zero, suc, ◌+◌, ◌≤◌, Bool, true, false, cond, List, [], ◌∷◌, ◌++◌, length, refl, arith, length-append}
 use Rattle.change_desc.specs.declared.section.Section.TheVariants.{Keep, Replace}
-use Rattle.change_desc.specs.Sections.{Sections, spelled, normal, new_of, old_size, new_size}
+use Rattle.change_desc.specs.Sections.{Sections, spelled, new_of, old_size, new_size}
 use Rattle.change_desc.specs.Columns.{Fate, stays, leaves, follows, last, next, in_front, times, along_old}
 use Rattle.change_desc.specs.Pieces.{Piece, single, stretch, closed, gather}
 use Rattle.change_desc.specs.Filter.{taken_char, taken}

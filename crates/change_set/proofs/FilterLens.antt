@@ -1,9 +1,9 @@
 -- How long the halves of a filtered set are, section by section.
-use Rattle.std.proofs.Common.{◌≡◌, ℕ, ◌+◌, ◌-◌, ◌≤◌, ◌<◌, ◌^◌, Bool, true, false, cond, List, [], ◌∷◌, ◌++◌, length, drop, refl, sym, ap, subst, ◌∙◌, arith, add-zero}
+use Rattle.std.proofs.Common.{◌≡◌, ℕ, ◌+◌, ◌-◌, ◌≤◌, ◌<◌, ◌^◌, Bool, true, false, cond, List, [], ◌∷◌, length, drop, refl, sym, ap, subst, ◌∙◌, arith}
 use Rattle.std.proofs.lemmas.List.{drop_all}
 use Rattle.change_desc.specs.declared.section.Section.{Section}
 use Rattle.change_desc.specs.declared.section.Section.TheVariants.{Keep, Replace}
-use Rattle.change_desc.specs.Sections.{Sections, spelled, normal, new_of, old_size, new_size, old_of, IsSet}
+use Rattle.change_desc.specs.Sections.{Sections, spelled, normal, new_of, new_size, old_of, IsSet}
 use Rattle.change_desc.specs.Columns.{follows, times, along_old}
 use Rattle.change_desc.specs.Pieces.{single, closed, gather}
 use Rattle.change_desc.specs.Filter.{is_protected, is_inside}
@@ -11,7 +11,7 @@ use Rattle.change_desc.proofs.Normal.{spelled_laws}
 use Rattle.change_desc.proofs.Weaves.{new_size-normal}
 use Rattle.change_set.specs.declared.half.Half.{Half}
 use Rattle.change_set.specs.Protected.{IsRun}
-use Rattle.change_set.specs.Protection.{Taking, given_len, half_from, pieced, run_section, takes, taking}
+use Rattle.change_set.specs.Protection.{given_len, half_from, pieced, run_section, takes, taking}
 use Rattle.change_set.proofs.FilterBounds.{half-new}
 use Rattle.change_set.proofs.FilterWalk.{run_on, run_begin, keep_on, insert_on, insert_none}
 

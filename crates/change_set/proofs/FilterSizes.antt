@@ -1,7 +1,7 @@
 -- The parts of a filtered set start where the set does.
 use Rattle.std.proofs.Common.{◌≡◌, ℕ, zero, suc, ◌+◌, ◌<◌, ◌^◌, Bool, true, false, cond, ◌&&◌, ltb, List, [], ◌∷◌, ◌++◌, refl, sym, ap, subst, ◌∙◌, arith}
 use Rattle.change_desc.specs.declared.section.Section.TheVariants.{Replace}
-use Rattle.change_desc.specs.Sections.{Sections, spelled, counted, normal, old_size, new_size, IsSet}
+use Rattle.change_desc.specs.Sections.{Sections, spelled, normal, old_size, new_size, IsSet}
 use Rattle.change_desc.specs.Columns.{Fate, stays, leaves, follows, last, next, width, along_old}
 use Rattle.change_desc.specs.Pieces.{Piece, single, closed, gather}
 use Rattle.change_desc.specs.Filter.{taken_char, taken, is_protected, is_inside}

@@ -1,19 +1,19 @@
 -- One step further in a walk that filters.
-use Rattle.std.proofs.Common.{◌≡◌, ℕ, zero, suc, ◌+◌, ◌-◌, ◌≤◌, ◌<◌, ◌^◌, Bool, true, false, not, cond, ◌⊎◌, inl, inr, List, [], ◌∷◌, ◌++◌, length, drop, refl, sym, ap, subst, ◌∙◌, append-nil, arith, add-zero}
+use Rattle.std.proofs.Common.{◌≡◌, ℕ, zero, suc, ◌+◌, ◌-◌, ◌≤◌, ◌<◌, Bool, true, false, not, cond, ◌⊎◌, inl, inr, List, [], ◌∷◌, ◌++◌, length, drop, refl, sym, ap, subst, ◌∙◌, arith, add-zero}
 use Rattle.std.proofs.lemmas.Bool.{cases_lt}
 use Rattle.std.proofs.lemmas.List.{drop_all}
 use Rattle.change_desc.specs.declared.section.Section.{Section}
 use Rattle.change_desc.specs.declared.section.Section.TheVariants.{Keep, Replace}
-use Rattle.change_desc.specs.Sections.{Sections, spelled, normal, old_of, old_size}
-use Rattle.change_desc.specs.Columns.{last, next, stays, leaves, follows, times, in_front, along_old}
+use Rattle.change_desc.specs.Sections.{Sections, spelled, normal}
+use Rattle.change_desc.specs.Columns.{follows, times, along_old}
 use Rattle.change_desc.specs.Pieces.{single, closed, gather}
 use Rattle.change_desc.specs.Filter.{is_protected, is_inside}
 use Rattle.change_desc.proofs.Normal.{spelled_laws, normal-normal, normal-blank, normal-back}
 use Rattle.change_set.specs.declared.half.Half.{Half}
 use Rattle.change_set.specs.declared.half.Half.TheVariants.{Kept, Dropped}
-use Rattle.change_set.specs.Protection.{takes, takes_char, takes_place, pieced, half_from, half_within, run_section, HasRoom, taking}
+use Rattle.change_set.specs.Protection.{takes, takes_char, takes_place, pieced, half_from, run_section, HasRoom, taking}
 use Rattle.change_set.specs.Protected.{IsRun}
-use Rattle.change_set.proofs.Filtering.{Chars, AllAre, run_next, run_first, stays-run, insertion-run, filter-push, filter-fits, Fits}
+use Rattle.change_set.proofs.Filtering.{Chars, AllAre, run_next, run_first, stays-run, insertion-run}
 
 module _ (half : Half) (rs : List (ℕ × ℕ)) (len : ℕ) where
   char_takes : (p : ℕ) → takes_char (taking half rs len) p ≡ takes half (is_protected rs len p)

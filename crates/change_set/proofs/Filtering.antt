@@ -2,9 +2,9 @@
 use Rattle.std.proofs.Common.{◌≡◌, ℕ, zero, suc, ◌+◌, ◌-◌, ◌≤◌, ◌<◌, Bool, true, false, not, cond, ◌⊎◌, inl, inr, List, [], ◌∷◌, ◌++◌, refl, sym, ap, subst, ◌∙◌, append_assoc, append-nil, arith, add-zero}
 use Rattle.change_desc.specs.declared.section.Section.{Section}
 use Rattle.change_desc.specs.declared.section.Section.TheVariants.{Keep, Replace}
-use Rattle.change_desc.specs.Sections.{Sections, spelled, is_blank, put, normal, old_of, new_of, old_size, new_size}
+use Rattle.change_desc.specs.Sections.{Sections, spelled, put, normal, old_of, new_of, old_size, new_size}
 use Rattle.change_desc.specs.Columns.{Row, last, next, Fate, stays, leaves, follows, in_front, times, along_old}
-use Rattle.change_desc.specs.Pieces.{Piece, single, stretch, Open, closed, add, gather}
+use Rattle.change_desc.specs.Pieces.{Piece, single, Open, closed, gather}
 use Rattle.change_desc.specs.Compose.{is_cut_old}
 use Rattle.change_desc.specs.Filter.{taken_char, taken}
 use Rattle.change_set.specs.Protection.{run_section}

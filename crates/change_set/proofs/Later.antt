@@ -1,10 +1,10 @@
 -- A change that begins at or after the end of what is done: it is put after that.
-use Rattle.std.proofs.Common.{subst, ◌≡◌, ℕ, zero, suc, ◌+◌, ◌-◌, ◌≤◌, Bool, true, false, cond, ◌&&◌, List, [], ◌∷◌, ◌++◌, length, refl, sym, ap, ◌∙◌, append_assoc, append-nil, arith, zero-add, add-zero, add_assoc, one-add}
+use Rattle.std.proofs.Common.{subst, ◌≡◌, ℕ, zero, suc, ◌+◌, ◌-◌, ◌≤◌, Bool, true, false, cond, List, [], ◌∷◌, ◌++◌, length, refl, sym, ap, ◌∙◌, append-nil, arith, zero-add, add-zero, add_assoc, one-add}
 use Rattle.change_desc.specs.declared.section.Section.{Section}
 use Rattle.change_desc.specs.declared.section.Section.TheVariants.{Keep, Replace}
 use Rattle.change_desc.specs.Sections.{Sections, Texts, spelled, counted, is_blank, kind, joins, joined, put, normal, lengths, old_size, new_size}
 use Rattle.change_desc.specs.Columns.{width, Row, last, next, Fate, stays, leaves, follows, Origin, old, new, more, in_front, times, mores, spell, along_old, along_new}
-use Rattle.change_desc.specs.Pieces.{Piece, single, stretch, Open, closed, add, gather, sections}
+use Rattle.change_desc.specs.Pieces.{Piece, single, stretch, Open, closed, add, gather}
 use Rattle.change_desc.specs.Compose.{is_cut_new, is_cut_old, between, composed, compose}
 use Rattle.change_desc.specs.Map.{inserted, character, text_size, mapped, map_over}
 use Rattle.change_desc.specs.Of.{span, then_also}

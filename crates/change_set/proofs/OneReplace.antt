@@ -1,10 +1,7 @@
 -- A set that replaces one range alone.
-use Rattle.std.proofs.Common.{◌≡◌, ℕ, zero, suc, ◌+◌, ◌-◌, ◌≤◌, List, [], ◌∷◌, ◌++◌, length, take, drop, refl, sym, ap, ◌∙◌, append-nil, drop-drop, arith, length-drop, zero-add, add-zero}
+use Rattle.std.proofs.Common.{◌≡◌, ℕ, ◌+◌, List, [], ◌∷◌, ◌++◌, length, take, drop, sym, ap, ◌∙◌, append-nil, drop-drop, arith, length-drop}
 use Rattle.std.proofs.lemmas.List.{take_all, drop_all}
-use Rattle.change_desc.specs.declared.section.Section.{Section}
 use Rattle.change_desc.specs.declared.section.Section.TheVariants.{Keep, Replace}
-use Rattle.change_desc.specs.Sections.{Sections, spelled, apply, old_size, new_size}
-use Rattle.line_tree.specs.Text.{replaced}
 use Rattle.change_set.specs.OneReplace.{IsOnly}
 
 abbrev Chars : Type 0

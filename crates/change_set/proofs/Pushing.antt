@@ -1,5 +1,5 @@
 -- A section put after a list of sections in normal form, the last of which was taken off.
-use Rattle.std.proofs.Common.{◌≡◌, ℕ, ◌+◌, ◌≤◌, true, false, List, [], ◌∷◌, ◌++◌, sym, ap, subst, ◌∙◌, arith}
+use Rattle.std.proofs.Common.{◌≡◌, ◌≤◌, true, false, List, [], ◌∷◌, ◌++◌, sym, ap, subst, ◌∙◌, arith}
 use Rattle.change_desc.specs.declared.section.Section.{Section}
 use Rattle.change_desc.specs.Sections.{Texts, is_blank, kind, joins, joined, normal, old_of, old_size, new_of, new_size}
 use Rattle.change_desc.proofs.Normal.{Laws, normal-apart, normal-joined}

@@ -1,14 +1,12 @@
 -- Running totals of a list of changes.
-use Rattle.std.proofs.Common.{◌≡◌, ℕ, zero, suc, ◌+◌, ◌-◌, ◌≤◌, ◌<◌, ◌^◌, Bool, true, false, cond, ◌||◌, ltb, eqb, List, [], ◌∷◌, ◌++◌, map, fold, length, Some, None, refl, sym, ap, subst, ◌∙◌, arith, add-zero, zero-add}
-use Rattle.std.proofs.lemmas.Bool.Decides.{nat_tests}
-use Rattle.std.specs.declared.option.Option.{Option}
+use Rattle.std.proofs.Common.{◌≡◌, ℕ, zero, suc, ◌+◌, ◌-◌, ◌≤◌, Bool, false, List, [], ◌∷◌, length, refl, sym, ap, subst, ◌∙◌, arith, add-zero, zero-add}
 use Rattle.change_desc.specs.declared.section.Section.{Section}
 use Rattle.change_desc.specs.declared.section.Section.TheVariants.{Keep, Replace}
-use Rattle.change_desc.specs.Sections.{Sections, Texts, spelled, counted, normal, lengths, old_size, new_size}
+use Rattle.change_desc.specs.Sections.{Sections, spelled, counted, normal, lengths, old_size, new_size}
 use Rattle.change_desc.specs.Columns.{width, Row, last, next, Fate, stays, leaves, follows, in_front, times, along_old}
 use Rattle.change_desc.specs.Compose.{compose}
 use Rattle.change_desc.specs.Map.{map_over}
-use Rattle.change_desc.specs.Of.{span, then_also, of}
+use Rattle.change_desc.specs.Of.{span, then_also}
 use Rattle.change_desc.specs.MapSteps.{merged_len}
 use Rattle.change_desc.proofs.Applies.{width-along_old}
 use Rattle.change_desc.proofs.Merges.{old_size-lengths, new_size-lengths, old_size-map_over, old_size-normal}

@@ -1,5 +1,5 @@
 -- Protected ranges joined, and runs of characters that are all protected or all not.
-use Rattle.std.proofs.Common.{◌≡◌, ℕ, zero, suc, ◌+◌, ◌-◌, ◌≤◌, ◌<◌, min, max, Bool, true, false, not, ◌&&◌, ◌||◌, leb, ltb, ◌⊎◌, inl, inr, List, [], ◌∷◌, ◌++◌, length, take, drop, cond, refl, sym, ap, subst, ◌∙◌, append_assoc, arith, zero-add}
+use Rattle.std.proofs.Common.{◌≡◌, ℕ, zero, suc, ◌+◌, ◌≤◌, ◌<◌, min, max, Bool, true, false, not, ◌&&◌, ◌||◌, leb, ltb, ◌⊎◌, inl, inr, List, [], ◌∷◌, ◌++◌, length, take, drop, cond, refl, sym, ap, subst, ◌∙◌, append_assoc, arith}
 use Rattle.std.proofs.lemmas.Bool.{cases_lt, ltb-false, lt-ltb, le-ltb, le-leb, lt-leb}
 use Rattle.std.proofs.lemmas.List.MinMax.{IsStrictWeakOrder-by_number}
 use Rattle.std.proofs.lemmas.List.{map-append}
@@ -7,7 +7,7 @@ use Rattle.change_desc.specs.Filter.{is_in, is_protected, is_inside}
 use Rattle.stable_order.specs.StableSort.{insert_by, stable_sort}
 use Rattle.stable_order.proofs.StableSort.{NoneBelow, Rises, Rises-stable_sort}
 use Rattle.change_set.specs.declared.protected_range.ProtectedRange.{ProtectedRange}
-use Rattle.change_set.specs.Protected.{Range, Apart, AreJoined, is_within, HasEnded, IsRun, has, StartBy, Joins, pairs, AllFrom, Rising, AreSorted, StartBefore}
+use Rattle.change_set.specs.Protected.{Range, Apart, is_within, HasEnded, IsRun, has, StartBy, Joins, pairs, AllFrom, Rising, AreSorted, StartBefore}
 
 has-in : (r : Range) (p : ℕ) → r.0 ≤ p → p < r.1 → has r p ≡ true
 has-in r p a b = rw (le-leb r.0 p a, lt-ltb p r.1 b) refl

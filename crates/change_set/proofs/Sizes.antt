@@ -1,10 +1,10 @@
 -- How long the texts of composed sets are.
-use Rattle.std.proofs.Common.{◌≡◌, ℕ, zero, suc, ◌+◌, ◌-◌, ◌≤◌, ◌<◌, ◌^◌, Bool, true, false, ◌&&◌, List, [], ◌∷◌, ◌++◌, length, take, drop, replicate, refl, sym, ap, ◌∙◌, arith, length-take-le, length-drop, length-append}
+use Rattle.std.proofs.Common.{◌≡◌, ℕ, zero, suc, ◌+◌, ◌<◌, ◌^◌, Bool, true, false, ◌&&◌, List, [], ◌∷◌, ◌++◌, length, take, drop, replicate, refl, sym, ap, ◌∙◌, arith, length-take-le, length-drop, length-append}
 use Rattle.change_desc.specs.declared.section.Section.{Section}
 use Rattle.change_desc.specs.declared.section.Section.TheVariants.{Keep, Replace}
-use Rattle.change_desc.specs.Sections.{Texts, spelled, apply, old_size, new_size, IsSet}
+use Rattle.change_desc.specs.Sections.{spelled, apply, old_size, new_size, IsSet}
 use Rattle.change_desc.specs.Columns.{width, Row, last, next, Fate, stays, leaves, follows, Origin, old, new, more, along_old, along_new}
-use Rattle.change_desc.specs.Pieces.{Piece, single, stretch}
+use Rattle.change_desc.specs.Pieces.{Piece}
 use Rattle.change_desc.specs.Compose.{is_cut_new, is_cut_old, between, in_gap, composed, compose}
 use Rattle.change_desc.proofs.Applies.{apply-compose, width-along_old, width-along_new, taken_by, taken_by-along}
 use Rattle.change_desc.proofs.Merges.{pieces_size, old_size-sections}

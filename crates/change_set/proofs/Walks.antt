@@ -1,9 +1,9 @@
 -- One section further in a walk over the sections of a set.
-use Rattle.std.proofs.Common.{◌≡◌, ℕ, zero, suc, ◌+◌, ◌≤◌, ◌<◌, ◌^◌, true, false, List, [], ◌∷◌, ◌++◌, map, length, get_or, take, drop, refl, sym, ap, subst, ◌∙◌, append_assoc, append-nil, drop-drop, arith, length-take-le, length-drop, length-append}
+use Rattle.std.proofs.Common.{◌≡◌, ℕ, zero, suc, ◌+◌, ◌≤◌, ◌<◌, ◌^◌, false, List, [], ◌∷◌, ◌++◌, length, get_or, take, drop, refl, sym, ap, subst, ◌∙◌, append_assoc, append-nil, arith, length-take-le, length-drop, length-append}
 use Rattle.std.proofs.lemmas.List.{drop_more, drop_all}
 use Rattle.change_desc.specs.declared.section.Section.{Section}
 use Rattle.change_desc.specs.declared.section.Section.TheVariants.{Keep, Replace}
-use Rattle.change_desc.specs.Sections.{Texts, spelled, counted, is_blank, kind, joins, normal, apply, invert, turned, inverted, measured, lengths, old_of, old_size, new_of, new_size, IsSet}
+use Rattle.change_desc.specs.Sections.{Texts, spelled, counted, is_blank, kind, joins, normal, apply, invert, inverted, measured, lengths, old_of, old_size, new_of, new_size, IsSet}
 use Rattle.change_desc.proofs.Normal.{Laws, spelled_laws, counted_laws, InOrder, in_order, normal-in_order, normal-prefix, normal-normal}
 use Rattle.change_desc.proofs.Merges.{old_size-lengths, new_size-lengths, old_size-normal}
 use Rattle.change_desc.proofs.Weaves.{new_size-normal, new_size-append}

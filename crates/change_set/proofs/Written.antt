@@ -1,17 +1,17 @@
 -- The texts of composed and mapped sets, in a row.
-use Rattle.std.proofs.Common.{◌≡◌, ℕ, zero, suc, ◌+◌, ◌-◌, ◌≤◌, Bool, true, false, cond, ◌&&◌, List, [], ◌∷◌, ◌++◌, length, take, drop, replicate, refl, sym, ap, ◌∙◌, append_assoc, append-nil, arith, length-take-le, length-drop, length-append}
+use Rattle.std.proofs.Common.{◌≡◌, ℕ, zero, suc, ◌+◌, ◌≤◌, Bool, true, false, cond, List, [], ◌∷◌, ◌++◌, length, take, drop, replicate, refl, sym, ap, ◌∙◌, append_assoc, append-nil, arith, length-drop, length-append}
 use Rattle.std.proofs.lemmas.List.{take_at, drop_at}
 use Rattle.change_desc.specs.declared.section.Section.{Section}
 use Rattle.change_desc.specs.declared.section.Section.TheVariants.{Keep, Replace}
-use Rattle.change_desc.specs.Sections.{Texts, spelled, counted, is_blank, put, normal, lengths, turned, inverted, old_size, new_size}
-use Rattle.change_desc.specs.Columns.{width, Row, last, next, Fate, stays, leaves, follows, Origin, old, new, more, in_front, times, mores, spell, along_old, along_new}
+use Rattle.change_desc.specs.Sections.{spelled, counted, is_blank, put, normal, lengths, inverted, old_size, new_size}
+use Rattle.change_desc.specs.Columns.{width, Row, last, next, Fate, stays, leaves, follows, Origin, old, new, more, in_front, times, mores, along_old, along_new}
 use Rattle.change_desc.specs.Pieces.{Piece, single, stretch, closed, gather, sections}
-use Rattle.change_desc.specs.Compose.{is_cut_new, is_cut_old, between, in_gap, composed, compose}
+use Rattle.change_desc.specs.Compose.{in_gap, composed, compose}
 use Rattle.change_desc.specs.Map.{ordered, inserted, character, text_size, mapped, map_over}
-use Rattle.change_desc.proofs.Applies.{width-along_old, width-along_new, width-times, width-in_front}
+use Rattle.change_desc.proofs.Applies.{width-along_old, width-along_new}
 use Rattle.change_desc.proofs.Turns.{old_size-turned}
 use Rattle.change_desc.proofs.Merges.{new_size-lengths}
-use Rattle.change_set.specs.Texts.{written, filled, kept_marks, unmarked, marked, texts_between, kept_of}
+use Rattle.change_set.specs.Texts.{written, filled, kept_marks, unmarked, texts_between}
 
 -- counting
 unmarked-append : (m k : List Bool) → unmarked (m ++ k) ≡ unmarked m + unmarked k

@@ -1,5 +1,5 @@
 -- Changes that begin one after the other: what private clauses say of them.
-use Rattle.std.specs.Prelude.{◌≡◌, ℕ, ◌+◌, ◌-◌, ◌≤◌, ◌<◌, ◌^◌, List, [], ◌∷◌, ◌++◌}
+use Rattle.std.specs.Prelude.{◌≡◌, ℕ, ◌+◌, ◌-◌, ◌≤◌, ◌<◌, ◌^◌, [], ◌∷◌, ◌++◌}
 use Rattle.change_desc.specs.declared.section.Section.TheVariants.{Keep}
 use Rattle.change_desc.specs.Sections.{Sections, spelled, old_size, new_size, normal}
 use Rattle.change_desc.specs.Of.{then_also}

@@ -1,5 +1,5 @@
 -- Protected ranges in order, and runs of characters that are all protected or all not: for private clauses.
-use Rattle.std.specs.Prelude.{◌≡◌, ℕ, suc, ◌≤◌, ◌<◌, Bool, true, false, not, ◌&&◌, ◌||◌, ltb, leb, List, [], ◌∷◌, length, drop, map}
+use Rattle.std.specs.Prelude.{◌≡◌, ℕ, suc, ◌≤◌, ◌<◌, Bool, false, not, ◌&&◌, ◌||◌, ltb, leb, List, [], ◌∷◌, length, drop, map}
 use Rattle.change_desc.specs.Filter.{is_in, is_protected}
 use Rattle.change_set.specs.declared.protected_range.ProtectedRange.{ProtectedRange}
 

@@ -1,5 +1,5 @@
 -- When a list of changes is refused, and with which values (Reference Manual: ChangeSet.of).
-use Rattle.std.specs.Prelude.{ℕ, suc, zero, ◌||◌, ltb, eqb, cond, List, [], ◌∷◌, Some, None}
+use Rattle.std.specs.Prelude.{ℕ, suc, ◌||◌, ltb, eqb, cond, List, [], ◌∷◌, Some, None}
 use Rattle.std.specs.declared.option.Option.{Option}
 use Rattle.std.specs.Option.{option_or}
 use Rattle.change_desc.specs.declared.section.Section.{Section}

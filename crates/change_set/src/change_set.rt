@@ -181,8 +181,8 @@ impl ChangeSet {
         Ok(ChangeSet { sections })
     }
 
-    /// The set that leads from the new document back to the old one, which is given (ChangeSet.invert). `Err`: memory
-    /// was wanting.
+    /// The set that leads from the new document back to the old one, which is given (ChangeSet.invert). `Err`: out of
+    /// memory.
     pub fn invert(&self, document: &Text) -> Result<ChangeSet, AllocError>
         requires { old_size self.now ≡ length document.now.characters }
         ensures back { IfOk result (λ back. back ≡ invert self.now document.now.characters) }

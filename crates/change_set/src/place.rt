@@ -5,7 +5,7 @@ ghost use Rattle.change_set.specs.Texts.{marked};
 
 use change_desc::Section;
 
-/// A place in the old text of a description: a section, and how many of its characters are after.
+/// A place in the old text of a description: a section, and how many of its characters are passed.
 #[derive(Clone, Copy, Drop)]
 pub(crate) struct Place {
     pub(crate) index: usize,

@@ -87,6 +87,14 @@ fn widget_side(alloc: Global, side: i32) -> Result<Option<(i32, i32, bool)>, Fai
     )))
 }
 
+/// The side for which a widget is refused.
+fn refused_side(alloc: Global, side: i32) -> Option<i32> {
+    match Deco::widget(Str::empty(alloc), Style::plain(), side) {
+        Err(DecoError::BadSide { side }) => Some(side),
+        _ => None,
+    }
+}
+
 #[test]
 fn a_widget_has_a_side(rt: HostRuntime) -> Result<(), Fail> {
     let cases = [(0, -1), (1, 1), (-3, -4), (10000, 10000), (-10000, -10001)];
@@ -94,7 +102,7 @@ fn a_widget_has_a_side(rt: HostRuntime) -> Result<(), Fail> {
         assert!(rt; widget_side(rt.alloc(), side)? == Some((end, end, true)));
     }
     for side in [10001, -10001] {
-        assert!(rt; widget_side(rt.alloc(), side)? == None);
+        assert!(rt; refused_side(rt.alloc(), side) == Some(side));
     }
     Ok(())
 }
@@ -107,6 +115,14 @@ fn line_at(text: &Text, pos: u32) -> Option<(u32, u32, MapMode)> {
     }
 }
 
+/// The place for which a line decoration is refused.
+fn refused_line(text: &Text, pos: u32) -> Option<u32> {
+    match place_line(text, pos, Style::plain()) {
+        Err(DecoError::NotLineStart { pos }) => Some(pos),
+        _ => None,
+    }
+}
+
 #[test]
 fn a_line_decoration_stands_at_a_line_start(rt: HostRuntime) -> Result<(), Fail> {
     let text = Text::of(rt.alloc(), &['a', 'b', '\n', 'c'])?;
@@ -114,7 +130,7 @@ fn a_line_decoration_stands_at_a_line_start(rt: HostRuntime) -> Result<(), Fail>
         assert!(rt; line_at(&text, pos) == Some((pos, pos, MapMode::TrackBefore)));
     }
     for pos in [1, 2, 4, 5] {
-        assert!(rt; line_at(&text, pos) == None);
+        assert!(rt; refused_line(&text, pos) == Some(pos));
     }
     Ok(())
 }

@@ -75,8 +75,8 @@ module _ {T : Type 0} (rules : RangeRules T) where
 abbrev pub meets_hull : {T : Type 0} → List (Ranged T) → ChangedRange → Bool
 meets_hull rs c = list_any (λ r. nat_le c.from_a r.to) rs && list_any (λ r. nat_le r.from c.to_a) rs
 
--- The most ranges that a mapping maps by themselves, where all others are moved with the 128 or fewer of their chunk: 128 for
--- each range that is affected, and for each Replace that overlaps or touches the hull of the whole set.
+-- How many ranges are mapped one by one, at most: 128 for each affected range, and for each Replace that overlaps or touches
+-- the hull of the whole set.
 abbrev pub most_mapped : {T : Type 0} → RangeRules T → Changes → List (Ranged T) → ℕ
 most_mapped rules d rs = 128 * (length (filter (is_affected rules d) rs) + length (filter (meets_hull rs) (replaced d)))
 

@@ -11,7 +11,7 @@ pub enum RangeError {
     #[error("range {index} ends before it starts")]
     Reversed { index: usize },
     /// The range belongs before the one before it.
-    #[error("range {index} belongs before the one ahead of it")]
+    #[error("range {index} belongs before the one before it")]
     NotSorted { index: usize },
     /// Out of memory.
     #[error("out of memory")]

@@ -32,6 +32,22 @@ fn sets_are_mapped(rt: HostRuntime) -> Result<(), Fail> {
             r#"{"ok":{"pos":0,"sections":[[4,"xy"]],"text":"xy"}}"#,
         ),
         (
+            r#"{"map":{"doc":"abcd","a":[{"from":0,"to":4,"insert":"xy"}],"op":"of","pos":2}}"#,
+            r#"{"ok":{"pos":2,"sections":[[4,"xy"]],"text":"xy"}}"#,
+        ),
+        (
+            r#"{"map":{"doc":"abcd","a":[{"from":0,"to":4,"insert":"xy"}],"op":"of","pos":4,"side":-1}}"#,
+            r#"{"ok":{"pos":2,"sections":[[4,"xy"]],"text":"xy"}}"#,
+        ),
+        (
+            r#"{"map":{"doc":"abcd","a":[{"from":1,"to":3}],"op":"of","pos":3,"mode":"trackBefore"}}"#,
+            r#"{"ok":{"pos":null,"sections":[1,[2,""],1],"text":"ad"}}"#,
+        ),
+        (
+            r#"{"map":{"doc":"abcd","a":[{"from":1,"to":3}],"op":"of","pos":1,"mode":"trackAfter"}}"#,
+            r#"{"ok":{"pos":null,"sections":[1,[2,""],1],"text":"ad"}}"#,
+        ),
+        (
             r#"{"map":{"doc":"abcd","a":[{"from":0,"to":4,"insert":"xy"}],"op":"of","pos":2,"mode":"trackDel"}}"#,
             r#"{"ok":{"pos":null,"sections":[[4,"xy"]],"text":"xy"}}"#,
         ),

@@ -155,6 +155,21 @@ fn replies_are_written(rt: HostRuntime) -> Result<(), Fail> {
             Reply::No(Refusal::UnknownEffect { id: 7 }),
             "{\"no\":{\"code\":\"UnknownEffect\",\"id\":7}}\n",
         ),
+        (
+            Reply::No(Refusal::UnknownCompartment { id: 7 }),
+            "{\"no\":{\"code\":\"UnknownCompartment\",\"id\":7}}\n",
+        ),
+        (
+            Reply::No(Refusal::LengthMismatch { want: 3, have: 2 }),
+            "{\"no\":{\"code\":\"LengthMismatch\",\"have\":2,\"want\":3}}\n",
+        ),
+        (
+            Reply::No(Refusal::TooLong {
+                len: 16777217,
+                max: 16777216,
+            }),
+            "{\"no\":{\"code\":\"TooLong\",\"len\":16777217,\"max\":16777216}}\n",
+        ),
         (Reply::Ok(Answer::Length(40)), "{\"ok\":{\"length\":40}}\n"),
     ];
     for (reply, want) in &cases {

@@ -17,10 +17,10 @@ use Rattle.session.specs.Transcript.{transcript}
 abbrev pub byte_limit : ℕ
 byte_limit = 4294967296
 
--- A run over a source and a sink ended with this status, where the words of the command line ask for this, if they are
--- accepted.
+-- How a run ended, by what the words of the command line ask for, if they are accepted: `source` and `sink` before it,
+-- `source_now` and `sink_now` after it.
 abbrev pub Headline : {S K : Type 0} → Option Words → Status → Run → S → S → K → K → Type 0
--- `replay`: the replies are those of the plain session from its start; `Usage` is none of the statuses
+-- `replay`: the replies are those of the plain session from its start; `Usage` never comes then
 Headline (Some Replay) status run source source_now sink sink_now = Ran (transcript fresh) status run
 -- words that aren't accepted: nothing is read or written
 Headline None status run source source_now sink sink_now = (status ≡ Usage) × (source_now ≡ source) × (sink_now ≡ sink)

@@ -1,4 +1,4 @@
-use Rattle.std.proofs.Common.{◌≡◌, arith, ap, sym, subst, ◌∷◌, [], ◌++◌, ◌∙◌, length, OnOk, List, ℕ}
+use Rattle.std.proofs.Common.{◌≡◌, arith, ap, subst, ◌∷◌, [], ◌++◌, ◌∙◌, length, OnOk, List, ℕ}
 use Rattle.change_desc.specs.declared.section.Section.{Section}
 use Rattle.change_desc.specs.declared.section.Section.TheVariants.{Keep, Replace}
 use Rattle.change_desc.specs.Sections.{Sections, spelled, normal}

@@ -1,5 +1,4 @@
-use Rattle.std.proofs.Common.{◌≡◌, ◌+◌, ◌-◌, ◌∷◌, ◌++◌, [], ℕ, List, refl, ap, sym, ◌∙◌, arith}
-use Rattle.change_desc.specs.declared.section.Section.{Section}
+use Rattle.std.proofs.Common.{◌+◌, ◌-◌, ◌∷◌, refl, ap, ◌∙◌, arith}
 use Rattle.change_desc.specs.declared.section.Section.TheVariants.{Replace}
 use Rattle.change_desc.specs.Sections.{spelled}
 use Rattle.change_desc.specs.Columns.{follows, times, along_old}

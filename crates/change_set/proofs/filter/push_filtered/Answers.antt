@@ -1,7 +1,6 @@
-use Rattle.std.proofs.Common.{◌≡◌, ◌+◌, ◌-◌, ◌∷◌, ◌++◌, [], ℕ, List, true, refl, ap, sym, subst, ◌∙◌, arith}
-use Rattle.change_desc.specs.declared.section.Section.{Section}
+use Rattle.std.proofs.Common.{◌≡◌, ◌+◌, ◌∷◌, ℕ, true, refl, ap, sym, ◌∙◌, arith}
 use Rattle.change_desc.specs.declared.section.Section.TheVariants.{Keep, Replace}
-use Rattle.change_desc.specs.Sections.{spelled, normal, old_of}
+use Rattle.change_desc.specs.Sections.{spelled, old_of}
 use Rattle.change_desc.specs.Columns.{along_old}
 use Rattle.change_desc.specs.Filter.{is_inside}
 use Rattle.change_set.specs.Protection.{takes, pieced, half_from, taking}

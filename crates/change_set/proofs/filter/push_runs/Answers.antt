@@ -1,4 +1,4 @@
-use Rattle.std.proofs.Common.{◌≡◌, ◌-◌, ◌∷◌, ◌++◌, [], ap, sym, ◌∙◌, arith}
+use Rattle.std.proofs.Common.{◌-◌, ap, ◌∙◌, arith}
 use Rattle.change_desc.specs.Sections.{spelled}
 use Rattle.change_desc.specs.Columns.{follows, times, along_old}
 use Rattle.change_set.specs.Protection.{takes, pieced, half_within, run_section, taking}

@@ -1,6 +1,6 @@
-use Rattle.std.proofs.Common.{◌≡◌, ◌+◌, ◌-◌, length, ap, sym, subst, ◌∙◌, arith}
+use Rattle.std.proofs.Common.{◌≡◌, ◌-◌, length, ap, ◌∙◌, arith}
 use Rattle.change_set.specs.Protection.{given_len, takes}
-use Rattle.change_set.proofs.FilterLens.{given-few, len_begin}
+use Rattle.change_set.proofs.FilterLens.{len_begin}
 use Rattle.change_set.proofs.filter_len.deletion_len.Goals as goal
 
 pub returns-clause-sum : goal.returns-clause-sum

@@ -1,7 +1,5 @@
-use Rattle.std.proofs.Common.{◌≡◌, ◌-◌, ap, sym, subst, ◌∙◌, arith}
-use Rattle.change_desc.specs.Columns.{along_old, follows, times}
-use Rattle.change_desc.specs.Sections.{spelled, new_size}
-use Rattle.change_set.specs.Protection.{given_len, pieced, takes, taking}
+use Rattle.std.proofs.Common.{◌≡◌, ◌-◌, ap, ◌∙◌, arith}
+use Rattle.change_set.specs.Protection.{given_len, takes}
 use Rattle.change_set.proofs.Runs.{ended-later}
 use Rattle.change_set.proofs.FilterLens.{given-few, len_on}
 use Rattle.change_set.proofs.filter_len.runs_len.Goals as goal

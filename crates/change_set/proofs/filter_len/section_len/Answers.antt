@@ -1,10 +1,7 @@
-use Rattle.std.proofs.Common.{◌≡◌, ◌+◌, ℕ, true, false, length, ap, sym, subst, ◌∙◌, arith}
-use Rattle.change_desc.specs.declared.section.Section.{Section}
+use Rattle.std.proofs.Common.{◌≡◌, ℕ, true, false, ap, sym, ◌∙◌, arith}
 use Rattle.change_desc.specs.declared.section.Section.TheVariants.{Keep, Replace}
-use Rattle.change_desc.specs.Columns.{along_old}
 use Rattle.change_desc.specs.Filter.{is_inside}
-use Rattle.change_desc.specs.Sections.{Sections, spelled, old_of, new_size}
-use Rattle.change_set.specs.Protection.{pieced, takes, taking}
+use Rattle.change_set.specs.Protection.{takes}
 use Rattle.change_set.proofs.FilterLens.{len_keep, len_insert, len_none, over}
 use Rattle.change_set.proofs.filter_len.section_len.Goals as goal
 

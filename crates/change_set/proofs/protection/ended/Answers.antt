@@ -1,4 +1,4 @@
-use Rattle.std.proofs.Common.{get_or, arith}
+use Rattle.std.proofs.Common.{get_or}
 use Rattle.std.proofs.lemmas.List.{drop_more}
 use Rattle.change_set.proofs.Runs.{ended-more}
 use Rattle.change_set.proofs.protection.ended.Goals as goal

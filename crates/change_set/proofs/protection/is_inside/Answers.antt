@@ -1,4 +1,4 @@
-use Rattle.std.proofs.Common.{◌<◌, length, get_or, arith}
+use Rattle.std.proofs.Common.{◌<◌, length, get_or}
 use Rattle.std.proofs.lemmas.List.{drop_all, drop_more}
 use Rattle.change_set.proofs.Runs.{inside_past, inside_none, inside_first}
 use Rattle.change_set.proofs.protection.is_inside.Goals as goal

@@ -1,4 +1,4 @@
-use Rattle.std.proofs.Common.{◌≡◌, ◌+◌, ◌∷◌, [], get_or, ap, sym, subst, refl, take, drop, ◌∙◌}
+use Rattle.std.proofs.Common.{◌+◌, get_or, ap, sym, subst, refl, drop, ◌∙◌}
 use Rattle.std.proofs.lemmas.List.{take_all, take_more, drop_more}
 use Rattle.change_desc.specs.Filter.{is_in}
 use Rattle.change_set.specs.Protected.{AreSorted, StartBefore, Rising, Joins, pairs}

@@ -1,4 +1,4 @@
-use Rattle.std.proofs.Common.{◌<◌, length, get_or, arith}
+use Rattle.std.proofs.Common.{◌<◌, length, get_or}
 use Rattle.std.proofs.lemmas.List.{drop_more}
 use Rattle.change_set.proofs.Runs.{run_in, run_before}
 use Rattle.change_set.proofs.protection.run_from.Goals as goal

@@ -1,4 +1,4 @@
-use Rattle.std.proofs.Common.{◌≡◌, ◌<◌, ◌^◌, ℕ, ap, sym, subst, ◌∙◌}
+use Rattle.std.proofs.Common.{◌<◌, ◌^◌, ℕ, ap, sym, subst, ◌∙◌}
 use Rattle.change_desc.specs.Sections.{spelled, old_size}
 use Rattle.change_desc.specs.Compose.{compose}
 use Rattle.change_desc.proofs.Merges.{old_size-lengths}

@@ -1,14 +1,12 @@
-use Rattle.std.proofs.Common.{◌≡◌, ◌<◌, ◌^◌, ℕ, List, length, refl, ap, sym, subst, ◌∙◌, arith}
+use Rattle.std.proofs.Common.{◌≡◌, ℕ, List, refl, ap, sym, subst, ◌∙◌}
 use Rattle.change_desc.specs.declared.section.Section.{Section}
 use Rattle.change_desc.proofs.Applies.{apply-compose}
 use Rattle.change_desc.proofs.Lengths.{spelled_sizes, compose-lengths}
 use Rattle.change_desc.specs.Sections.{apply, spelled, counted, lengths, old_size, new_size, IsSet}
 use Rattle.change_desc.specs.Compose.{compose}
-use Rattle.change_desc.specs.Map.{map_over}
 use Rattle.change_set.proofs.Sizes.{old_size-compose, new_size-compose}
-use Rattle.change_set.specs.Texts.{written, text_total}
-use Rattle.change_set.proofs.Written.{written-map_over}
-use Rattle.change_set.proofs.Composed.{filled-is, filled-total, filled-is_set, total-fits}
+use Rattle.change_set.specs.Texts.{written}
+use Rattle.change_set.proofs.Composed.{filled-is, filled-total, filled-is_set}
 use Rattle.change_set.proofs.change_set.ChangeSet.compose.Goals as goal
 
 pub composed_text-requires : goal.composed_text-requires

@@ -1,6 +1,6 @@
 use Rattle.std.proofs.Common.{◌≡◌, ℕ, List, IfOk, refl, ap, sym, subst, ◌∙◌}
 use Rattle.change_desc.specs.declared.section.Section.{Section}
-use Rattle.change_desc.specs.Sections.{spelled, counted, lengths, old_size, new_size}
+use Rattle.change_desc.specs.Sections.{spelled, counted, old_size, new_size}
 use Rattle.change_desc.specs.Compose.{compose}
 use Rattle.change_desc.proofs.Merges.{old_size-lengths, new_size-lengths}
 use Rattle.change_set.proofs.Composed.{composed-lengths}

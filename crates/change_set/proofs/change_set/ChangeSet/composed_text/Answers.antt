@@ -1,9 +1,8 @@
-use Rattle.std.proofs.Common.{◌≡◌, ◌<◌, ◌^◌, ℕ, List, IfOk, length, refl, ap, sym, subst, ◌∙◌, arith}
-use Rattle.change_desc.specs.declared.section.Section.{Section}
-use Rattle.change_desc.specs.Sections.{spelled, lengths, old_size, new_size, IsSet}
+use Rattle.std.proofs.Common.{◌≡◌, ◌<◌, ◌^◌, ℕ, List, IfOk, length, refl, ap, sym, subst, ◌∙◌}
+use Rattle.change_desc.specs.Sections.{spelled, lengths, old_size, IsSet}
 use Rattle.change_desc.specs.Compose.{compose}
 use Rattle.change_set.specs.Texts.{written, texts_between, kept_marks}
-use Rattle.change_set.proofs.Composed.{set-fits, back-unmarked, back-old, back-texts}
+use Rattle.change_set.proofs.Composed.{back-unmarked, back-old, back-texts}
 use Rattle.change_set.proofs.Sizes.{composed-fits}
 use Rattle.change_set.proofs.change_set.ChangeSet.composed_text.Goals as goal
 

@@ -1,6 +1,5 @@
-use Rattle.std.proofs.Common.{◌≡◌, ◌+◌, ◌∷◌, ◌++◌, drop, length, arith, ap, sym, ◌∙◌, append-nil, refl, subst}
-use Rattle.std.proofs.lemmas.List.{drop_all}
-use Rattle.change_desc.specs.Sections.{spelled, counted, lengths, measured, normal, old_of, new_of, old_size, new_size, IsSet}
+use Rattle.std.proofs.Common.{◌≡◌, ◌+◌, ◌∷◌, ◌++◌, drop, arith, ap, sym, ◌∙◌, refl, subst}
+use Rattle.change_desc.specs.Sections.{spelled, counted, lengths, normal, old_of, new_of, old_size, new_size, IsSet}
 use Rattle.change_set.proofs.Walks.{next_section, measure-step, measured-whole, is_set-lengths, pushed-old, pushed-new, pushed-normal, measured-old, measured-new}
 use Rattle.change_set.proofs.change_set.ChangeSet.desc.Goals as goal
 

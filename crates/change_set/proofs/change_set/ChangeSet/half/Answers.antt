@@ -1,6 +1,6 @@
-use Rattle.std.proofs.Common.{◌≡◌, ◌<◌, ◌^◌, ℕ, List, [], ap, sym, subst, ◌∙◌, arith}
+use Rattle.std.proofs.Common.{◌≡◌, ℕ, List, [], ap, sym, subst, ◌∙◌}
 use Rattle.change_desc.specs.declared.section.Section.{Section}
-use Rattle.change_desc.specs.Sections.{spelled, old_size, new_size, IsSet}
+use Rattle.change_desc.specs.Sections.{spelled, old_size, IsSet}
 use Rattle.change_set.specs.Protection.{half_from, HasRoom, taking}
 use Rattle.change_set.proofs.FilterSizes.{half-room, half-is_set, half-old}
 use Rattle.change_set.proofs.change_set.ChangeSet.half.Goals as goal

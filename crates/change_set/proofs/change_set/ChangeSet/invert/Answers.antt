@@ -1,4 +1,4 @@
-use Rattle.std.proofs.Common.{◌≡◌, List, ap, subst, sym, ◌∙◌, arith}
+use Rattle.std.proofs.Common.{◌≡◌, ap, subst, sym, ◌∙◌, arith}
 use Rattle.change_desc.specs.Sections.{Sections, spelled, apply, invert, old_size, IsSet}
 use Rattle.change_desc.specs.Laws.{LeadsBack}
 use Rattle.change_desc.proofs.Applies.{invert-apply}

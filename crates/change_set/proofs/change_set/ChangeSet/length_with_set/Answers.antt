@@ -1,4 +1,4 @@
-use Rattle.std.proofs.Common.{◌≡◌, false, ap, sym, ◌∙◌}
+use Rattle.std.proofs.Common.{false, ap, sym, ◌∙◌}
 use Rattle.change_desc.specs.Sections.{spelled, old_size}
 use Rattle.change_desc.proofs.Merges.{old_size-lengths}
 use Rattle.change_set.proofs.RunningTotals.{also-size}

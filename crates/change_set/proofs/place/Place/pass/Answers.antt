@@ -1,6 +1,4 @@
-use Rattle.std.proofs.Common.{◌≡◌, ◌+◌, ◌-◌, take, drop, ◌∙◌, arith}
-use Rattle.change_set.specs.Places.{marks_at}
-use Rattle.change_set.specs.Texts.{marked}
+use Rattle.std.proofs.Common.{◌∙◌, arith}
 use Rattle.change_set.proofs.Places.{StepOn, step_on}
 use Rattle.change_set.proofs.place.Place.pass.Goals as goal
 
