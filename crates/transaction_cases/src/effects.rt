@@ -1,5 +1,5 @@
 use crate::drafts::{Coded, alone, are_effects, changing, code, effect, kinds, merged, together};
-use cm_plain::{KeptEffect, Plain};
+use cm_plain::{KeptEffect, KeptMap, Plain};
 use listed::Listed;
 use std::alloc::{AllocError, Global};
 use std::test::Fail;
@@ -125,7 +125,9 @@ fn are_kept(effects: &[KeptEffect], want: &[Coded]) -> bool {
         return false;
     }
     for (effect, wanted) in effects.iter().zip(want) {
-        if code(effect.id, &effect.value) != *wanted {
+        if code(effect.id, &effect.value) != *wanted
+            || effect.map != KeptMap::of_number(effect.id)
+        {
             return false;
         }
     }
@@ -162,5 +164,6 @@ fn no_spec_at_all_is_an_empty_draft(rt: HostRuntime) -> Result<(), Fail> {
     let draft = merged(rt.alloc(), Vec::new(rt.alloc()))?;
     assert!(rt; draft.changes.is_empty() && draft.changes.len() == 4);
     assert!(rt; draft.effects.as_slice().is_empty() && draft.filter);
+    assert!(rt; draft.selection.is_none() && draft.annotations.as_slice().is_empty());
     Ok(())
 }

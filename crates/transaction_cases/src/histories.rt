@@ -309,7 +309,7 @@ fn changes_join_a_group_or_make_one(rt: HostRuntime) -> Result<(), Fail> {
 }
 
 #[test]
-fn the_first_change_closes_its_group(rt: HostRuntime) -> Result<(), Fail> {
+fn a_change_after_an_isolated_or_timeless_one_makes_a_group(rt: HostRuntime) -> Result<(), Fail> {
     for twist in &[Twist::Isolated(Isolation::After), Twist::At(None)] {
         let acts = [
             (Act::Insert(0, 'a'), *twist),
@@ -448,7 +448,8 @@ fn selections_are_undone_and_redone_among_changes(rt: HostRuntime) -> Result<(),
     Ok(())
 }
 
-/// The number that an undo tells after an insertion at the start that tells 3 and another there that is not recorded.
+/// What an undo tells and the selection that it gives, after an insertion at the start that tells 2 and another there that is
+/// not recorded.
 fn told_by_undo(rt: &impl Abort, alloc: Global) -> Result<(Option<i64>, (u32, u32)), Fail> {
     let acts = [
         (Act::Select(2, 2), Twist::None),

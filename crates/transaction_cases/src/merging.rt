@@ -8,7 +8,7 @@ use line_tree::Text;
 use selection::Selection;
 use std::alloc::{AllocError, Global};
 use std::test::Fail;
-use transaction::{Annotation, Draft, Frame, Spec, TransactionError, merge};
+use transaction::{Annotation, Draft, Frame, Spec, TransactionError, USER_EVENT, merge};
 
 /// A spec of one insertion that sets a selection.
 fn selecting(
@@ -59,12 +59,26 @@ fn is_cursor(selection: &Option<Selection>, at: u32) -> bool {
     }
 }
 
+/// Whether annotations are one user event with this name.
+fn are_one_event(annotations: &[Annotation], want: &[char]) -> bool {
+    match annotations {
+        [
+            Annotation {
+                kind,
+                value: Plain::Text(name),
+            },
+        ] => { kind.chars() == USER_EVENT.as_slice() && name.chars() == want }
+        _ => false,
+    }
+}
+
 #[test]
 fn specs_merge_over_one_document(rt: HostRuntime) -> Result<(), Fail> {
     let draft = both_at_one_place(rt.alloc())?;
     assert!(rt; is_text_after(rt.alloc(), &draft, &['a', 'x', 'y', 'b', 'c', 'd'])?);
     assert!(rt; is_cursor(&draft.selection, 1) && draft.filter);
-    assert!(rt; draft.annotations.as_slice().len() == 1);
+    let event = ['s', 'e', 'l', 'e', 'c', 't', '.', 'w', 'o', 'r', 'd'];
+    assert!(rt; are_one_event(draft.annotations.as_slice(), &event));
     Ok(())
 }
 
