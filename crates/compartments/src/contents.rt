@@ -1,15 +1,15 @@
 // What compartments were set to.
-ghost use Rattle.std.specs.Prelude.{◌≡◌, ℕ, List, Some, None, cond, eqb, ◌≢◌, IfOk, OnOk, OnErr};
-ghost use Rattle.compartments.specs.Contents.{content_of, SameContents, kept_content, content_nodes};
-ghost use Rattle.compartments.specs.Least.{least_from_with};
+ghost use Rattle.std.specs.Prelude.{◌≡◌, ℕ, List, [], Some, ◌≢◌, IfOk, OnOk, OnErr};
+ghost use Rattle.std.specs.Map.Iter.{ShowsInOrder, deref};
+ghost use Rattle.compartments.specs.Contents.{content_of, with_content, AreAscending, kept_content, content_nodes};
 
-use crate::least::lesser_from;
 use std::alloc::{AllocError, Global};
 use std::collections::BTreeMap;
+use std::collections::btree_map::Values;
 use std::marker::Model;
 
 /// The set contents of compartments: for each compartment that was set, the id of the node that is its content.
-/// (Reference Manual, Compartment.)
+/// Contracts see the pairs of both, by compartment. (Reference Manual, Compartment.)
 #[derive(Drop)]
 pub struct Contents {
     nodes: BTreeMap<u32, u32>,
@@ -25,7 +25,7 @@ impl Model for Contents {
 impl Contents {
     /// No compartment is set.
     pub fn empty(alloc: Global) -> Self
-        ensures { (c : ℕ) → content_of result c ≡ None }
+        ensures { result ≡ [] }
     {
         Contents {
             nodes: BTreeMap::new(alloc),
@@ -40,27 +40,25 @@ impl Contents {
         self.nodes.get(&compartment).copied()
     }
 
+    /// The nodes that compartments are set to, by compartment. Takes no memory.
+    pub fn nodes(&self) -> Values<'_, u32, u32>
+        ensures nodes { result ≡ content_nodes self.now }
+        ensures in_order { ShowsInOrder (deref {X = ℕ}) }
+        ensures ascending { AreAscending self.now }
+    {
+        self.nodes.values()
+    }
+
     /// Sets the content of a compartment, in place of what it was set to before.
-    /// (Reference Manual, Compartment.reconfigure.) When out of memory each content is as before.
+    /// (Reference Manual, Compartment.reconfigure.) When out of memory the contents are as before.
     pub fn set(&mut self, compartment: u32, node: u32) -> Result<(), AllocError>
-        ensures set { OnOk result (content_of self.new compartment ≡ Some node) }
+        ensures set { OnOk result (self.new ≡ with_content self.old compartment node) }
+        ensures here { OnOk result (content_of self.new compartment ≡ Some node) }
         ensures others { OnOk result ((c : ℕ) → c ≢ compartment → content_of self.new c ≡ content_of self.old c) }
-        ensures same { OnErr result (SameContents self.old self.new) }
+        ensures same { OnErr result (self.new ≡ self.old) }
     {
         self.nodes.insert(compartment, node)?;
         Ok(())
-    }
-
-    /// Of the given number, if any, and the nodes that compartments are set to and that are not less than a count, the
-    /// least. So it finds the least content that is no node of an arena of this many nodes. Takes no memory.
-    pub fn least_from(&self, count: usize, least: Option<u32>) -> Option<u32>
-        ensures { result ≡ least_from_with count least (content_nodes self.now) }
-    {
-        let mut least = least;
-        for node in self.nodes.values() {
-            least = lesser_from(count, least, *node);
-        }
-        least
     }
 
     /// The contents of these compartments as they are here, and of no other.

@@ -2,14 +2,10 @@
 //!
 //! A layer above may rely on this: a compartment has a content exactly where one was set and kept, `set` changes the
 //! content of one compartment alone, and `keep_only` leaves the contents of the named compartments as they were and
-//! drops the rest. Reading takes no memory.
+//! drops the rest. Each compartment stands once, by number, so a node that was replaced is a content no more. Reading
+//! takes no memory.
 #![tactic(auto)]
 
 mod contents;
-mod least;
 
 pub use contents::Contents;
-pub use least::lesser_from;
-
-#[cfg(test)]
-mod tests;

@@ -6,7 +6,7 @@ use Rattle.configuration.specs.declared.dependency.Dependency.{Dependency}
 use Rattle.configuration.specs.declared.dependency.Dependency.TheVariants as dependency
 use Rattle.configuration.specs.declared.facet_def.FacetDef.{FacetDef}
 use Rattle.configuration.specs.declared.field_def.FieldDef.{FieldDef}
-use Rattle.configuration.specs.declared.leaf_def.LeafDef.{LeafDef}
+use Rattle.configuration.specs.declared.node_def.NodeDef.{NodeDef}
 use Rattle.configuration.specs.Pairs.{read_pair, reads_of, reads_in, input_pairs, facet_pairs_from, field_pairs, field_pairs_from, pairs}
 
 all-append : {X : Type 0} (P : X → Type 0) (xs ys : List X) → AllByRecursion P xs → AllByRecursion P ys → AllByRecursion P (xs ++ ys)
@@ -38,12 +38,12 @@ module _ (facets fields : ℕ) where
       (λ (e : nat_lt f fields ≡ false). rw e tt)
       (cases_Bool (nat_lt f fields))
 
-  facets-within : {V : Type 0} (leaves : List (LeafDef V)) (f : ℕ) (inputs : List (List ℕ)) → f + length inputs ≡ facets → AllByRecursion (IsEdge (facets + fields)) (facet_pairs_from facets fields leaves f inputs)
-  facets-within leaves f [] e = tt
-  facets-within leaves f (nodes ∷ rest) e =
-      all-append (IsEdge (facets + fields)) (flat_map (input_pairs facets fields leaves f) nodes) (facet_pairs_from facets fields leaves (f + 1) rest)
-      (all-flat (input_pairs facets fields leaves f) (IsEdge (facets + fields)) (λ n. all-flat (read_pair facets fields f) (IsEdge (facets + fields)) (read-within f (omega (arith, e))) (reads_of (slice_get leaves n))) nodes)
-      (facets-within leaves (f + 1) rest (omega (arith, e)))
+  facets-within : {V : Type 0} (node_defs : List (NodeDef V)) (f : ℕ) (inputs : List (List ℕ)) → f + length inputs ≡ facets → AllByRecursion (IsEdge (facets + fields)) (facet_pairs_from facets fields node_defs f inputs)
+  facets-within node_defs f [] e = tt
+  facets-within node_defs f (nodes ∷ rest) e =
+      all-append (IsEdge (facets + fields)) (flat_map (input_pairs facets fields node_defs f) nodes) (facet_pairs_from facets fields node_defs (f + 1) rest)
+      (all-flat (input_pairs facets fields node_defs f) (IsEdge (facets + fields)) (λ n. all-flat (read_pair facets fields f) (IsEdge (facets + fields)) (read-within f (omega (arith, e))) (reads_of (slice_get node_defs n))) nodes)
+      (facets-within node_defs (f + 1) rest (omega (arith, e)))
 
   field-within : (defs : List FieldDef) (f : ℕ) (node : Option ℕ) → f < fields → AllByRecursion (IsEdge (facets + fields)) (field_pairs facets fields defs f node)
   field-within defs f None lt = tt
@@ -55,12 +55,12 @@ module _ (facets fields : ℕ) where
       all-append (IsEdge (facets + fields)) (field_pairs facets fields defs f node) (field_pairs_from facets fields defs (f + 1) rest) (field-within defs f node (omega (arith, e))) (fields-within defs (f + 1) rest (omega (arith, e)))
 
 -- the dependency pairs are edges between vertices
-pub pairs-within : {V : Type 0} (facets : List FacetDef) (fields : List FieldDef) (leaves : List (LeafDef V)) (inputs : List (List ℕ)) (nodes : List (Option ℕ)) → length inputs ≡ length facets → length nodes ≡ length fields
-    → All (IsEdge (length facets + length fields)) (pairs facets fields leaves inputs nodes)
-pairs-within facets fields leaves inputs nodes a b =
-    from-recursion (IsEdge (length facets + length fields)) (pairs facets fields leaves inputs nodes)
-    (all-append (IsEdge (length facets + length fields)) (facet_pairs_from (length facets) (length fields) leaves 0 inputs) (field_pairs_from (length facets) (length fields) fields 0 nodes)
-    (facets-within (length facets) (length fields) leaves 0 inputs (omega (arith, a))) (fields-within (length facets) (length fields) fields 0 nodes (omega (arith, b))))
+pub pairs-within : {V : Type 0} (facets : List FacetDef) (fields : List FieldDef) (node_defs : List (NodeDef V)) (inputs : List (List ℕ)) (nodes : List (Option ℕ)) → length inputs ≡ length facets → length nodes ≡ length fields
+    → All (IsEdge (length facets + length fields)) (pairs facets fields node_defs inputs nodes)
+pairs-within facets fields node_defs inputs nodes a b =
+    from-recursion (IsEdge (length facets + length fields)) (pairs facets fields node_defs inputs nodes)
+    (all-append (IsEdge (length facets + length fields)) (facet_pairs_from (length facets) (length fields) node_defs 0 inputs) (field_pairs_from (length facets) (length fields) fields 0 nodes)
+    (facets-within (length facets) (length fields) node_defs 0 inputs (omega (arith, a))) (fields-within (length facets) (length fields) fields 0 nodes (omega (arith, b))))
 
 -- the next of a list that is read by places
 pub next-at : {X : Type 0} (xs : List X) (i : ℕ) (d : X) → i < length xs → drop i xs ≡ get_or xs i d ∷ drop (i + 1) xs

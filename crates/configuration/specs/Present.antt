@@ -1,28 +1,19 @@
 use Rattle.std.specs.Prelude.{ℕ, zero, suc, ◌+◌, List, [], ◌∷◌, ◌++◌, Bool, false, cond, eqb, filter, find, map, flat_map, Option, Some, None, slice_get, get_or, set, length, nat_lt}
 use Rattle.std.specs.Option.{option_map, unwrap_or}
 use Rattle.ext_tree.specs.declared.node.Node.{Node}
-use Rattle.ext_tree.specs.declared.node.Node.TheVariants.{Group, Prec, Slot, Input, Field, Init}
+use Rattle.ext_tree.specs.declared.node.Node.TheVariants.{Input, Field, Init}
 use Rattle.ext_tree.specs.Unfolding.{compartment_in}
 
 -- facet of an input
 abbrev pub facet_in : Option Node → Option ℕ
-facet_in None = None
-facet_in (Some (Group nodes)) = None
-facet_in (Some (Prec p node)) = None
-facet_in (Some (Slot compartment content)) = None
 facet_in (Some (Input facet)) = Some facet
-facet_in (Some (Field field)) = None
-facet_in (Some (Init field)) = None
+facet_in _ = None
 
 -- field of a field's node, its init included
 abbrev pub field_in : Option Node → Option ℕ
-field_in None = None
-field_in (Some (Group nodes)) = None
-field_in (Some (Prec p node)) = None
-field_in (Some (Slot compartment content)) = None
-field_in (Some (Input facet)) = None
 field_in (Some (Field field)) = Some field
 field_in (Some (Init field)) = Some field
+field_in _ = None
 
 -- is: whether there is an id, and it is this one
 abbrev pub is_id : ℕ → Option ℕ → Bool

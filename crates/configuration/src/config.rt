@@ -62,8 +62,8 @@ impl Config {
         contents: &Contents,
     ) -> Result<Self, ConfigError>
         requires { AreLinksOlder arena.now defs.now.links }
-        ensures config { IfOk result (λ config. IsConfig (tree_of arena.now contents.now defs.now.links) defs.now.facets defs.now.fields defs.now.leaves base.now config) }
-        ensures refuses { IfErr result (λ error. IsCause (tree_of arena.now contents.now defs.now.links) defs.now.facets defs.now.fields defs.now.leaves base.now error) }
+        ensures config { IfOk result (λ config. IsConfig (tree_of arena.now contents.now defs.now.links) defs.now.facets defs.now.fields defs.now.node_defs base.now config) }
+        ensures refuses { IfErr result (λ error. IsCause (tree_of arena.now contents.now defs.now.links) defs.now.facets defs.now.fields defs.now.node_defs base.now error) }
     {
         let Flat { order: flat, slots } = flatten(alloc, arena, base, contents, &defs.links)?;
         let nodes = arena.nodes();

@@ -3,7 +3,7 @@ ghost use Rattle.std.specs.Prelude.{◌≡◌, ◌<◌, ◌+◌, ◌^◌, length
 
 use crate::facet_def::FacetDef;
 use crate::field_def::FieldDef;
-use crate::leaf_def::LeafDef;
+use crate::node_def::NodeDef;
 use ext_tree::Links;
 use listed::Listed;
 
@@ -16,7 +16,7 @@ pub struct Defs<V> {
     /// The fields by id.
     pub fields: Listed<FieldDef>,
     /// The nodes of the arena by id.
-    pub leaves: Listed<LeafDef<V>>,
+    pub node_defs: Listed<NodeDef<V>>,
     /// What inputs and fields are followed by.
     pub links: Links,
     ghost fits: { length facets + length fields < 2 ^ 32 },

@@ -14,7 +14,7 @@ mod dependency;
 mod facet_def;
 mod field_def;
 mod kinds;
-mod leaf_def;
+mod node_def;
 mod ordering;
 mod pairs;
 mod present;
@@ -26,8 +26,5 @@ pub use defs::Defs;
 pub use dependency::Dependency;
 pub use facet_def::FacetDef;
 pub use field_def::FieldDef;
-pub use leaf_def::LeafDef;
+pub use node_def::NodeDef;
 pub use vertex::Vertex;
-
-#[cfg(test)]
-mod tests;

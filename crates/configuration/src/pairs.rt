@@ -6,7 +6,7 @@ use crate::counts::Counts;
 use crate::defs::Defs;
 use crate::dependency::Dependency;
 use crate::field_def::FieldDef;
-use crate::leaf_def::LeafDef;
+use crate::node_def::NodeDef;
 use dep_graph::Edge;
 use ext_tree::ExtId;
 use listed::Listed;
@@ -54,19 +54,19 @@ fn push_reads(
 }
 
 /// Adds the pairs of a facet and what one of its inputs declares.
-fn push_leaf<V>(
+fn push_node<V>(
     counts: Counts,
     facet: u32,
-    leaves: &[LeafDef<V>],
+    node_defs: &[NodeDef<V>],
     node: ExtId,
     edges: &mut Vec<Edge>,
 ) -> Result<(), AllocError>
-    ensures { OnOk result (edges.new.items ≡ edges.old.items ++ flat_map (read_pair counts.facets counts.fields facet) (reads_of (slice_get leaves.now node))) }
+    ensures { OnOk result (edges.new.items ≡ edges.old.items ++ flat_map (read_pair counts.facets counts.fields facet) (reads_of (slice_get node_defs.now node))) }
 {
-    match leaves.get(node as usize) {
-        Some(LeafDef::Compute { reads, .. }) => push_reads(counts, facet, reads.as_slice(), edges),
-        Some(LeafDef::ComputeN { reads, .. }) => push_reads(counts, facet, reads.as_slice(), edges),
-        Some(LeafDef::From { field, .. }) => {
+    match node_defs.get(node as usize) {
+        Some(NodeDef::Compute { reads, .. }) => push_reads(counts, facet, reads.as_slice(), edges),
+        Some(NodeDef::ComputeN { reads, .. }) => push_reads(counts, facet, reads.as_slice(), edges),
+        Some(NodeDef::From { field, .. }) => {
             push_reads(counts, facet, &[Dependency::Field(*field)], edges)
         }
         _ => push_reads(counts, facet, &[], edges),
@@ -77,14 +77,14 @@ fn push_leaf<V>(
 fn push_inputs<V>(
     counts: Counts,
     facet: u32,
-    leaves: &[LeafDef<V>],
+    node_defs: &[NodeDef<V>],
     nodes: &[ExtId],
     edges: &mut Vec<Edge>,
 ) -> Result<(), AllocError>
-    ensures { OnOk result (edges.new.items ≡ edges.old.items ++ flat_map (input_pairs counts.facets counts.fields leaves.now facet) nodes.now) }
+    ensures { OnOk result (edges.new.items ≡ edges.old.items ++ flat_map (input_pairs counts.facets counts.fields node_defs.now facet) nodes.now) }
 {
     for node in nodes {
-        push_leaf(counts, facet, leaves, *node, edges)?;
+        push_node(counts, facet, node_defs, *node, edges)?;
     }
     Ok(())
 }
@@ -92,16 +92,16 @@ fn push_inputs<V>(
 /// Adds the pairs of all facets and what their inputs declare.
 fn push_facets<V>(
     counts: Counts,
-    leaves: &[LeafDef<V>],
+    node_defs: &[NodeDef<V>],
     inputs: &[Listed<ExtId>],
     edges: &mut Vec<Edge>,
 ) -> Result<(), AllocError>
     requires { length inputs.now ≡ counts.facets }
-    ensures { OnOk result (edges.new.items ≡ edges.old.items ++ facet_pairs_from counts.facets counts.fields leaves.now 0 inputs.now) }
+    ensures { OnOk result (edges.new.items ≡ edges.old.items ++ facet_pairs_from counts.facets counts.fields node_defs.now 0 inputs.now) }
 {
     for facet in 0..counts.facets {
         let nodes = inputs[facet as usize].as_slice();
-        push_inputs(counts, facet, leaves, nodes, edges)?;
+        push_inputs(counts, facet, node_defs, nodes, edges)?;
     }
     Ok(())
 }
@@ -158,14 +158,14 @@ pub fn dependency_pairs<V>(
 ) -> Result<Vec<Edge>, AllocError>
     requires inputs { length inputs.now ≡ length defs.now.facets }
     requires nodes { length nodes.now ≡ length defs.now.fields }
-    ensures { IfOk result (λ edges. edges.items ≡ pairs defs.now.facets defs.now.fields defs.now.leaves inputs.now nodes.now) }
+    ensures { IfOk result (λ edges. edges.items ≡ pairs defs.now.facets defs.now.fields defs.now.node_defs inputs.now nodes.now) }
 {
     let counts = Counts {
         facets: defs.facet_count(),
         fields: defs.field_count(),
     };
     let mut edges = Vec::new(alloc);
-    push_facets(counts, defs.leaves.as_slice(), inputs, &mut edges)?;
+    push_facets(counts, defs.node_defs.as_slice(), inputs, &mut edges)?;
     push_fields(counts, defs.fields.as_slice(), nodes, &mut edges)?;
     Ok(edges)
 }

@@ -60,10 +60,7 @@ pub fn nodes_by_field(
 ) -> Result<Vec<Option<ExtId>>, AllocError>
     ensures { IfOk result (λ found. found.items ≡ field_nodes nodes.now fields order.now) }
 {
-    let mut found = Vec::new(alloc);
-    for _field in 0..fields {
-        found.push(None)?;
-    }
+    let mut found = vec![in alloc; None; fields as usize]?;
     for node in order {
         note(&mut found, field_of(nodes, *node), *node);
     }

@@ -2,7 +2,8 @@ use Rattle.std.proofs.Common.{◌≡◌, ◌≤◌, ◌∙◌, ◌⊎◌, ℕ, L
 use Rattle.std.proofs.lemmas.Bool.{cases_lt, eqb-true, eqb-false, ne_eqb, eq-eqb}
 use Rattle.dep_graph.specs.declared.edge.Edge.{Edge}
 use Rattle.dep_graph.specs.Order.{edge, DependsOn}
-use Rattle.dep_graph.specs.Visiting.{lesser, better, least_waiting}
+use Rattle.id_lists.specs.Least.{lesser}
+use Rattle.dep_graph.specs.Visiting.{better, least_waiting}
 
 -- a number found is no greater
 abbrev pub IsUpTo : Option ℕ → ℕ → Type 0

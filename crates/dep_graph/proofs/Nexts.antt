@@ -1,7 +1,8 @@
 use Rattle.std.proofs.Common.{◌≡◌, ◌<◌, ◌≢◌, ◌∙◌, ℕ, List, ◌∷◌, Bool, true, false, cond, ◌&&◌, eqb, length, set, get_or, Option, None, refl, sym, ap, ⊎_elim, get_or-set_other, get_or-set_same}
 use Rattle.std.proofs.lemmas.Bool.{cases_eq, ne_eqb, eq-eqb}
 use Rattle.dep_graph.specs.declared.edge.Edge.{Edge}
-use Rattle.dep_graph.specs.Visiting.{lesser, better, least_waiting}
+use Rattle.id_lists.specs.Least.{lesser}
+use Rattle.dep_graph.specs.Visiting.{better, least_waiting}
 
 module _ (counts : List ℕ) (nexts : List (Option ℕ)) (e : Edge) where
   -- a dependency that doesn't wait is passed over

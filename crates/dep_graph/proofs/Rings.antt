@@ -1,7 +1,7 @@
 use Rattle.std.proofs.Common.{◌++◌, ℕ, List, [], ◌∷◌, reverse, subst, sym}
 use Rattle.dep_graph.specs.declared.edge.Edge.{Edge}
-use Rattle.dep_graph.specs.Order.{IsChain}
-use Rattle.dep_graph.specs.Laws.{EachDepends, IsRing, CirclesAreRings, CirclesHaveNoOrder}
+use Rattle.dep_graph.specs.Order.{IsChain, IsCircle}
+use Rattle.dep_graph.specs.Laws.{EachDepends, IsRing, HasNoOrder}
 use Rattle.dep_graph.proofs.Members.{in-reverse}
 
 -- the end of a chain is a chain
@@ -15,12 +15,12 @@ each-depends es [] last c = tt
 each-depends es (v ∷ []) last c = c.depends
 each-depends es (v ∷ w ∷ vs) last c = (c.0.depends, each-depends es (w ∷ vs) last c.1)
 
-pub circles-rings : CirclesAreRings
-circles-rings count es members c =
+pub circles_rings : (count : ℕ) (es : List Edge) (members : List ℕ) → IsCircle count es members → IsRing es members
+circles_rings count es members c =
     subst (IsRing es) (sym c.members_are)
     (each-depends es (c.first_member ∷ c.other_members) c.first_member
     (chain-end es c.before c.first_member c.other_members c.first_member
     (subst (λ (ms : List ℕ). IsChain es (c.before ++ ms) c.first_member) c.members_are c.chain)))
 
-pub circles-no_order : CirclesHaveNoOrder
-circles-no_order count es members order c o = c.starts.is_stuck (reverse order) o.ordered (in-reverse order c.first (o.complete c.first c.starts.within))
+pub circles_no_order : (count : ℕ) (es : List Edge) (members : List ℕ) → IsCircle count es members → HasNoOrder count es
+circles_no_order count es members c order o = c.starts.is_stuck (reverse order) o.ordered (in-reverse order c.first (o.complete c.first c.starts.within))

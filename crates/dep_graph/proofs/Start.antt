@@ -4,7 +4,8 @@ use Rattle.std.proofs.lemmas.List.{reverse-append}
 use Rattle.std.proofs.lemmas.List.Sums.{sum_by_more}
 use Rattle.std.proofs.Math.Seq.{take-length}
 use Rattle.dep_graph.specs.declared.edge.Edge.{Edge}
-use Rattle.dep_graph.specs.Order.{In, IsOrdered}
+use Rattle.id_lists.specs.Members.{In}
+use Rattle.dep_graph.specs.Order.{IsOrdered}
 use Rattle.dep_graph.specs.Counting.{left, waits, ready_below, AreCounts, IsProgress}
 use Rattle.dep_graph.proofs.Members.{in-end, in-more, in-parts, from-reverse}
 use Rattle.dep_graph.proofs.Told.{left-none}

@@ -2,7 +2,8 @@ use Rattle.std.proofs.Common.{◌≡◌, ◌<◌, ◌≤◌, ◌++◌, ℕ, List
 use Rattle.std.proofs.lemmas.Bool.{cases_lt}
 use Rattle.std.specs.List.{AllByRecursion}
 use Rattle.dep_graph.specs.declared.edge.Edge.{Edge}
-use Rattle.dep_graph.specs.Order.{In, IsEdge, edge, DependsOn, IsOrdered, IsOrder, IsStuck, IsFirstStuck, IsNext, IsChain, AreDistinct}
+use Rattle.id_lists.specs.Members.{In}
+use Rattle.dep_graph.specs.Order.{IsEdge, edge, DependsOn, IsOrdered, IsOrder, IsStuck, IsFirstStuck, IsNext, IsChain, AreDistinct}
 use Rattle.dep_graph.specs.Counting.{left, IsProgress, NoneWaits, IsFirstWaiting}
 use Rattle.dep_graph.proofs.Members.{in-parts, in-reverse}
 use Rattle.dep_graph.proofs.Told.{has-in, none-left}

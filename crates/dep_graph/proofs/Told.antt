@@ -5,7 +5,8 @@ use Rattle.std.proofs.lemmas.List.Folds.{list_any-append}
 use Rattle.std.proofs.lemmas.List.Sums.{sum_by-set}
 use Rattle.std.specs.List.{list_any, AllByRecursion}
 use Rattle.dep_graph.specs.declared.edge.Edge.{Edge}
-use Rattle.dep_graph.specs.Order.{In, IsEdge, edge, DependsOn, IsOrdered}
+use Rattle.id_lists.specs.Members.{In}
+use Rattle.dep_graph.specs.Order.{IsEdge, edge, DependsOn, IsOrdered}
 use Rattle.dep_graph.proofs.Members.{in-end, in-more, in-parts, in-reverse, from-reverse}
 use Rattle.dep_graph.specs.Counting.{has, is_left, left, dependents_of, times, waits, IsProgress, IsTold}
 

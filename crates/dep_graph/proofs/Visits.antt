@@ -2,7 +2,8 @@ use Rattle.std.proofs.Common.{◌≡◌, ◌<◌, ◌++◌, ◌∙◌, ℕ, List
 use Rattle.std.proofs.lemmas.Bool.{cases_eq, ne_eqb, eq-eqb, true≢false}
 use Rattle.std.proofs.lemmas.List.Sums.{sum_by-set}
 use Rattle.dep_graph.specs.declared.edge.Edge.{Edge}
-use Rattle.dep_graph.specs.Order.{In, IsChain, AreDistinct, IsFirstStuck, IsCircle}
+use Rattle.id_lists.specs.Members.{In}
+use Rattle.dep_graph.specs.Order.{IsChain, AreDistinct, IsFirstStuck, IsCircle}
 use Rattle.dep_graph.specs.Counting.{has}
 use Rattle.dep_graph.specs.Visiting.{IsVisiting, IsPartFrom, unmarked}
 use Rattle.dep_graph.proofs.Told.{has-in, in-has, has-more}

@@ -1,5 +1,6 @@
 use Rattle.std.specs.Prelude.{◌≡◌, ◌<◌, ℕ, zero, suc, ◌+◌, ◌-◌, List, [], ◌∷◌, ◌++◌, Bool, true, cond, not, ◌&&◌, eqb, length, get_or, slice_get, set, reverse, sum_by, All, Option, Some, None}
-use Rattle.dep_graph.specs.Order.{In, IsEdge, IsOrdered}
+use Rattle.id_lists.specs.Members.{In}
+use Rattle.dep_graph.specs.Order.{IsEdge, IsOrdered}
 use Rattle.dep_graph.specs.declared.graph.Graph.{Graph}
 use Rattle.std.specs.List.{list_any, AllByRecursion}
 use Rattle.dep_graph.specs.declared.edge.Edge.{Edge}

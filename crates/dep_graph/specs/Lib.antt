@@ -1,5 +1,6 @@
 pub mod Counting
+pub mod ErrorMembers
 pub mod Laws
-pub mod Members
 pub mod Order
 pub mod Visiting
+pub use Rattle.id_lists.specs.Members

@@ -1,15 +1,11 @@
-use Rattle.std.specs.Prelude.{◌≡◌, ◌<◌, ◌≤◌, ℕ, List, [], ◌∷◌, ◌++◌, ◌⊎◌, reverse, ⊤}
+use Rattle.std.specs.Prelude.{◌≡◌, ◌<◌, ◌≤◌, ℕ, List, [], ◌∷◌, ◌++◌, reverse, ⊤}
+use Rattle.id_lists.specs.Members.{In}
 use Rattle.dep_graph.specs.declared.edge.Edge.{Edge}
 
--- edge between vertices: both ends are below the count
+-- edge between vertices: both ends are less than the count
 pub record IsEdge (count : ℕ) (e : Edge) : Type 0 where
   pub vertex : e.vertex < count
   pub dependency : e.dependency < count
-
--- in: x is one of the elements
-abbrev pub In : {X : Type 0} → X → List X → Type 0
-In x [] = ⊥
-In x (y ∷ ys) = (x ≡ y) ⊎ In x ys
 
 -- edge: v depends on d
 abbrev pub edge : ℕ → ℕ → Edge
@@ -24,7 +20,7 @@ abbrev pub IsOrdered : List Edge → List ℕ → Type 0
 IsOrdered es [] = ⊤
 IsOrdered es (v ∷ vs) = ((d : ℕ) → DependsOn es v d → In d vs) × (In v vs → ⊥) × IsOrdered es vs
 
--- order: each vertex below the count stands once, and after what it depends on
+-- order: each vertex less than the count stands once, and after what it depends on
 pub record IsOrder (count : ℕ) (es : List Edge) (order : List ℕ) : Type 0 where
   pub ordered : IsOrdered es (reverse order)
   pub within : (v : ℕ) → In v order → v < count

@@ -1,12 +1,8 @@
-use Rattle.std.specs.Prelude.{◌≡◌, ◌<◌, ℕ, ◌⊎◌, min, fold, List, [], ◌∷◌, ◌++◌, Bool, cond, not, ◌&&◌, eqb, length, get_or, false, Option, Some, None}
+use Rattle.std.specs.Prelude.{◌≡◌, ◌<◌, ℕ, ◌⊎◌, fold, List, [], ◌∷◌, ◌++◌, Bool, cond, not, ◌&&◌, eqb, length, get_or, false, Option, None}
+use Rattle.id_lists.specs.Least.{lesser}
 use Rattle.dep_graph.specs.declared.edge.Edge.{Edge}
 use Rattle.dep_graph.specs.Order.{IsChain, AreDistinct}
 use Rattle.dep_graph.specs.Counting.{has}
-
--- lesser: the lesser of a dependency found before, if any, and another
-abbrev pub lesser : Option ℕ → ℕ → Option ℕ
-lesser None d = Some d
-lesser (Some m) d = Some (min m d)
 
 -- better: the lesser, where an edge leads from a vertex to one that waits
 abbrev pub better : List ℕ → ℕ → Option ℕ → Edge → Option ℕ

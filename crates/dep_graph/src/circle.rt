@@ -1,12 +1,15 @@
 // A circle among the vertices that can't be ordered.
 ghost use Rattle.std.specs.Prelude.{◌≡◌, ◌<◌, ℕ, [], All, IfOk, None, length, get_or, replicate, set, false};
 ghost use Rattle.dep_graph.specs.Counting.{IsGraph, IsProgress, IsFirstWaiting};
-ghost use Rattle.dep_graph.specs.Visiting.{lesser, AreNexts, IsPartFrom};
-ghost use Rattle.dep_graph.specs.Order.{In, IsEdge, IsNext, IsCircle};
+ghost use Rattle.id_lists.specs.Least.{lesser};
+ghost use Rattle.id_lists.specs.Members.{In};
+ghost use Rattle.dep_graph.specs.Visiting.{AreNexts, IsPartFrom};
+ghost use Rattle.dep_graph.specs.Order.{IsEdge, IsNext, IsCircle};
 
 use crate::edge::Edge;
 use crate::graph::Graph;
 use crate::progress::Progress;
+use id_lists::lesser;
 use std::alloc::{AllocError, Global};
 
 /// Notes a dependency that waits, if it is the least so far.
@@ -14,11 +17,7 @@ fn note(nexts: &mut Vec<Option<u32>>, vertex: u32, dependency: u32)
     requires { vertex < length nexts.old.items }
     ensures { nexts.new.items ≡ set nexts.old.items vertex (lesser (get_or nexts.old.items vertex None) dependency) }
 {
-    let least = match nexts[vertex as usize] {
-        None => dependency,
-        Some(other) => other.min(dependency),
-    };
-    nexts[vertex as usize] = Some(least);
+    nexts[vertex as usize] = lesser(nexts[vertex as usize], dependency);
 }
 
 /// The least dependency of each vertex that waits.
@@ -32,10 +31,7 @@ fn nexts_of(
     requires counts { length counts.now ≡ count }
     ensures { IfOk result (λ nexts. AreNexts count counts.now edges.now nexts.items) }
 {
-    let mut nexts = Vec::new(alloc);
-    for _vertex in 0..count {
-        nexts.push(None)?;
-    }
+    let mut nexts = vec![in alloc; None; count as usize]?;
     for edge in edges {
         if counts[edge.dependency as usize] != 0 {
             note(&mut nexts, edge.vertex, edge.dependency);
@@ -75,11 +71,7 @@ fn next_waiting(nexts: &[Option<u32>], graph: &Graph, progress: &Progress, verte
 fn no_marks(alloc: Global, count: u32) -> Result<Vec<bool>, AllocError>
     ensures { IfOk result (λ marks. marks.items ≡ replicate count false) }
 {
-    let mut marks = Vec::new(alloc);
-    for _vertex in 0..count {
-        marks.push(false)?;
-    }
-    Ok(marks)
+    vec![in alloc; false; count as usize]
 }
 
 /// The part of a path from a vertex on.

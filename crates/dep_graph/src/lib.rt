@@ -11,14 +11,9 @@ mod dependency_order;
 mod dependents;
 mod edge;
 mod graph;
-mod laws;
 mod order_error;
 mod progress;
 
 pub use dependency_order::order;
 pub use edge::Edge;
-pub use laws::circle_laws;
 pub use order_error::OrderError;
-
-#[cfg(test)]
-mod tests;

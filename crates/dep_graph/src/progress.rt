@@ -19,10 +19,7 @@ fn counted(alloc: Global, count: u32, edges: &[Edge]) -> Result<Vec<usize>, Allo
     requires { All (IsEdge count) edges.now }
     ensures { IfOk result (λ counts. AreCounts count [] edges.now counts.items) }
 {
-    let mut counts = Vec::new(alloc);
-    for _vertex in 0..count {
-        counts.push(0)?;
-    }
+    let mut counts = vec![in alloc; 0; count as usize]?;
     for edge in edges {
         counts[edge.vertex as usize] += 1;
     }

@@ -5,8 +5,8 @@ use Rattle.std.proofs.lemmas.List.Folds.{list_any-append}
 use Rattle.std.proofs.lemmas.List.Sums.{fold-append}
 use Rattle.std.specs.List.{list_any}
 use Rattle.ext_tree.specs.declared.visit.Visit.{Visit}
-use Rattle.ext_tree.specs.Flat.{level, has_level, at_level, take_in, take_level}
-use Rattle.ext_tree.specs.Chosen.{is_higher, is_same, is_passed_over, chosen_from, chosen, FlatIsSorted}
+use Rattle.ext_tree.specs.Flat.{level, has_level, at_level, take_in, take_level, flat}
+use Rattle.ext_tree.specs.Chosen.{is_higher, is_same, is_passed_over, chosen_from, chosen, sorted_order}
 use Rattle.ext_tree.proofs.Skip.{level-append}
 
 abbrev has : List ℕ → ℕ → Bool
@@ -142,5 +142,5 @@ levels-chosen all (suc k) i taken higher =
     ∙ ap (λ (xs : List ℕ). xs ++ flat_map (λ (j : ℕ). at_level j (chosen all)) (count_from (i + 1) k)) (level-chosen all i taken higher [] all)
     ∙ append_assoc taken (at_level i (chosen all)) (flat_map (λ (j : ℕ). at_level j (chosen all)) (count_from (i + 1) k))
 
-pub flat-sorted : FlatIsSorted
+pub flat-sorted : (vs : List Visit) → flat vs ≡ sorted_order vs
 flat-sorted vs = levels-chosen vs 5 0 [] (λ n. none-higher n vs)

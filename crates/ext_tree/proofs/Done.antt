@@ -6,7 +6,8 @@ use Rattle.ext_tree.specs.declared.visit.Visit.{Visit}
 use Rattle.ext_tree.specs.Tree.{Tree}
 use Rattle.ext_tree.specs.Unfolding.{Occurrence, compartment_of, is_blocked, following, precedence_below, path_below, below, followed_by, unfolded}
 use Rattle.ext_tree.specs.Flat.{visit_of}
-use Rattle.ext_tree.specs.Walking.{In, visit, visit_below, ReachesIn, Reaches, IsFirst, LeadsTo, IsPath, IsCounted, AreBelowDone, IsClosed}
+use Rattle.id_lists.specs.Members.{In}
+use Rattle.ext_tree.specs.Walking.{visit, visit_below, ReachesIn, Reaches, IsFirst, LeadsTo, IsPath, IsCounted, AreBelowDone, IsClosed}
 use Rattle.ext_tree.proofs.Enough.{weaker, all-map}
 
 pub all-append : {X : Type 0} (P : X → Type 0) (xs ys : List X) → AllByRecursion P xs → AllByRecursion P ys → AllByRecursion P (xs ++ ys)

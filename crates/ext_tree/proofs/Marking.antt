@@ -5,7 +5,7 @@ use Rattle.std.specs.Option.{option_or}
 use Rattle.ext_tree.specs.Tree.{Tree}
 use Rattle.ext_tree.specs.Unfolding.{compartment_of, is_slot_of, stands_on}
 use Rattle.ext_tree.specs.Refusal.{first_met}
-use Rattle.ext_tree.specs.Marks.{slots_on, AreOpen, raised, lowered, AreFirsts}
+use Rattle.ext_tree.specs.Marks.{kept_for, count_of, slots_on, AreOpen, AreFirsts}
 
 none≢some : {X : Type 0} (x : X) → Some x ≡ None → ⊥
 none≢some x e = cc
@@ -46,65 +46,52 @@ module _ (t : Tree) where
       (cases_Bool (is_slot_of t c p))
 
   -- a slot is entered
-  pub opens : (path counts : List ℕ) (n : ℕ) (k : Option ℕ) → compartment_of t n ≡ k → AreOpen t path counts → AreOpen t (path ++ n ∷ []) (raised counts k)
-  opens path counts n None e h = record {
-    room = h.room;
-    counted = λ d lt. let z : one_if (is_slot_of t d n) ≡ 0 = rw (slot-none n e d) refl in let s = slots-append d path n in let k = h.counted d lt in omega (arith, z, s, k);
-  }
-  opens path counts n (Some c) e h = record {
-    room = rw length-set h.room;
-    counted = λ d lt. let inside : d < length counts = subst (λ (k : ℕ). d < k) (length-set counts c (get_or counts c 0 + 1)) lt in
-        let s = slots-append d path n in let k = h.counted d inside in
+  module _ (path : List ℕ) (counts counts' : List (ℕ × ℕ)) (n c : ℕ) (is : compartment_of t n ≡ Some c) where
+    pub opens : AreOpen t path counts → count_of counts' c ≡ count_of counts c + 1 → ((d : ℕ) → d ≢ c → count_of counts' d ≡ count_of counts d) → AreOpen t (path ++ n ∷ []) counts'
+    opens h here others d =
+        let s = slots-append d path n in let k = h d in
         ⊎_elim
-        (λ (q : d ≡ c). let one : one_if (is_slot_of t d n) ≡ 1 = rw (slot-is c n e d, eq-eqb d c q) refl in
-        let w : get_or (set counts c (get_or counts c 0 + 1)) d 0 ≡ get_or counts d 0 + 1 = rw q (get_or-set_same counts c (get_or counts c 0 + 1) 0 (subst (λ (x : ℕ). x < length counts) q inside)) in
+        (λ (q : d ≡ c). let one : one_if (is_slot_of t d n) ≡ 1 = rw (slot-is c n is d, eq-eqb d c q) refl in
+        let w : count_of counts' d ≡ count_of counts d + 1 = rw q here in
         omega (arith, one, s, k, w))
-        (λ (ne : d ≢ c). let z : one_if (is_slot_of t d n) ≡ 0 = rw (slot-is c n e d, ne_eqb d c ne) refl in
-        let w : get_or (set counts c (get_or counts c 0 + 1)) d 0 ≡ get_or counts d 0 = get_or-set_other counts c d (get_or counts c 0 + 1) 0 ne in
+        (λ (ne : d ≢ c). let z : one_if (is_slot_of t d n) ≡ 0 = rw (slot-is c n is d, ne_eqb d c ne) refl in
+        let w = others d ne in
         omega (arith, z, s, k, w))
-        (cases_eq d c);
-  }
+        (cases_eq d c)
 
-  -- a slot is left
-  pub closes : (path path' counts : List ℕ) (s : ℕ) (k : Option ℕ) → compartment_of t s ≡ k → path ≡ path' ++ s ∷ [] → AreOpen t path counts → AreOpen t path' (lowered counts k)
-  closes path path' counts s None e is h = record {
-    room = h.room;
-    counted = λ d lt. let z : one_if (is_slot_of t d s) ≡ 0 = rw (slot-none s e d) refl in let a = slots-append d path' s in let w = h.counted d lt ∙ ap (slots_on t d) is in omega (arith, z, a, w);
-  }
-  closes path path' counts s (Some c) e is h = record {
-    room = rw length-set h.room;
-    counted = λ d lt. let inside : d < length counts = subst (λ (k : ℕ). d < k) (length-set counts c (get_or counts c 0 - 1)) lt in
-        let a = slots-append d path' s in let k = h.counted d inside ∙ ap (slots_on t d) is in
+    -- a slot is left
+    pub closes : AreOpen t (path ++ n ∷ []) counts → count_of counts' c ≡ count_of counts c - 1 → ((d : ℕ) → d ≢ c → count_of counts' d ≡ count_of counts d) → AreOpen t path counts'
+    closes h here others d =
+        let s = slots-append d path n in let k = h d in
         ⊎_elim
-        (λ (q : d ≡ c). let one : one_if (is_slot_of t d s) ≡ 1 = rw (slot-is c s e d, eq-eqb d c q) refl in
-        let w : get_or (set counts c (get_or counts c 0 - 1)) d 0 ≡ get_or counts d 0 - 1 = rw q (get_or-set_same counts c (get_or counts c 0 - 1) 0 (subst (λ (x : ℕ). x < length counts) q inside)) in
-        omega (arith, one, a, k, w))
-        (λ (ne : d ≢ c). let z : one_if (is_slot_of t d s) ≡ 0 = rw (slot-is c s e d, ne_eqb d c ne) refl in
-        let w : get_or (set counts c (get_or counts c 0 - 1)) d 0 ≡ get_or counts d 0 = get_or-set_other counts c d (get_or counts c 0 - 1) 0 ne in
-        omega (arith, z, a, k, w))
-        (cases_eq d c);
-  }
+        (λ (q : d ≡ c). let one : one_if (is_slot_of t d n) ≡ 1 = rw (slot-is c n is d, eq-eqb d c q) refl in
+        let w : count_of counts' d ≡ count_of counts d - 1 = rw q here in
+        omega (arith, one, s, k, w))
+        (λ (ne : d ≢ c). let z : one_if (is_slot_of t d n) ≡ 0 = rw (slot-is c n is d, ne_eqb d c ne) refl in
+        let w = others d ne in
+        omega (arith, z, s, k, w))
+        (cases_eq d c)
 
-  pub opened : (path path' counts : List ℕ) (s : ℕ) (k : Option ℕ) → compartment_of t s ≡ k → path ≡ path' ++ s ∷ [] → AreOpen t path counts → IfSome k (λ c. 0 < get_or counts c 0)
-  opened path path' counts s None e is h = tt
-  opened path path' counts s (Some c) e is h =
-      let a = slots-append c path' s in let k = h.counted c (h.room s c e) ∙ ap (slots_on t c) is in
-      let one : one_if (is_slot_of t c s) ≡ 1 = rw (slot-is c s e c, eq-eqb c c refl) refl in
-      omega (arith, one, a, k)
+    pub opened : AreOpen t (path ++ n ∷ []) counts → 0 < count_of counts c
+    opened h =
+        let s = slots-append c path n in let k = h c in
+        let one : one_if (is_slot_of t c n) ≡ 1 = rw (slot-is c n is c, eq-eqb c c refl) refl in
+        omega (arith, one, s, k)
 
-  pub small : (path counts : List ℕ) (n : ℕ) (k : Option ℕ) → compartment_of t n ≡ k → length path < 2 ^ 63 → AreOpen t path counts → IfSome k (λ c. get_or counts c 0 + 1 < 2 ^ 64)
-  small path counts n None e fits h = tt
-  small path counts n (Some c) e fits h = let w = slots-within c path in let k = h.counted c (h.room n c e) in omega (arith, w, k, fits)
+  -- a node that is no slot is left
+  pub closes-none : (path : List ℕ) (counts : List (ℕ × ℕ)) (n : ℕ) → compartment_of t n ≡ None → AreOpen t (path ++ n ∷ []) counts → AreOpen t path counts
+  closes-none path counts n is h d = let z : one_if (is_slot_of t d n) ≡ 0 = rw (slot-none n is d) refl in let s = slots-append d path n in let k = h d in omega (arith, z, s, k)
+
+  pub small : (path : List ℕ) (counts : List (ℕ × ℕ)) (c : ℕ) → length path < 2 ^ 63 → AreOpen t path counts → count_of counts c + 1 < 2 ^ 64
+  small path counts c fits h = let w = slots-within c path in let k = h c in omega (arith, w, k, fits)
 
   -- a slot is met first of its compartment
-  pub meets : (met : List ℕ) (firsts : List (Option ℕ)) (n c : ℕ) → compartment_of t n ≡ Some c → first_met t c met ≡ None → AreFirsts t met firsts → AreFirsts t (met ++ n ∷ []) (set firsts c (Some n))
-  meets met firsts n c e none h = record {
-    room = rw length-set h.room;
-    first = λ d lt. let inside : d < length firsts = subst (λ (k : ℕ). d < k) (length-set firsts c (Some n)) lt in
-        ⊎_elim
-        (λ (q : d ≡ c). let here : is_slot_of t c n ≡ true = slot-is c n e c ∙ eq-eqb c c refl in
-        rw q (get_or-set_same firsts c (Some n) None (subst (λ (x : ℕ). x < length firsts) q inside) ∙ sym (find-append (is_slot_of t c) met (n ∷ []) ∙ rw (none, here) refl)))
-        (λ (ne : d ≢ c). let off : is_slot_of t d n ≡ false = slot-is c n e d ∙ ne_eqb d c ne in
-        get_or-set_other firsts c d (Some n) None ne ∙ h.first d inside ∙ sym (find-append (is_slot_of t d) met (n ∷ []) ∙ rw off (or-none (first_met t d met))))
-        (cases_eq d c);
-  }
+  pub meets : (met : List ℕ) (firsts firsts' : List (ℕ × ℕ)) (n c : ℕ) → compartment_of t n ≡ Some c → first_met t c met ≡ None → AreFirsts t met firsts
+      → kept_for firsts' c ≡ Some n → ((d : ℕ) → d ≢ c → kept_for firsts' d ≡ kept_for firsts d) → AreFirsts t (met ++ n ∷ []) firsts'
+  meets met firsts firsts' n c is none h here others d =
+      ⊎_elim
+      (λ (q : d ≡ c). let slot : is_slot_of t c n ≡ true = slot-is c n is c ∙ eq-eqb c c refl in
+      rw q (here ∙ sym (find-append (is_slot_of t c) met (n ∷ []) ∙ rw (none, slot) refl)))
+      (λ (ne : d ≢ c). let off : is_slot_of t d n ≡ false = slot-is c n is d ∙ ne_eqb d c ne in
+      others d ne ∙ h d ∙ sym (find-append (is_slot_of t d) met (n ∷ []) ∙ rw off (or-none (first_met t d met))))
+      (cases_eq d c)

@@ -1,7 +1,7 @@
-use Rattle.std.specs.Prelude.{◌≡◌, ℕ, List, [], ◌∷◌, ◌++◌, Bool, cond, eqb, nat_lt, ◌&&◌, ◌||◌, flat_map}
+use Rattle.std.specs.Prelude.{ℕ, List, [], ◌∷◌, ◌++◌, Bool, cond, eqb, nat_lt, ◌&&◌, ◌||◌, flat_map}
 use Rattle.std.specs.List.{list_any}
 use Rattle.ext_tree.specs.declared.visit.Visit.{Visit}
-use Rattle.ext_tree.specs.Flat.{level, has_level, at_level, flat}
+use Rattle.ext_tree.specs.Flat.{level, levels, has_level, at_level}
 
 -- higher: the leaf of a visit has that node, at a precedence above a level
 abbrev pub is_higher : ℕ → ℕ → Visit → Bool
@@ -26,8 +26,8 @@ chosen vs = chosen_from vs [] vs
 
 -- by precedence: sorted stably, from the highest precedence to the lowest and each of them in order
 abbrev pub by_precedence : List Visit → List ℕ
-by_precedence vs = flat_map (λ (i : ℕ). at_level i vs) (0 ∷ 1 ∷ 2 ∷ 3 ∷ 4 ∷ [])
+by_precedence vs = flat_map (λ (i : ℕ). at_level i vs) levels
 
--- the law: the flat order has of each leaf its first occurrence of highest precedence, sorted stably by precedence
-abbrev pub FlatIsSorted : Type 0
-FlatIsSorted = (vs : List Visit) → flat vs ≡ by_precedence (chosen vs)
+-- sorted order: of each leaf its first occurrence of highest precedence, sorted stably by precedence
+abbrev pub sorted_order : List Visit → List ℕ
+sorted_order vs = by_precedence (chosen vs)

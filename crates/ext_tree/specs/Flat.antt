@@ -1,12 +1,10 @@
-use Rattle.std.specs.Prelude.{ℕ, List, [], ◌∷◌, ◌++◌, Bool, true, false, cond, eqb, map, filter, fold, flat_map, Option, Some, None, slice_get}
+use Rattle.std.specs.Prelude.{ℕ, List, [], ◌∷◌, ◌++◌, Bool, cond, eqb, map, filter, fold, flat_map, slice_get}
 use Rattle.std.specs.List.{list_any}
 use Rattle.ext_tree.specs.declared.precedence.Precedence.{Precedence}
 use Rattle.ext_tree.specs.declared.precedence.Precedence.TheVariants as precedence
-use Rattle.ext_tree.specs.declared.node.Node.{Node}
-use Rattle.ext_tree.specs.declared.node.Node.TheVariants.{Group, Prec, Slot, Input, Field, Init}
 use Rattle.ext_tree.specs.declared.visit.Visit.{Visit}
-use Rattle.ext_tree.specs.Tree.{Tree}
-use Rattle.ext_tree.specs.Unfolding.{Occurrence}
+use Rattle.ext_tree.specs.Tree.{Tree, is_leaf_in}
+use Rattle.ext_tree.specs.Unfolding.{Occurrence, unfolding_of}
 
 -- level: the place of a precedence among all, highest first (Reference Manual, Prec)
 abbrev pub level : Precedence → ℕ
@@ -16,15 +14,9 @@ level precedence.Default = 2
 level precedence.Low = 3
 level precedence.Lowest = 4
 
--- leaf: an input, a field or the init of one
-abbrev pub is_leaf_in : Option Node → Bool
-is_leaf_in None = false
-is_leaf_in (Some (Group nodes)) = false
-is_leaf_in (Some (Prec p node)) = false
-is_leaf_in (Some (Slot compartment content)) = false
-is_leaf_in (Some (Input facet)) = true
-is_leaf_in (Some (Field field)) = true
-is_leaf_in (Some (Init field)) = true
+-- levels: those of all precedences, highest first
+abbrev pub levels : List ℕ
+levels = 0 ∷ 1 ∷ 2 ∷ 3 ∷ 4 ∷ []
 
 -- leaf: whether a node of a tree is one
 abbrev pub is_leaf : Tree → ℕ → Bool
@@ -62,7 +54,10 @@ take_in taken n = cond (list_any (eqb n) taken) taken (taken ++ n ∷ [])
 abbrev pub take_level : List Visit → List ℕ → ℕ → List ℕ
 take_level vs taken i = fold take_in taken (at_level i vs)
 
--- flat order: the leaves from the highest precedence to the lowest, each at its first place (System Guide,
--- Configuration)
+-- flat: the leaves from the highest precedence to the lowest, each at its first place
 abbrev pub flat : List Visit → List ℕ
-flat vs = fold (take_level vs) [] (0 ∷ 1 ∷ 2 ∷ 3 ∷ 4 ∷ [])
+flat vs = fold (take_level vs) [] levels
+
+-- flat order of some roots: their leaves, flat (System Guide, Configuration)
+abbrev pub flat_order : Tree → List ℕ → List ℕ
+flat_order t roots = flat (leaves t (unfolding_of t roots))

@@ -1,13 +1,15 @@
 pub mod Chosen
 pub mod Flat
-pub mod Laws
 pub mod Links
 pub mod Marks
 pub mod Memo
 pub mod Refusal
+pub mod Shared
 pub mod Tree
 pub mod Unfolding
+pub mod Unknown
 pub mod Walking
 pub mod Walks
 pub use Rattle.compartments.specs.Contents
-pub use Rattle.compartments.specs.Least
+pub use Rattle.id_lists.specs.Least
+pub use Rattle.id_lists.specs.Members

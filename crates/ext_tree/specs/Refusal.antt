@@ -1,9 +1,9 @@
 use Rattle.std.specs.Prelude.{ℕ, List, [], ◌∷◌, ◌++◌, cond, eqb, find, length, Option, Some, None, is_some}
 use Rattle.std.specs.Option.{option_or, option_map}
 use Rattle.compartments.specs.Contents.{content_nodes}
-use Rattle.compartments.specs.Least.{least_from}
 use Rattle.ext_tree.specs.declared.ext_error.ExtError.{ExtError}
 use Rattle.ext_tree.specs.declared.ext_error.ExtError.TheVariants as error
+use Rattle.ext_tree.specs.Unknown.{least_unknown}
 use Rattle.ext_tree.specs.Tree.{Tree}
 use Rattle.ext_tree.specs.Unfolding.{Occurrence, compartment_of, is_slot_of, stands_on, unfolding_of}
 
@@ -77,7 +77,7 @@ ids_of t roots = roots ++ content_nodes t.contents
 
 -- unknown of a call: the least of the ids that are no node of the arena
 abbrev pub unknown : ℕ → List ℕ → Option Refusal
-unknown count ids = option_map Unknown (least_from count ids)
+unknown count ids = option_map Unknown (least_unknown count ids)
 
 -- first refusal: an unknown id, else that of the walk
 abbrev pub first_refusal : Tree → List ℕ → Option Refusal

@@ -1,4 +1,4 @@
-use Rattle.std.specs.Prelude.{◌≡◌, ◌<◌, ℕ, List, [], ◌∷◌, ◌++◌, Option, Some, None, length, get_or, slice_get}
+use Rattle.std.specs.Prelude.{◌≡◌, ◌<◌, ℕ, List, [], ◌∷◌, ◌++◌, Bool, true, false, Option, Some, length, get_or, slice_get}
 use Rattle.std.specs.List.{AllByRecursion}
 use Rattle.compartments.specs.Contents.{content_of}
 use Rattle.ext_tree.specs.Links.{LinkLists}
@@ -19,26 +19,27 @@ tree_of nodes contents links = record { nodes = nodes; contents = contents; link
 abbrev pub listed : List (List ℕ) → ℕ → List ℕ
 listed lists i = get_or lists i []
 
+-- leaf: an input, a field or the init of one
+abbrev pub is_leaf_in : Option Node → Bool
+is_leaf_in (Some (Input facet)) = true
+is_leaf_in (Some (Field field)) = true
+is_leaf_in (Some (Init field)) = true
+is_leaf_in _ = false
+
 -- linked: what links say that a leaf is followed by, an input by what its facet enables (Reference Manual,
 -- Facet.define, enables), a field by what it provides (StateField.define, provide)
 abbrev pub linked : LinkLists → Option Node → List ℕ
-linked links None = []
-linked links (Some (Group nodes)) = []
-linked links (Some (Prec p node)) = []
-linked links (Some (Slot compartment content)) = []
 linked links (Some (Input facet)) = listed links.enabled facet
 linked links (Some (Field field)) = listed links.provided field
 linked links (Some (Init field)) = listed links.provided field
+linked links _ = []
 
 -- named: what a node itself names, a group its members, a wrapper its node, a slot its own content
 abbrev pub named : Option Node → List ℕ
-named None = []
 named (Some (Group nodes)) = nodes
 named (Some (Prec p node)) = node ∷ []
 named (Some (Slot compartment content)) = content ∷ []
-named (Some (Input facet)) = []
-named (Some (Field field)) = []
-named (Some (Init field)) = []
+named _ = []
 
 -- older: made before
 abbrev pub IsOlder : ℕ → ℕ → Type 0

@@ -5,8 +5,8 @@ use Rattle.compartments.specs.Contents.{content_of}
 use Rattle.ext_tree.specs.declared.precedence.Precedence.{Precedence}
 use Rattle.ext_tree.specs.declared.precedence.Precedence.TheVariants as precedence
 use Rattle.ext_tree.specs.declared.node.Node.{Node}
-use Rattle.ext_tree.specs.declared.node.Node.TheVariants.{Group, Prec, Slot, Input, Field, Init}
-use Rattle.ext_tree.specs.Tree.{Tree, listed}
+use Rattle.ext_tree.specs.declared.node.Node.TheVariants.{Prec, Slot, Input}
+use Rattle.ext_tree.specs.Tree.{Tree, is_leaf_in, linked, named}
 
 -- occurrence: a node as the walk meets it, with the slot nodes above it, outermost first, and its precedence
 pub record Occurrence : Type 0 where
@@ -16,13 +16,8 @@ pub record Occurrence : Type 0 where
 
 -- compartment of a slot (Reference Manual, Compartment.of)
 abbrev pub compartment_in : Option Node → Option ℕ
-compartment_in None = None
-compartment_in (Some (Group nodes)) = None
-compartment_in (Some (Prec p node)) = None
 compartment_in (Some (Slot compartment content)) = Some compartment
-compartment_in (Some (Input facet)) = None
-compartment_in (Some (Field field)) = None
-compartment_in (Some (Init field)) = None
+compartment_in _ = None
 
 -- compartment of a node of a tree, none where it is no slot
 abbrev pub compartment_of : Tree → ℕ → Option ℕ
@@ -41,16 +36,11 @@ stands_on t path (Some c) = list_any (is_slot_of t c) path
 abbrev pub is_blocked : Tree → ℕ → List ℕ → Bool
 is_blocked t n path = stands_on t path (compartment_of t n)
 
--- following: the nodes that a node is followed by, a group by its members, a wrapper by its node, a slot by the set
--- content of its compartment or else by its own, an input by what its facet enables, a field by what it provides
+-- following: the nodes that a node is followed by, a slot by the set content of its compartment or else by its own, a
+-- leaf by what is linked, another by what it names
 abbrev pub following_in : Tree → Option Node → List ℕ
-following_in t None = []
-following_in t (Some (Group nodes)) = nodes
-following_in t (Some (Prec p node)) = node ∷ []
 following_in t (Some (Slot compartment content)) = unwrap_or (content_of t.contents compartment) content ∷ []
-following_in t (Some (Input facet)) = listed t.links.enabled facet
-following_in t (Some (Field field)) = listed t.links.provided field
-following_in t (Some (Init field)) = listed t.links.provided field
+following_in t node = cond (is_leaf_in node) (linked t.links node) (named node)
 
 -- following: the nodes that a node of a tree is followed by
 abbrev pub following : Tree → ℕ → List ℕ
@@ -59,13 +49,9 @@ following t n = following_in t (slice_get t.nodes n)
 -- precedence below: that of what a node is followed by, a wrapper's own (Reference Manual, Prec), default below an
 -- input, else that of the node
 abbrev pub precedence_in : Precedence → Option Node → Precedence
-precedence_in p None = p
-precedence_in p (Some (Group nodes)) = p
 precedence_in p (Some (Prec q node)) = q
-precedence_in p (Some (Slot compartment content)) = p
 precedence_in p (Some (Input facet)) = precedence.Default
-precedence_in p (Some (Field field)) = p
-precedence_in p (Some (Init field)) = p
+precedence_in p _ = p
 
 -- precedence below a node of a tree
 abbrev pub precedence_below : Tree → ℕ → Precedence → Precedence

@@ -1,18 +1,16 @@
-use Rattle.std.specs.Prelude.{◌≡◌, ◌<◌, ℕ, zero, suc, ◌+◌, ◌*◌, ◌-◌, ◌⊎◌, List, [], ◌∷◌, ◌++◌, Bool, true, cond, Some, is_some, length, map, take, ⊤}
+use Rattle.std.specs.Prelude.{◌≡◌, ◌<◌, ℕ, zero, suc, ◌+◌, ◌*◌, ◌-◌, List, [], ◌∷◌, ◌++◌, Bool, true, cond, Some, is_some, length, map, take, ⊤}
 use Rattle.std.specs.List.{AllByRecursion}
+use Rattle.id_lists.specs.Members.{In}
 use Rattle.ext_tree.specs.declared.precedence.Precedence.{Precedence}
 use Rattle.ext_tree.specs.declared.visit.Visit.{Visit}
 use Rattle.ext_tree.specs.Tree.{Tree}
 use Rattle.ext_tree.specs.declared.task.Task.{Task}
 use Rattle.ext_tree.specs.declared.task.Task.TheVariants.{Enter, Leave}
 use Rattle.ext_tree.specs.Unfolding.{Occurrence, compartment_of, following, precedence_below, unfold_at}
+use Rattle.ext_tree.specs.declared.shared_list.SharedList.{SharedList}
+use Rattle.ext_tree.specs.Shared.{list_after}
 use Rattle.ext_tree.specs.Refusal.{refusal, refusal_after, first_met, met_after, slots_met}
 use Rattle.ext_tree.specs.Flat.{is_leaf, leaves, flat}
-
--- x is one of the elements
-abbrev pub In : {X : Type 0} → X → List X → Type 0
-In x [] = ⊥
-In x (y ∷ ys) = (x ≡ y) ⊎ In x ys
 
 -- visit of a node at a precedence
 abbrev pub visit : ℕ → Precedence → Visit
@@ -78,11 +76,12 @@ ahead t path (Enter v ∷ ts) = unfold_at t (occurrence v path) ++ ahead t path 
 ahead t path (Leave v ∷ ts) = ahead t (path_after t v.node path) ts
 
 -- a walk that is under way: what it has met, and what is before, give what the whole unfolding gives
-pub record IsUnderWay (t : Tree) (os : List Occurrence) (tasks : List Task) (path met : List ℕ) (vs : List Visit) (memo : Visit → Bool) : Type 0 where
+pub record IsUnderWay (t : Tree) (os : List Occurrence) (tasks : List Task) (path met : List ℕ) (vs : List Visit) (memo : Visit → Bool) (lists : SharedList → Bool) : Type 0 where
   pub done : List Visit
   pub closed : IsClosed t done
   pub counted : AllByRecursion (IsCounted t met vs) done
   pub walked : (v : Visit) → memo v ≡ true → In v done
+  pub lists_walked : (v : Visit) (x : SharedList) → list_after t v ≡ Some x → lists x ≡ true → AreBelowDone t done v
   pub can_go_on : CanGoOn t met vs done path tasks
   pub refusal_same : refusal_after t met (ahead t path tasks) ≡ refusal t os
   pub met_same : met_after t met (ahead t path tasks) ≡ slots_met t os
@@ -102,6 +101,6 @@ to_do t path ts = 2 * length (ahead t path ts) + to_leave ts
 abbrev pub enter_below : Tree → Visit → ℕ → Task
 enter_below t v m = Enter (visit_below t v m)
 
--- entered: the tasks after a node was entered
-abbrev pub entered : Tree → Visit → List Task → List Task
-entered t v ts = map (enter_below t v) (following t v.node) ++ Leave v ∷ ts
+-- entered: the tasks after a node was entered, with these nodes to walk
+abbrev pub entered : Tree → Visit → List ℕ → List Task → List Task
+entered t v ms ts = map (enter_below t v) ms ++ Leave v ∷ ts

@@ -7,6 +7,7 @@ use Rattle.ext_tree.specs.declared.walk.Walk.{Walk}
 use Rattle.ext_tree.specs.Unfolding.{Occurrence}
 use Rattle.ext_tree.specs.Refusal.{Refusal, refusal}
 use Rattle.ext_tree.specs.Memo.{is_walked}
+use Rattle.ext_tree.specs.Shared.{is_list_walked}
 use Rattle.ext_tree.specs.Marks.{AreOpen, AreFirsts}
 use Rattle.ext_tree.specs.Walking.{visit, IsUnderWay, to_do}
 
@@ -16,7 +17,7 @@ enter_at p n = Enter (visit n p)
 
 -- a walk is under way, with these tasks before it
 abbrev pub IsWalk : Tree → List Occurrence → List Task → Walk → Type 0
-IsWalk t os tasks w = IsUnderWay t os tasks w.slots.path.items w.met.nodes.items w.leaves.items (is_walked w.memo.walked.items)
+IsWalk t os tasks w = IsUnderWay t os tasks w.slots.path.items w.met.nodes.items w.leaves.items (is_walked w.memo.walked.items) (is_list_walked w.lists.facets.walked.items w.lists.fields.walked.items)
 
 -- to do: the measure of a walk
 abbrev pub walk_to_do : Tree → List Task → Walk → ℕ
@@ -37,5 +38,5 @@ IsRefused t tasks w r = (os : List Occurrence) → IsWalk t os tasks w → refus
 
 -- marked: the marks of a walk say what its lists have
 pub record IsMarked (t : Tree) (w : Walk) : Type 0 where
-  pub slots : AreOpen t w.slots.path.items w.slots.counts.items
-  pub met : AreFirsts t w.met.nodes.items w.met.firsts.items
+  pub slots : AreOpen t w.slots.path.items w.slots.counts.entries
+  pub met : AreFirsts t w.met.nodes.items w.met.firsts.entries

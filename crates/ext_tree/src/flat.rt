@@ -2,9 +2,10 @@
 ghost use Rattle.std.specs.Prelude.{◌≡◌, IfOk, OnOk, IfErr, IfSome, Some, None};
 ghost use Rattle.std.specs.List.{AllByRecursion};
 ghost use Rattle.ext_tree.specs.Tree.{AreLinksOlder, tree_of};
-ghost use Rattle.ext_tree.specs.Unfolding.{unfolding_of};
+ghost use Rattle.ext_tree.specs.Unfolding.{unfolding_of, UnfoldsOnce};
 ghost use Rattle.ext_tree.specs.Refusal.{first_refusal, refusal_of, slots_met};
-ghost use Rattle.ext_tree.specs.Flat.{leaves, flat};
+ghost use Rattle.ext_tree.specs.Flat.{leaves, flat, flat_order};
+ghost use Rattle.ext_tree.specs.Chosen.{sorted_order};
 ghost use Rattle.ext_tree.specs.Marks.{IsWithin};
 
 use crate::arena::Arena;
@@ -14,7 +15,7 @@ use crate::links::Links;
 use crate::node::ExtId;
 use crate::taken::Taken;
 use crate::tree::Tree;
-use crate::unknown::least_unknown;
+use crate::unknown::least_unknown_of_call;
 use crate::visit::Visit;
 use crate::walk::walk_from;
 use compartments::Contents;
@@ -51,8 +52,9 @@ fn sorted(alloc: Global, leaves: &[Visit]) -> Result<Vec<ExtId>, AllocError>
     Ok(taken.nodes)
 }
 
-/// The flat order of the extensions that some roots lead to, and the slots that were met. What each leaf is followed
-/// by must be older than the leaf. Refused, in this order: as `UnknownExt` with the least of the roots and set contents
+/// The flat order of the extensions that some roots lead to, and the slots that were met: of each leaf its first
+/// occurrence of highest precedence, sorted stably by precedence. What each leaf is followed by must be older than the
+/// leaf (`are_links_older` tests it). Refused, in this order: as `UnknownExt` with the least of the roots and set contents
 /// that is no node; as `CompartmentLoop` or `DuplicateCompartment`, whichever the walk meets first.
 pub fn flatten(
     alloc: Global,
@@ -63,13 +65,13 @@ pub fn flatten(
 ) -> Result<Flat, ExtError>
     requires { AreLinksOlder arena.now links.now }
     ensures passes { OnOk result (first_refusal (tree_of arena.now contents.now links.now) roots.now ≡ None) }
-    ensures order { IfOk result (λ found. found.order.items ≡ flat (leaves (tree_of arena.now contents.now links.now) (unfolding_of (tree_of arena.now contents.now links.now) roots.now))) }
+    ensures order { IfOk result (λ found. found.order.items ≡ flat_order (tree_of arena.now contents.now links.now) roots.now) }
+    ensures sorted { IfOk result (λ found. found.order.items ≡ sorted_order (leaves (tree_of arena.now contents.now links.now) (unfolding_of (tree_of arena.now contents.now links.now) roots.now))) }
+    ensures unfolds { OnOk result (UnfoldsOnce (tree_of arena.now contents.now links.now)) }
     ensures slots { IfOk result (λ found. found.slots.items ≡ slots_met (tree_of arena.now contents.now links.now) (unfolding_of (tree_of arena.now contents.now links.now) roots.now)) }
     ensures refuses { IfErr result (λ error. IfSome (refusal_of error) (λ r. first_refusal (tree_of arena.now contents.now links.now) roots.now ≡ Some r)) }
 {
-    let count = arena.len();
-    let least = least_unknown(count, roots);
-    if let Some(id) = contents.least_from(count, least) {
+    if let Some(id) = least_unknown_of_call(arena.len(), roots, contents) {
         return Err(ExtError::UnknownExt { id });
     }
     let tree = Tree {

@@ -2,8 +2,8 @@
 //!
 //! A layer above may rely on this: an arena only grows, a node keeps its id and names older nodes alone. `flatten`
 //! answers the flat order of the plain unfolding, and the first slot node of each compartment that was met; or it is
-//! refused with the first of the causes that the definition names. It walks a node at most once for each precedence,
-//! which is not proved.
+//! refused with the first of the causes that the definition names. It walks a node at most once for each precedence, and
+//! what a facet enables or a field provides no more often, which is not proved.
 #![tactic(auto)]
 
 mod arena;
@@ -11,28 +11,25 @@ mod ext_error;
 mod ext_ids;
 mod flat;
 mod found;
-mod laws;
 mod links;
 mod memo;
 mod met_slots;
 mod node;
 mod open_slots;
 mod precedence;
+mod shared_list;
 mod taken;
 mod task;
 mod tree;
 mod unknown;
 mod visit;
 mod walk;
+mod walked_lists;
 
 pub use arena::Arena;
 pub use ext_error::ExtError;
 pub use ext_ids::ExtIds;
 pub use flat::{Flat, flatten};
-pub use laws::tree_laws;
-pub use links::Links;
+pub use links::{Links, are_links_older};
 pub use node::{ExtId, Node};
 pub use precedence::Precedence;
-
-#[cfg(test)]
-mod tests;

@@ -1,10 +1,15 @@
 // What leaves are followed by.
-ghost use Rattle.std.specs.Prelude.{◌≡◌, ◌<◌, ◌++◌, ◌∷◌, [], length, set, OnOk, OnErr};
-ghost use Rattle.ext_tree.specs.Tree.{listed};
+ghost use Rattle.std.specs.Prelude.{◌≡◌, ◌<◌, ◌++◌, ◌∷◌, [], length, set, Some, IfOk, OnOk, OnErr, true, false};
+ghost use Rattle.std.specs.List.{AllByRecursion};
+ghost use Rattle.ext_tree.specs.Tree.{listed, linked, IsOlder, AreLinksOlder};
+ghost use Rattle.ext_tree.specs.Shared.{is_list_walked};
+ghost use Rattle.ext_tree.specs.declared.shared_list.SharedList.{SharedList};
 ghost use Rattle.ext_tree.specs.Links.{LinkLists};
 
+use crate::arena::Arena;
 use crate::ext_ids::ExtIds;
-use crate::node::ExtId;
+use crate::node::{ExtId, Node};
+use crate::walked_lists::WalkedLists;
 use std::alloc::{AllocError, Global};
 use std::marker::Model;
 
@@ -61,6 +66,13 @@ impl Links {
         self.provided[field as usize] = nodes;
     }
 
+    /// No marks on these lists, for a walk.
+    pub(crate) fn unwalked(&self, alloc: Global) -> Result<WalkedLists, AllocError>
+        ensures { IfOk result (λ lists. (x : SharedList) → is_list_walked lists.facets.walked.items lists.fields.walked.items x ≡ false) }
+    {
+        WalkedLists::new(alloc, self.enabled.len(), self.provided.len())
+    }
+
     /// The nodes that a facet enables, none where it wasn't added. Takes no memory.
     pub fn enabled(&self, facet: u32) -> &[ExtId]
         ensures { result.now ≡ listed self.now.enabled facet }
@@ -80,4 +92,43 @@ impl Links {
             None => &[],
         }
     }
+}
+
+/// Whether all of some nodes are older than a node.
+fn are_older(nodes: &[ExtId], node: usize) -> bool
+    ensures older { result ≡ true → AllByRecursion (IsOlder node) nodes.now }
+    ensures all { AllByRecursion (IsOlder node) nodes.now → result ≡ true }
+{
+    for other in nodes {
+        if *other as usize >= node {
+            return false;
+        }
+    }
+    true
+}
+
+/// Whether what a node at a place is followed by, if it is a leaf, is older.
+fn is_leaf_older(links: &Links, node: &Node, place: usize) -> bool
+    ensures older { result ≡ true → AllByRecursion (IsOlder place) (linked links.now (Some node.now)) }
+    ensures all { AllByRecursion (IsOlder place) (linked links.now (Some node.now)) → result ≡ true }
+{
+    match node {
+        Node::Input(facet) => are_older(links.enabled(*facet), place),
+        Node::Field(field) | Node::Init(field) => are_older(links.provided(*field), place),
+        _ => true,
+    }
+}
+
+/// Whether what each leaf of an arena is followed by is older than the leaf, as `flatten` needs it. Takes no memory.
+pub fn are_links_older(arena: &Arena, links: &Links) -> bool
+    ensures older { result ≡ true → AreLinksOlder arena.now links.now }
+    ensures all { AreLinksOlder arena.now links.now → result ≡ true }
+{
+    let nodes = arena.nodes();
+    for (place, node) in nodes.iter().enumerate() {
+        if !is_leaf_older(links, node, place) {
+            return false;
+        }
+    }
+    true
 }

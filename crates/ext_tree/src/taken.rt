@@ -22,13 +22,9 @@ impl Taken {
         ensures marks { IfOk result (λ taken. AreTaken taken.nodes.items taken.marks.items) }
         ensures room { IfOk result (λ taken. length taken.marks.items ≡ nodes) }
     {
-        let mut marks = Vec::new(alloc);
-        for _node in 0..nodes {
-            marks.push(false)?;
-        }
         Ok(Taken {
             nodes: Vec::new(alloc),
-            marks,
+            marks: vec![in alloc; false; nodes]?,
         })
     }
 

@@ -1,14 +1,14 @@
 // An arena with the set contents and the links of one configuration.
 ghost use Rattle.std.specs.Prelude.{◌≡◌, ◌<◌, MatchOption, Some, length, drop, true, false};
-ghost use Rattle.compartments.specs.Contents.{content_of};
 ghost use Rattle.ext_tree.specs.Unfolding.{compartment_of, is_slot_of, precedence_below, stands_on};
 ghost use Rattle.ext_tree.specs.Refusal.{from_slot};
 ghost use Rattle.ext_tree.specs.Flat.{is_leaf};
-ghost use Rattle.ext_tree.specs.Marks.{HasRoom};
+ghost use Rattle.ext_tree.specs.Shared.{list_after};
 
 use crate::links::Links;
 use crate::node::{ExtId, Node};
 use crate::precedence::Precedence;
+use crate::shared_list::SharedList;
 use crate::visit::Visit;
 use compartments::Contents;
 use std::marker::Model;
@@ -71,17 +71,17 @@ impl<'a> Tree<'a> {
         }
     }
 
-    /// A number above the compartment of each slot.
-    pub fn compartments(&self) -> usize
-        ensures { HasRoom self.now result }
+    /// The shared list that a visited node is followed by, if it is a leaf.
+    pub fn list_after(&self, visit: Visit) -> Option<SharedList>
+        ensures { result ≡ list_after self.now visit }
     {
-        let mut room = 0;
-        for node in self.nodes {
-            if let Node::Slot { compartment, .. } = node {
-                room = room.max(*compartment as usize + 1);
+        match self.nodes.get(visit.node as usize) {
+            Some(Node::Input(facet)) => Some(SharedList::Enabled(*facet)),
+            Some(Node::Field(field)) | Some(Node::Init(field)) => {
+                Some(SharedList::Provided(*field, visit.precedence))
             }
+            _ => None,
         }
-        room
     }
 
     /// Where the compartment's slot stands on a path.

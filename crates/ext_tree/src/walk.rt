@@ -8,6 +8,7 @@ ghost use Rattle.ext_tree.specs.Walking.{enter_below};
 ghost use Rattle.ext_tree.specs.Walks.{enter_at, IsWalk, IsMarked, walk_to_do, Continues, IsRefused};
 ghost use Rattle.ext_tree.specs.Flat.{leaf, leaves, flat};
 ghost use Rattle.ext_tree.specs.Marks.{AreOpen, AreFirsts};
+ghost use Rattle.ext_tree.specs.Shared.{is_list_walked, to_walk};
 ghost use Rattle.ext_tree.specs.declared.task.Task.TheVariants.{Enter, Leave};
 
 use crate::ext_error::ExtError;
@@ -21,6 +22,7 @@ use crate::precedence::Precedence;
 use crate::task::Task;
 use crate::tree::Tree;
 use crate::visit::Visit;
+use crate::walked_lists::WalkedLists;
 use std::alloc::{AllocError, Global};
 
 /// A walk that is under way.
@@ -31,6 +33,7 @@ pub struct Walk {
     pub met: MetSlots,
     pub leaves: Vec<Visit>,
     pub memo: Memo,
+    pub lists: WalkedLists,
 }
 
 /// Puts nodes to be entered, so that the first is the next.
@@ -75,6 +78,22 @@ fn push_following(tree: &Tree, visit: Visit, tasks: &mut Vec<Task>) -> Result<()
     }
 }
 
+/// Puts what a visited node is followed by, to be entered, unless that is a shared list that was walked.
+fn push_unwalked(
+    tree: &Tree,
+    lists: &WalkedLists,
+    visit: Visit,
+    tasks: &mut Vec<Task>,
+) -> Result<(), AllocError>
+    ensures { OnOk result (tasks.new.items ≡ tasks.old.items ++ reverse (map (enter_below tree.now visit) (to_walk (is_list_walked lists.now.facets.walked.items lists.now.fields.walked.items) tree.now visit))) }
+{
+    if lists.is_walked_after(tree, visit) {
+        push_all(&[], tree.precedence_below(visit), tasks)
+    } else {
+        push_following(tree, visit, tasks)
+    }
+}
+
 /// The ids of a path with one more at its end.
 fn with_last(alloc: Global, nodes: &[ExtId], last: ExtId) -> Result<Vec<ExtId>, AllocError>
     ensures { IfOk result (λ all. all.items ≡ nodes.now ++ last ∷ []) }
@@ -93,12 +112,12 @@ fn check_loop(
     compartment: u32,
     node: ExtId,
 ) -> Result<(), ExtError>
-    requires open { AreOpen tree.now slots.now.path.items slots.now.counts.items }
-    requires room { compartment < length slots.now.counts.items }
+    requires open { AreOpen tree.now slots.now.path.items slots.now.counts.entries }
+    requires slot { compartment_of tree.now node ≡ Some compartment }
     ensures passes { OnOk result (stands_on tree.now slots.now.path.items (Some compartment) ≡ false) }
     ensures refuses { IfErr result (λ error. IfSome (refusal_of error) (λ r. (stands_on tree.now slots.now.path.items (Some compartment) ≡ true) × (r ≡ Loop (from_slot tree.now compartment slots.now.path.items ++ node ∷ [])))) }
 {
-    if !slots.holds(tree, compartment) {
+    if !slots.holds(tree, node) {
         return Ok(());
     }
     match tree.place_on(&slots.path, compartment) {
@@ -120,8 +139,8 @@ fn check_slot(
     met: &MetSlots,
     node: ExtId,
 ) -> Result<(), ExtError>
-    requires open { AreOpen tree.now slots.now.path.items slots.now.counts.items }
-    requires firsts { AreFirsts tree.now met.now.nodes.items met.now.firsts.items }
+    requires open { AreOpen tree.now slots.now.path.items slots.now.counts.entries }
+    requires firsts { AreFirsts tree.now met.now.nodes.items met.now.firsts.entries }
     ensures passes { OnOk result (refused_as tree.now met.now.nodes.items node slots.now.path.items (compartment_of tree.now node) ≡ None) }
     ensures refuses { IfErr result (λ error. IfSome (refusal_of error) (λ r. refused_as tree.now met.now.nodes.items node slots.now.path.items (compartment_of tree.now node) ≡ Some r)) }
 {
@@ -129,7 +148,7 @@ fn check_slot(
         return Ok(());
     };
     check_loop(alloc, tree, slots, compartment, node)?;
-    match met.first(tree, compartment) {
+    match met.first(compartment) {
         Some(first) if first != node => Err(ExtError::DuplicateCompartment {
             compartment,
             first,
@@ -156,15 +175,15 @@ impl Walk {
         ensures walk { IfOk result (λ walk. IsWalk tree.now (unfolding_of tree.now roots.now) (reverse walk.tasks.items) walk) }
         ensures marked { IfOk result (λ walk. IsMarked tree.now walk) }
     {
-        let compartments = tree.compartments();
         let mut tasks = Vec::new(alloc);
         push_all(roots, Precedence::Default, &mut tasks)?;
         Ok(Walk {
             tasks,
-            slots: OpenSlots::new(alloc, tree, compartments)?,
-            met: MetSlots::new(alloc, tree, compartments)?,
+            slots: OpenSlots::new(alloc),
+            met: MetSlots::new(alloc),
             leaves: Vec::new(alloc),
             memo: Memo::new(alloc, tree.nodes.len())?,
+            lists: tree.links.unwalked(alloc)?,
         })
     }
 
@@ -184,7 +203,7 @@ impl Walk {
         self.slots.enter(tree, visit.node)?;
         note_leaf(tree, visit, &mut self.leaves)?;
         self.tasks.push(Task::Leave(visit))?;
-        push_following(tree, visit, &mut self.tasks)?;
+        push_unwalked(tree, &self.lists, visit, &mut self.tasks)?;
         Ok(())
     }
 
@@ -195,6 +214,7 @@ impl Walk {
         ensures marked { IsMarked tree.now self.new }
     {
         self.memo.mark(visit);
+        self.lists.mark_list(tree.list_after(visit));
         self.slots.leave(tree, visit.node);
     }
 

@@ -3,12 +3,6 @@ use Rattle.std.specs.Option.{option_or}
 use Rattle.configuration.specs.Present.{node_of_field}
 use Rattle.configuration.proofs.present.nodes_by_field.Given as goal
 
-abbrev pub invariant-loop-field : goal.invariant-loop-field
-invariant-loop-field l = record {
-  as_many : length l.found.items ≡ l._field;
-  none : (f : ℕ) → get_or l.found.items f None ≡ None;
-}
-
 abbrev pub invariant-loop-node : goal.invariant-loop-node
 invariant-loop-node l = record {
   as_many : length l.found.items ≡ l.fields;

@@ -2,12 +2,6 @@ use Rattle.std.proofs.Common.{◌≡◌, ◌<◌, ℕ, None, length, drop, get_o
 use Rattle.dep_graph.specs.Visiting.{least_waiting}
 use Rattle.dep_graph.proofs.circle.nexts_of.Given as goal
 
-abbrev pub invariant-loop-vertex : goal.invariant-loop-vertex
-invariant-loop-vertex l = record {
-  as_many : length l.nexts.items ≡ l._vertex;
-  none : (v : ℕ) → get_or l.nexts.items v None ≡ None;
-}
-
 abbrev pub invariant-loop-edge : goal.invariant-loop-edge
 invariant-loop-edge l = record {
   as_many : length l.nexts.items ≡ l.count;

@@ -1,5 +1,5 @@
 use Rattle.std.proofs.Common.{drop}
-use Rattle.dep_graph.specs.Order.{In}
+use Rattle.id_lists.specs.Members.{In}
 use Rattle.dep_graph.proofs.circle.part_from.Given as goal
 
 abbrev pub invariant-loop-place : goal.invariant-loop-place

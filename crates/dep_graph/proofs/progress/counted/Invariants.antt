@@ -2,12 +2,6 @@ use Rattle.std.proofs.Common.{◌≡◌, ◌<◌, ◌≤◌, ◌+◌, ℕ, [], l
 use Rattle.dep_graph.specs.Counting.{left}
 use Rattle.dep_graph.proofs.progress.counted.Given as goal
 
-abbrev pub invariant-loop-vertex : goal.invariant-loop-vertex
-invariant-loop-vertex l = record {
-  as_many : length l.counts.items ≡ l._vertex;
-  zero : (v : ℕ) → get_or l.counts.items v 0 ≡ 0;
-}
-
 abbrev pub invariant-loop-edge : goal.invariant-loop-edge
 invariant-loop-edge l = record {
   as_many : length l.counts.items ≡ l.count;

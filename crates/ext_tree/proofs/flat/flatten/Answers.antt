@@ -1,22 +1,24 @@
-use Rattle.std.proofs.Common.{◌≡◌, ◌∙◌, ℕ, List, Option, None, Some, IfSome, length, sym, subst, ap}
+use Rattle.std.proofs.Common.{◌≡◌, ◌∙◌, ◌++◌, ℕ, List, Option, None, Some, IfSome, length, sym, subst, ap}
 use Rattle.std.proofs.lemmas.Result.{err_from_is_err_and}
-use Rattle.compartments.specs.Least.{least_from, least_from_with}
+use Rattle.ext_tree.specs.Unknown.{least_unknown}
 use Rattle.compartments.specs.Contents.{content_nodes}
 use Rattle.ext_tree.specs.declared.node.Node.{Node}
 use Rattle.ext_tree.specs.Links.{LinkLists}
 use Rattle.ext_tree.specs.Tree.{IsArena, AreLinksOlder, tree_of}
-use Rattle.ext_tree.specs.Unfolding.{unfolding_of}
+use Rattle.ext_tree.specs.Unfolding.{unfolding_of, UnfoldsOnce}
 use Rattle.ext_tree.specs.declared.visit.Visit.{Visit}
 use Rattle.ext_tree.specs.Flat.{leaves, flat}
 use Rattle.ext_tree.specs.Refusal.{Refusal, refusal_of, refusal, first_refusal}
 use Rattle.ext_tree.proofs.Known.{IsKnownCall, known-call}
+use Rattle.ext_tree.proofs.Choosing.{flat-sorted}
+use Rattle.ext_tree.proofs.Enough.{unfold_once}
 use Rattle.ext_tree.proofs.flat.flatten.Goals as goal
 
 -- the call as the tests found it
-called : (nodes lent : List Node) (contents : List (ℕ × ℕ)) (links : LinkLists) (roots : List ℕ) (count : ℕ) (least : Option ℕ) → lent ≡ nodes → IsArena nodes → AreLinksOlder nodes links → count ≡ length nodes
-    → least ≡ least_from count roots → None ≡ least_from_with count least (content_nodes contents) → IsKnownCall (tree_of lent contents links) roots
-called nodes lent contents links roots count least same arena older is first none =
-    rw same (known-call nodes contents links roots least arena older (subst (λ (n : ℕ). least ≡ least_from n roots) is first) (sym (subst (λ (n : ℕ). None ≡ least_from_with n least (content_nodes contents)) is none)))
+called : (nodes lent : List Node) (contents : List (ℕ × ℕ)) (links : LinkLists) (roots : List ℕ) (count : ℕ) → lent ≡ nodes → IsArena nodes → AreLinksOlder nodes links → count ≡ length nodes
+    → None ≡ least_unknown count (roots ++ content_nodes contents) → IsKnownCall (tree_of lent contents links) roots
+called nodes lent contents links roots count same arena older is none =
+    rw same (known-call nodes contents links roots arena older (sym (subst (λ (n : ℕ). None ≡ least_unknown n (roots ++ content_nodes contents)) is none)))
 
 refused-first : (nodes lent : List Node) (contents : List (ℕ × ℕ)) (links : LinkLists) (roots : List ℕ) (o : Option Refusal) → lent ≡ nodes → IsKnownCall (tree_of lent contents links) roots
     → IfSome o (λ r. refusal (tree_of lent contents links) (unfolding_of (tree_of lent contents links) roots) ≡ Some r) → IfSome o (λ r. first_refusal (tree_of nodes contents links) roots ≡ Some r)
@@ -30,21 +32,33 @@ found-order nodes lent contents links roots order vs items same is lent-is found
 
 pub walk_from-requires-clause-tree : goal.walk_from-requires-clause-tree
 walk_from-requires-clause-tree c =
-    (called c.args.arena.now c.nodes.result.now c.args.contents.now c.args.links.now c.args.roots.now c.len-count.result c.least_unknown-least.result c.nodes.ensures.nodes c.nodes.ensures.older c.requires c.len-count.ensures c.least_unknown-least.ensures c.in_default.ensures).tree
+    (called c.args.arena.now c.nodes.result.now c.args.contents.now c.args.links.now c.args.roots.now c.len.result c.nodes.ensures.nodes c.nodes.ensures.older c.requires c.len.ensures c.in_default.ensures).tree
 
 pub walk_from-requires-clause-roots : goal.walk_from-requires-clause-roots
 walk_from-requires-clause-roots c =
-    (called c.args.arena.now c.nodes.result.now c.args.contents.now c.args.links.now c.args.roots.now c.len-count.result c.least_unknown-least.result c.nodes.ensures.nodes c.nodes.ensures.older c.requires c.len-count.ensures c.least_unknown-least.ensures c.in_default.ensures).roots_known
+    (called c.args.arena.now c.nodes.result.now c.args.contents.now c.args.links.now c.args.roots.now c.len.result c.nodes.ensures.nodes c.nodes.ensures.older c.requires c.len.ensures c.in_default.ensures).roots_known
 
 pub returns-in_err-leaves-clause-refuses : goal.returns-in_err-leaves-clause-refuses
 returns-in_err-leaves-clause-refuses c =
     let p = err_from_is_err_and c.from_residual.result c.from_residual.ensures.1 in
     rw (p.1, p.2)
     (refused-first c.args.arena.now c.nodes.result.now c.args.contents.now c.args.links.now c.args.roots.now (refusal_of c.in_err-leaves.field-0.0) c.nodes.ensures.nodes
-    (called c.args.arena.now c.nodes.result.now c.args.contents.now c.args.links.now c.args.roots.now c.len-count.result c.least_unknown-least.result c.nodes.ensures.nodes c.nodes.ensures.older c.requires c.len-count.ensures c.least_unknown-least.ensures c.in_default.ensures)
+    (called c.args.arena.now c.nodes.result.now c.args.contents.now c.args.links.now c.args.roots.now c.len.result c.nodes.ensures.nodes c.nodes.ensures.older c.requires c.len.ensures c.in_default.ensures)
     c.in_err-leaves.ensures.refuses)
 
 pub returns-clause-order : goal.returns-clause-order
 returns-clause-order c =
     found-order c.args.arena.now c.nodes.result.now c.args.contents.now c.args.links.now c.args.roots.now c.in_ok-order.order.items c.deref.result.now c.in_ok-leaves.field-0.leaves.items c.nodes.ensures.nodes
     c.in_ok-order.ensures c.deref.ensures.value c.in_ok-leaves.ensures.leaves
+
+pub returns-clause-sorted : goal.returns-clause-sorted
+returns-clause-sorted c =
+    found-order c.args.arena.now c.nodes.result.now c.args.contents.now c.args.links.now c.args.roots.now c.in_ok-order.order.items c.deref.result.now c.in_ok-leaves.field-0.leaves.items c.nodes.ensures.nodes
+    c.in_ok-order.ensures c.deref.ensures.value c.in_ok-leaves.ensures.leaves
+    ∙ flat-sorted (leaves (tree_of c.args.arena.now c.args.contents.now c.args.links.now) (unfolding_of (tree_of c.args.arena.now c.args.contents.now c.args.links.now) c.args.roots.now))
+
+pub returns-clause-unfolds : goal.returns-clause-unfolds
+returns-clause-unfolds c =
+    subst (λ (ns : List Node). UnfoldsOnce (tree_of ns c.args.contents.now c.args.links.now)) c.nodes.ensures.nodes
+    (unfold_once (tree_of c.nodes.result.now c.args.contents.now c.args.links.now)
+    (called c.args.arena.now c.nodes.result.now c.args.contents.now c.args.links.now c.args.roots.now c.len.result c.nodes.ensures.nodes c.nodes.ensures.older c.requires c.len.ensures c.in_default.ensures).tree)

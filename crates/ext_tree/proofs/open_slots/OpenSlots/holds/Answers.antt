@@ -1,12 +1,13 @@
-use Rattle.std.proofs.Common.{◌≡◌, ◌<◌, ◌∙◌, ap, not, eqb, ℕ, List, length, get_or, refl, sym}
-use Rattle.std.proofs.lemmas.Option.{slice_get_read, get_or_from_slice_get}
+use Rattle.std.proofs.Common.{◌≡◌, ◌∙◌, ap, not, eqb, ℕ, List, Some, sym}
+use Rattle.ext_tree.specs.Tree.{Tree}
+use Rattle.ext_tree.specs.Unfolding.{compartment_of, is_blocked}
+use Rattle.ext_tree.specs.Marks.{count_of, AreOpen}
 use Rattle.ext_tree.proofs.Marking.{slots-stand}
 use Rattle.ext_tree.proofs.open_slots.OpenSlots.holds.Goals as goal
 
-count-at : (counts : List ℕ) (c n : ℕ) → c < length counts → n ≡ get_or counts c n → n ≡ get_or counts c 0
-count-at counts c n lt e = sym (get_or_from_slice_get counts c n 0 (slice_get_read counts (length counts) c n refl lt e))
+held : (t : Tree) (path : List ℕ) (counts : List (ℕ × ℕ)) (n c count : ℕ) → compartment_of t n ≡ Some c → AreOpen t path counts → count ≡ count_of counts c → not (eqb count 0) ≡ is_blocked t n path
+held t path counts n c count is h e = rw is (ap (λ (k : ℕ). not (eqb k 0)) (e ∙ h c) ∙ slots-stand t c path)
 
-pub returns : goal.returns
-returns c =
-    ap (λ (n : ℕ). not (eqb n 0)) (count-at c.args.self.now.counts.items c.args.compartment c.index.result.now c.requires.room c.index.ensures ∙ c.requires.open.counted c.args.compartment c.requires.room)
-    ∙ slots-stand c.args.tree.now c.args.compartment c.args.self.now.path.items
+pub returns-in-Some : goal.returns-in-Some
+returns-in-Some c =
+    held c.args.tree.now c.args.self.now.path.items c.args.self.now.counts.entries c.args.node c.in-Some.compartment c.count_of.result (sym c.in-Some.ensures) c.requires c.count_of.ensures

@@ -12,5 +12,5 @@ put old new tasks none is = rw (is, none) (reverse-reverse tasks)
 pub returns-clause-walk : goal.returns-clause-walk
 returns-clause-walk c =
     let t = c.args.tree.now in
-    rw (put c.new-tasks.result.items c.push_all.new.tasks.items (map (enter_at precedence.Default) c.args.roots.now) c.new-tasks.ensures.items c.in_ok-push_all.ensures, c.in_ok-new.ensures.path, c.in_ok-new-2.ensures.nodes, c.new-3.ensures.items)
-    (starts t c.args.roots.now _ c.requires c.in_ok-new-3.ensures.none)
+    rw (put c.new-tasks.result.items c.push_all.new.tasks.items (map (enter_at precedence.Default) c.args.roots.now) c.new-tasks.ensures.items c.in_ok-push_all.ensures, c.new.ensures.path, c.new-2.ensures.nodes, c.new-3.ensures.items)
+    (starts t c.args.roots.now _ _ c.requires c.in_ok-new.ensures.none c.in_ok-unwalked.ensures)
