@@ -203,7 +203,12 @@ fn circles_of_facets(rt: HostRuntime) {
 
 #[test]
 fn order_of_facets(rt: HostRuntime) {
-    let order = [Vertex::Facet(1), Vertex::Facet(2), Vertex::Facet(3), Vertex::Facet(0)];
+    let order = [
+        Vertex::Facet(1),
+        Vertex::Facet(2),
+        Vertex::Facet(3),
+        Vertex::Facet(0),
+    ];
     assert!(rt; is_order(computing(rt.alloc(), &[0]), &order));
 }
 

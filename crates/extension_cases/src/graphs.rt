@@ -55,7 +55,12 @@ fn dependencies_come_first(rt: HostRuntime) {
     assert!(rt; is_order(ordered(rt.alloc(), 0, &[]), &[]));
     assert!(rt; is_order(ordered(rt.alloc(), 3, &[]), &[0, 1, 2]));
     assert!(rt; is_order(ordered(rt.alloc(), 3, &[(0, 1), (1, 2)]), &[2, 1, 0]));
-    assert!(rt; is_order(ordered(rt.alloc(), 3, &[(0, 2), (0, 2), (1, 2)]), &[2, 0, 1]));
+    assert!(rt;
+        is_order(
+            ordered(rt.alloc(), 3, &[(0, 2), (0, 2), (1, 2)]),
+            &[2, 0, 1]
+        )
+    );
 }
 
 #[test]

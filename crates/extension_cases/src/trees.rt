@@ -1,9 +1,7 @@
 // Worked trees. A tree is the list of its nodes, each of which names
 // earlier ones by their places.
 use compartments::Contents;
-use ext_tree::{
-    Arena, ExtError, ExtId, ExtIds, Flat, Links, Precedence, are_links_older, flatten,
-};
+use ext_tree::{Arena, ExtError, ExtId, ExtIds, Flat, Links, Precedence, are_links_older, flatten};
 use std::alloc::Global;
 use std::test::Fail;
 
