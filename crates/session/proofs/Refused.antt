@@ -19,7 +19,7 @@ use Rattle.transaction.specs.declared.effect_kinds.EffectKinds.{EffectKinds}
 use Rattle.script.specs.Reading.{Fails}
 use Rattle.script.specs.Refused.{selection_refusal, specs_refusal, line_error, unless}
 use Rattle.session.specs.Start.{created}
-use Rattle.session.specs.Update.{drafted, no_kinds, no_maps}
+use Rattle.session.specs.Update.{drafted, no_kinds, same_values}
 
 -- ranges that are refused with an error
 pub selection_fails : (given : SelectionSpec) (ranges_now : List Range) (error : SelectionError) → ranges_now ≡ given.ranges → (error ≢ ranges.NoMemory → selections.selection_refusal ranges_now given.main ≡ Some error)
@@ -40,8 +40,8 @@ selection_made given ranges_now s same made none =
     ∙ ap Ok (sym (made ∙ ap (λ rs. normal_form rs given.main) same))
 
 -- a refusal with a name is the draft's
-named : (specs : List (Spec Plain)) (len : ℕ) (error : TransactionError) → transactions.specs_refusal len max_len no_kinds None specs ≡ Some error → drafted specs len ≡ unless (specs_refusal error) (merged no_kinds no_maps len specs)
-named specs len error refused = ap (λ r. unless (option_and_then specs_refusal r) (merged no_kinds no_maps len specs)) refused
+named : (specs : List (Spec Plain)) (len : ℕ) (error : TransactionError) → transactions.specs_refusal len max_len no_kinds None specs ≡ Some error → drafted specs len ≡ unless (specs_refusal error) (merged no_kinds same_values len specs)
+named specs len error refused = ap (λ r. unless (option_and_then specs_refusal r) (merged no_kinds same_values len specs)) refused
 
 -- specs that are refused with an error, where no kind of effect is declared
 pub specs_fail : (specs specs_now : List (Spec Plain)) (kinds : EffectKinds) (len : ℕ) (error : TransactionError) → specs_now ≡ specs → kinds ≡ no_kinds
@@ -60,9 +60,9 @@ specs_fail specs specs_now kinds len error same none refused =
       at errors.NoMemory is = tt
 
 -- specs that are merged
-pub draft_made : (specs specs_now : List (Spec Plain)) (kinds : EffectKinds) (len : ℕ) (d : Draft Plain) → specs_now ≡ specs → kinds ≡ no_kinds → d ≡ merged kinds no_maps len specs_now
+pub draft_made : (specs specs_now : List (Spec Plain)) (kinds : EffectKinds) (len : ℕ) (d : Draft Plain) → specs_now ≡ specs → kinds ≡ no_kinds → d ≡ merged kinds same_values len specs_now
     → transactions.specs_refusal len max_len kinds None specs_now ≡ None → drafted specs len ≡ Ok d
 draft_made specs specs_now kinds len d same undeclared made none =
-    ap (λ r. unless (option_and_then specs_refusal r) (merged no_kinds no_maps len specs))
+    ap (λ r. unless (option_and_then specs_refusal r) (merged no_kinds same_values len specs))
     (sym (ap (λ xs. transactions.specs_refusal len max_len no_kinds None xs) same) ∙ sym (ap (λ ks. transactions.specs_refusal len max_len ks None specs_now) undeclared) ∙ none)
-    ∙ ap Ok (sym (made ∙ ap (λ ks. merged ks no_maps len specs_now) undeclared ∙ ap (λ xs. merged no_kinds no_maps len xs) same))
+    ∙ ap Ok (sym (made ∙ ap (λ ks. merged ks same_values len specs_now) undeclared ∙ ap (λ xs. merged no_kinds same_values len xs) same))

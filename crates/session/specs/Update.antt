@@ -22,13 +22,13 @@ use Rattle.session.specs.declared.outcome.Outcome.{Outcome}
 abbrev pub no_kinds : EffectKinds
 no_kinds = record { maps = []; compartments = 0 }
 
--- so no map is ever asked
-abbrev pub no_maps : ValueMap Plain
-no_maps number value changes = Some value
+-- a map that keeps each value: it is asked of no kind
+abbrev pub same_values : ValueMap Plain
+same_values number value changes = Some value
 
 -- Draft: the specs of a line, which start in a document of this length, merged in order, or their first refusal
 abbrev pub drafted : List (Spec Plain) → (len : ℕ) → Result (Draft Plain) Refusal
-drafted specs len = unless (option_and_then specs_refusal (transactions.specs_refusal len max_len no_kinds None specs)) (merged no_kinds no_maps len specs)
+drafted specs len = unless (option_and_then specs_refusal (transactions.specs_refusal len max_len no_kinds None specs)) (merged no_kinds same_values len specs)
 
 -- Updated: the state after a transaction. Its selection is the one that was given, or else the old one mapped over the
 -- changes, and is cut to its main range.
