@@ -6,7 +6,7 @@ use change_desc::Desc;
 use change_set::{Change, InsertedText};
 use cm_plain::{KeptMap, Plain};
 use kept_effects::mapped_value;
-use line_tree::Text;
+use line_tree::{Text, cut_len};
 use listed::Listed;
 use selection::Range;
 use std::alloc::{AllocError, Global};
@@ -47,6 +47,14 @@ pub(crate) fn kinds(alloc: Global) -> Result<EffectKinds, AllocError>
     })
 }
 
+/// A text of some characters, which are few.
+fn text(alloc: Global, characters: &[char]) -> Result<Text, AllocError> {
+    if cut_len(characters) > 100 {
+        return Text::empty(alloc);
+    }
+    Text::of(alloc, characters)
+}
+
 /// The change of a range.
 fn change(
     alloc: Global,
@@ -54,7 +62,7 @@ fn change(
     to: u32,
     inserted: &[char],
 ) -> Result<Listed<Change>, AllocError> {
-    let insert = Text::of(alloc, inserted)?;
+    let insert = text(alloc, inserted)?;
     let mut changes = Listed::empty(alloc);
     changes.push(Change::Span {
         from,

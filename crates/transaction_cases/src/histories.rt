@@ -104,15 +104,24 @@ fn number(effects: &[KeptEffect]) -> Option<i64> {
     }
 }
 
+/// Given changes, or none of a document of `len` characters.
+fn changes_or_none(
+    alloc: Global,
+    len: u32,
+    changes: Option<ChangeSet>,
+) -> Result<ChangeSet, AllocError> {
+    match changes {
+        Some(changes) => Ok(changes),
+        None => ChangeSet::empty(alloc, len),
+    }
+}
+
 /// What is restored, as a step.
 fn restoring(alloc: Global, len: u32, restore: Restore) -> Result<Step, AllocError> {
     let given = Some(ends(&restore.selection));
     let told = number(restore.effects.as_slice());
     let from = Some(restore.number);
-    let changes = match restore.changes {
-        Some(changes) => changes,
-        None => ChangeSet::empty(alloc, len)?,
-    };
+    let changes = changes_or_none(alloc, len, restore.changes)?;
     Ok(Step {
         changes,
         given,
