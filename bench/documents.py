@@ -6,8 +6,8 @@ Usage: bench/documents.py [EDITS]     20,000 edits where no number is given
 Each document is made by lines of at most 1 MiB, and then so many lines each replace one character at places far apart.
 The script prints the processor time of these edits (the run with them less the run without) in a document of 400 lines,
 in one of 400,000 lines of 20 characters, and in one of a single line of 8,000,000 characters, with the ratios to the
-first; and for a document of a million lines of 40 characters the memory of the run for each character. A time is the least
-of three runs.
+first; and for a document of 400,000 lines of 40 characters the greatest memory of the run, all of it, for each character. A
+time is the least of three runs.
 """
 import os
 import subprocess
@@ -65,9 +65,8 @@ def main():
     for name, unit, count in (("400,000 lines", "x" * 19 + "\n", 400_000), ("one line of 8,000,000 characters", "x" * 20, 400_000)):
         large = seconds_of_edits(unit, count, number)
         print(f"{number} edits in {name}: {large:.2f} s, {large / small:.1f} times")
-    empty = run(['{"start":{"doc":""}}\n'])[1]
-    full = run(document("x" * 40 + "\n", 1_000_000))[1]
-    print(f"a million lines of 40 characters: {(full - empty) / 41_000_000:.1f} bytes a character")
+    memory = run(document("x" * 40 + "\n", 400_000))[1]
+    print(f"400,000 lines of 40 characters: {memory / 16_400_000:.1f} bytes a character")
 
 
 main()
