@@ -2,7 +2,8 @@ use Rattle.std.proofs.Common.{◌≡◌, ◌<◌, ◌≤◌, ◌≢◌, ◌∙�
 use Rattle.std.proofs.lemmas.Bool.{cases_Bool, cases_eq, ne_eqb, eq-eqb, lt-ltb}
 use Rattle.std.specs.Option.{option_or, unwrap_or}
 use Rattle.ext_tree.specs.declared.node.Node.{Node}
-use Rattle.configuration.specs.Present.{facet_in, field_in, is_id, inputs_of, node_of_field, numbers_from, placed, noted}
+use Rattle.std.specs.List.{range_with_len}
+use Rattle.configuration.specs.Present.{facet_in, field_in, is_id, inputs_of, node_of_field, placed, noted}
 
 pub placed-length : (lists : List (List ℕ)) (k : Option ℕ) (n : ℕ) → length (placed lists k n) ≡ length lists
 placed-length lists None n = refl
@@ -61,13 +62,13 @@ module _ (nodes : List Node) (n f : ℕ) (rest : List ℕ) where
       (cases_eq f g)
 
 -- a list that has the right element at each place
-pub lists-are : {X : Type 0} (g : ℕ → X) (d : X) (n i : ℕ) (xs : List X) → length xs ≡ n → ((f : ℕ) → f < n → get_or xs f d ≡ g (i + f)) → xs ≡ map g (numbers_from i n)
+pub lists-are : {X : Type 0} (g : ℕ → X) (d : X) (n i : ℕ) (xs : List X) → length xs ≡ n → ((f : ℕ) → f < n → get_or xs f d ≡ g (i + f)) → xs ≡ map g (range_with_len i n)
 lists-are g d zero i [] len at = refl
 lists-are g d zero i (x ∷ xs) len at = absurd (omega (arith, len))
 lists-are g d (suc n) i [] len at = absurd (omega (arith, len))
 lists-are {X} g d (suc n) i (x ∷ xs) len at =
     let first : x ≡ g i = at 0 (omega arith) ∙ ap g (omega arith) in
-    let rest : xs ≡ map g (numbers_from (i + 1) n) = lists-are g d n (i + 1) xs (omega (arith, len)) (λ f lt. at (suc f) (omega (arith, lt)) ∙ ap g (omega arith)) in
+    let rest : xs ≡ map g (range_with_len (i + 1) n) = lists-are g d n (i + 1) xs (omega (arith, len)) (λ f lt. at (suc f) (omega (arith, lt)) ∙ ap g (omega arith)) in
     ap (λ (y : X). y ∷ xs) first ∙ ap (λ (ys : List X). g i ∷ ys) rest
 
 -- nothing is left of a list that was read
@@ -77,6 +78,6 @@ end-at [] (suc i) le = refl
 end-at (x ∷ xs) zero le = absurd (omega (arith, le))
 end-at (x ∷ xs) (suc i) le = end-at xs i (omega (arith, le))
 
-pub numbers-length : {X : Type 0} (g : ℕ → X) (i n : ℕ) → length (map g (numbers_from i n)) ≡ n
+pub numbers-length : {X : Type 0} (g : ℕ → X) (i n : ℕ) → length (map g (range_with_len i n)) ≡ n
 numbers-length g i zero = refl
 numbers-length g i (suc n) = let ih = numbers-length g (i + 1) n in omega (arith, ih)

@@ -12,7 +12,8 @@ use Rattle.configuration.specs.declared.node_def.NodeDef.{NodeDef}
 use Rattle.configuration.specs.declared.config_error.ConfigError.{ConfigError}
 use Rattle.configuration.specs.declared.config_error.ConfigError.TheVariants as config
 use Rattle.configuration.specs.Vertices.{AreOrdered, AreCircle}
-use Rattle.configuration.specs.Present.{numbers_from, input_lists, field_nodes, compartments_of}
+use Rattle.std.specs.List.{range_with_len}
+use Rattle.configuration.specs.Present.{input_lists, field_nodes, compartments_of}
 use Rattle.configuration.specs.Pairs.{pairs}
 use Rattle.configuration.specs.Causes.{IsOrderCause}
 use Rattle.ext_tree.specs.Flat.{flat_order}
@@ -20,7 +21,7 @@ use Rattle.configuration.specs.Resolved.{pairs_of, IsCause}
 use Rattle.configuration.proofs.Placing.{numbers-length}
 use Rattle.configuration.proofs.Pairing.{pairs-within}
 
-pub as-many : {X : Type 0} (g : ℕ → X) (lent items : List X) (n m : ℕ) → lent ≡ items → items ≡ map g (numbers_from 0 n) → n ≡ m → length lent ≡ m
+pub as-many : {X : Type 0} (g : ℕ → X) (lent items : List X) (n m : ℕ) → lent ≡ items → items ≡ map g (range_with_len 0 n) → n ≡ m → length lent ≡ m
 as-many g lent items n m same is count = ap length same ∙ ap length is ∙ numbers-length g 0 n ∙ count
 
 -- what was found over lent values is what the definition says

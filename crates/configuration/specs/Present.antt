@@ -1,4 +1,5 @@
 use Rattle.std.specs.Prelude.{ℕ, zero, suc, ◌+◌, List, [], ◌∷◌, ◌++◌, Bool, false, cond, eqb, filter, find, map, flat_map, Option, Some, None, slice_get, get_or, set, length, nat_lt}
+use Rattle.std.specs.List.{filter_map, range_with_len}
 use Rattle.std.specs.Option.{option_map, unwrap_or}
 use Rattle.ext_tree.specs.declared.node.Node.{Node}
 use Rattle.ext_tree.specs.declared.node.Node.TheVariants.{Input, Field, Init}
@@ -27,27 +28,17 @@ inputs_of nodes facet ns = filter (λ (n : ℕ). is_id facet (facet_in (slice_ge
 abbrev pub node_of_field : List Node → ℕ → List ℕ → Option ℕ
 node_of_field nodes field ns = find (λ (n : ℕ). is_id field (field_in (slice_get nodes n))) ns
 
--- numbers from: as many numbers in turn
-abbrev pub numbers_from : ℕ → ℕ → List ℕ
-numbers_from i zero = []
-numbers_from i (suc count) = i ∷ numbers_from (i + 1) count
-
 -- input lists: the inputs of each facet less than a count
 abbrev pub input_lists : List Node → ℕ → List ℕ → List (List ℕ)
-input_lists nodes facets ns = map (λ (facet : ℕ). inputs_of nodes facet ns) (numbers_from 0 facets)
+input_lists nodes facets ns = map (λ (facet : ℕ). inputs_of nodes facet ns) (range_with_len 0 facets)
 
 -- field nodes: the node of each field less than a count
 abbrev pub field_nodes : List Node → ℕ → List ℕ → List (Option ℕ)
-field_nodes nodes fields ns = map (λ (field : ℕ). node_of_field nodes field ns) (numbers_from 0 fields)
-
--- to a list: an element or none
-abbrev pub to_list : Option ℕ → List ℕ
-to_list None = []
-to_list (Some n) = n ∷ []
+field_nodes nodes fields ns = map (λ (field : ℕ). node_of_field nodes field ns) (range_with_len 0 fields)
 
 -- compartments of some slots
 abbrev pub compartments_of : List Node → List ℕ → List ℕ
-compartments_of nodes slots = flat_map (λ (n : ℕ). to_list (compartment_in (slice_get nodes n))) slots
+compartments_of nodes slots = filter_map (λ (n : ℕ). compartment_in (slice_get nodes n)) slots
 
 -- placed: an input stands at the end of its facet's list, where there is one
 abbrev pub placed : List (List ℕ) → Option ℕ → ℕ → List (List ℕ)

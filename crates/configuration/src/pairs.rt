@@ -129,7 +129,7 @@ fn push_field(
 {
     match node {
         Some(_) => push_reads(counts, counts.facets + field, reads_at(defs, field), edges),
-        None => push_reads(counts, field, &[], edges),
+        None => Ok(()),
     }
 }
 

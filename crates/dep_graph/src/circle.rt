@@ -59,8 +59,6 @@ fn next_waiting(nexts: &[Option<u32>], graph: &Graph, progress: &Progress, verte
     ensures waits { get_or progress.now.counts.items result 0 ≡ 0 → ⊥ }
     ensures next { IsNext graph.now.edges.items vertex result }
 {
-    let _ = graph.count;
-    let _ = progress.order.len();
     match noted(nexts, vertex) {
         Some(next) => next,
         None => unreachable!(),

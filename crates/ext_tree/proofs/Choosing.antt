@@ -5,8 +5,8 @@ use Rattle.std.proofs.lemmas.List.Folds.{list_any-append}
 use Rattle.std.proofs.lemmas.List.Sums.{fold-append}
 use Rattle.std.specs.List.{list_any}
 use Rattle.ext_tree.specs.declared.visit.Visit.{Visit}
-use Rattle.ext_tree.specs.Flat.{level, has_level, at_level, take_in, take_level, flat}
-use Rattle.ext_tree.specs.Chosen.{is_higher, is_same, is_passed_over, chosen_from, chosen, sorted_order}
+use Rattle.ext_tree.specs.Flat.{level, has_level, at_level, is_higher, is_same, is_passed_over, chosen_from, chosen, sorted_order}
+use Rattle.ext_tree.specs.Taking.{take_in, take_level, flat}
 use Rattle.ext_tree.proofs.Skip.{level-append}
 
 abbrev has : List ℕ → ℕ → Bool

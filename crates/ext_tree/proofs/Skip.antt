@@ -9,7 +9,8 @@ use Rattle.ext_tree.specs.declared.visit.Visit.{Visit}
 use Rattle.ext_tree.specs.Tree.{Tree}
 use Rattle.ext_tree.specs.Unfolding.{Occurrence, compartment_of, is_slot_of, stands_on}
 use Rattle.ext_tree.specs.Refusal.{first_met, refused, refused_as, meet, meet_as, refusal_after, met_after}
-use Rattle.ext_tree.specs.Flat.{visit_of, is_leaf, leaf, leaves, has_level, node_of, at_level, take_in, take_level, flat}
+use Rattle.ext_tree.specs.Flat.{visit_of, is_leaf, leaf, leaves, has_level, node_of, at_level}
+use Rattle.ext_tree.specs.Taking.{take_in, take_level, flat}
 use Rattle.id_lists.specs.Members.{In}
 use Rattle.ext_tree.specs.Walking.{Reaches, LeadsTo, IsCounted, IsClosed}
 use Rattle.ext_tree.proofs.Enough.{weaker}

@@ -17,7 +17,8 @@ use Rattle.ext_tree.specs.declared.task.Task.{Task}
 use Rattle.ext_tree.specs.declared.task.Task.TheVariants.{Enter, Leave}
 use Rattle.ext_tree.specs.Unfolding.{Occurrence, compartment_of, is_slot_of, stands_on, is_blocked, following_in, following, precedence_in, precedence_below, path_below, below, followed_by, depth_of, unfold_at, root_at, unfolding_of}
 use Rattle.ext_tree.specs.Refusal.{Refusal, first_met, refused, refused_as, duplicate, meet, meet_as, refusal, refusal_after, met_after, slots_met}
-use Rattle.ext_tree.specs.Flat.{leaf, leaves, flat}
+use Rattle.ext_tree.specs.Flat.{leaf, leaves}
+use Rattle.ext_tree.specs.Taking.{flat}
 use Rattle.id_lists.specs.Members.{In}
 use Rattle.ext_tree.specs.Walking.{visit, visit_below, IsFirst, LeadsTo, IsPath, IsCounted, AreBelowDone, path_after, CanGoOn, occurrence, ahead, IsUnderWay, to_leave, to_do, enter_below, entered}
 use Rattle.ext_tree.specs.Walks.{enter_at}

@@ -1,10 +1,10 @@
-pub mod Chosen
 pub mod Flat
 pub mod Links
 pub mod Marks
 pub mod Memo
 pub mod Refusal
 pub mod Shared
+pub mod Taking
 pub mod Tree
 pub mod Unfolding
 pub mod Unknown

@@ -10,7 +10,8 @@ use Rattle.ext_tree.specs.Unfolding.{Occurrence, compartment_of, following, prec
 use Rattle.ext_tree.specs.declared.shared_list.SharedList.{SharedList}
 use Rattle.ext_tree.specs.Shared.{list_after}
 use Rattle.ext_tree.specs.Refusal.{refusal, refusal_after, first_met, met_after, slots_met}
-use Rattle.ext_tree.specs.Flat.{is_leaf, leaves, flat}
+use Rattle.ext_tree.specs.Flat.{is_leaf, leaves}
+use Rattle.ext_tree.specs.Taking.{flat}
 
 -- visit of a node at a precedence
 abbrev pub visit : ℕ → Precedence → Visit
@@ -65,17 +66,17 @@ CanGoOn t met vs done path [] = ⊤
 CanGoOn t met vs done path (Enter v ∷ ts) = (v.node < length t.nodes) × IsPath t met path v.node × CanGoOn t met vs (v ∷ done) path ts
 CanGoOn t met vs done path (Leave v ∷ ts) = IsCounted t met vs v × AreBelowDone t done v × CanGoOn t met vs (v ∷ done) (path_after t v.node path) ts
 
--- what the walk has still to meet
+-- the occurrence of a visit on a path
 abbrev pub occurrence : Visit → List ℕ → Occurrence
 occurrence v path = record { node = v.node; path = path; precedence = v.precedence }
 
--- before: what these tasks have still to meet
+-- ahead: the occurrences that these tasks have still to meet
 abbrev pub ahead : Tree → List ℕ → List Task → List Occurrence
 ahead t path [] = []
 ahead t path (Enter v ∷ ts) = unfold_at t (occurrence v path) ++ ahead t path ts
 ahead t path (Leave v ∷ ts) = ahead t (path_after t v.node path) ts
 
--- a walk that is under way: what it has met, and what is before, give what the whole unfolding gives
+-- a walk that is under way: what it has met, and what it has still to meet, give what the whole unfolding gives
 pub record IsUnderWay (t : Tree) (os : List Occurrence) (tasks : List Task) (path met : List ℕ) (vs : List Visit) (memo : Visit → Bool) (lists : SharedList → Bool) : Type 0 where
   pub done : List Visit
   pub closed : IsClosed t done
@@ -87,7 +88,7 @@ pub record IsUnderWay (t : Tree) (os : List Occurrence) (tasks : List Task) (pat
   pub met_same : met_after t met (ahead t path tasks) ≡ slots_met t os
   pub flat_same : flat (vs ++ leaves t (ahead t path tasks)) ≡ flat (leaves t os)
 
--- one more step is less to do
+-- how many nodes these tasks have still to leave
 abbrev pub to_leave : List Task → ℕ
 to_leave [] = 0
 to_leave (Enter v ∷ ts) = to_leave ts

@@ -4,8 +4,8 @@ ghost use Rattle.std.specs.List.{AllByRecursion};
 ghost use Rattle.ext_tree.specs.Tree.{AreLinksOlder, tree_of};
 ghost use Rattle.ext_tree.specs.Unfolding.{unfolding_of, UnfoldsOnce};
 ghost use Rattle.ext_tree.specs.Refusal.{first_refusal, refusal_of, slots_met};
-ghost use Rattle.ext_tree.specs.Flat.{leaves, flat, flat_order};
-ghost use Rattle.ext_tree.specs.Chosen.{sorted_order};
+ghost use Rattle.ext_tree.specs.Flat.{flat_order};
+ghost use Rattle.ext_tree.specs.Taking.{flat};
 ghost use Rattle.ext_tree.specs.Marks.{IsWithin};
 
 use crate::arena::Arena;
@@ -13,6 +13,7 @@ use crate::ext_error::ExtError;
 use crate::found::Found;
 use crate::links::Links;
 use crate::node::ExtId;
+use crate::precedence::PRECEDENCES;
 use crate::taken::Taken;
 use crate::tree::Tree;
 use crate::unknown::least_unknown_of_call;
@@ -46,7 +47,7 @@ fn sorted(alloc: Global, leaves: &[Visit]) -> Result<Vec<ExtId>, AllocError>
     ensures { IfOk result (λ order. order.items ≡ flat leaves.now) }
 {
     let mut taken = Taken::new(alloc, above(leaves))?;
-    for level in 0..5 {
+    for level in 0..PRECEDENCES {
         taken.take_level(leaves, level)?;
     }
     Ok(taken.nodes)
@@ -66,7 +67,6 @@ pub fn flatten(
     requires { AreLinksOlder arena.now links.now }
     ensures passes { OnOk result (first_refusal (tree_of arena.now contents.now links.now) roots.now ≡ None) }
     ensures order { IfOk result (λ found. found.order.items ≡ flat_order (tree_of arena.now contents.now links.now) roots.now) }
-    ensures sorted { IfOk result (λ found. found.order.items ≡ sorted_order (leaves (tree_of arena.now contents.now links.now) (unfolding_of (tree_of arena.now contents.now links.now) roots.now))) }
     ensures unfolds { OnOk result (UnfoldsOnce (tree_of arena.now contents.now links.now)) }
     ensures slots { IfOk result (λ found. found.slots.items ≡ slots_met (tree_of arena.now contents.now links.now) (unfolding_of (tree_of arena.now contents.now links.now) roots.now)) }
     ensures refuses { IfErr result (λ error. IfSome (refusal_of error) (λ r. first_refusal (tree_of arena.now contents.now links.now) roots.now ≡ Some r)) }

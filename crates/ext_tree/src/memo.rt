@@ -1,8 +1,10 @@
 // Which nodes were walked to their end, at which precedence.
 ghost use Rattle.std.specs.Prelude.{◌≡◌, ◌⊎◌, ◌<◌, ◌*◌, length, IfOk, true, false};
 ghost use Rattle.ext_tree.specs.declared.visit.Visit.{Visit};
+ghost use Rattle.ext_tree.specs.Flat.{precedences};
 ghost use Rattle.ext_tree.specs.Memo.{place_of, is_walked};
 
+use crate::precedence::PRECEDENCES;
 use crate::visit::Visit;
 use std::alloc::{AllocError, Global};
 
@@ -15,30 +17,28 @@ pub struct Memo {
 fn place_of(visit: Visit) -> usize
     ensures { result ≡ place_of visit }
 {
-    visit.node as usize * 5 + visit.precedence.level()
+    visit.node as usize * PRECEDENCES + visit.precedence.level()
 }
 
 impl Memo {
     /// No marks, for this many nodes.
     pub fn new(alloc: Global, nodes: usize) -> Result<Self, AllocError>
         ensures none { IfOk result (λ memo. (v : Visit) → is_walked memo.walked.items v ≡ false) }
-        ensures room { IfOk result (λ memo. length memo.walked.items ≡ nodes * 5) }
+        ensures room { IfOk result (λ memo. length memo.walked.items ≡ nodes * precedences) }
     {
-        let mut walked = Vec::new(alloc);
-        for _node in 0..nodes {
-            walked.extend_from_slice(&[false; 5])?;
+        match nodes.checked_mul(PRECEDENCES) {
+            Some(marks) => Ok(Memo {
+                walked: vec![in alloc; false; marks]?,
+            }),
+            None => Err(AllocError),
         }
-        Ok(Memo { walked })
     }
 
     /// Whether a node is marked at this precedence.
     pub fn is_walked(&self, visit: Visit) -> bool
         ensures { result ≡ is_walked self.now.walked.items visit }
     {
-        match self.walked.get(place_of(visit)) {
-            Some(walked) => *walked,
-            None => false,
-        }
+        self.walked.get(place_of(visit)).copied().unwrap_or(false)
     }
 
     /// Marks a node at this precedence.

@@ -2,6 +2,9 @@
 ghost use Rattle.std.specs.Prelude.{◌≡◌};
 ghost use Rattle.ext_tree.specs.Flat.{level};
 
+/// How many precedences there are.
+pub const PRECEDENCES: usize = 5;
+
 /// How early an extension stands in the flat order, the highest first. (Reference Manual, Prec.)
 #[derive(Clone, Copy)]
 pub enum Precedence {

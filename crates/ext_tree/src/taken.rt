@@ -1,7 +1,7 @@
 // The nodes that a flat order has taken.
 ghost use Rattle.std.specs.Prelude.{◌≡◌, ◌<◌, [], length, IfOk, OnOk};
 ghost use Rattle.std.specs.List.{AllByRecursion};
-ghost use Rattle.ext_tree.specs.Flat.{take_in, take_level};
+ghost use Rattle.ext_tree.specs.Taking.{take_in, take_level};
 ghost use Rattle.ext_tree.specs.Marks.{AreTaken, IsWithin};
 
 use crate::node::ExtId;

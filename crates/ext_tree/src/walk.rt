@@ -6,7 +6,8 @@ ghost use Rattle.ext_tree.specs.Unfolding.{compartment_of, following, stands_on,
 ghost use Rattle.ext_tree.specs.Refusal.{Loop, from_slot, refused_as, refusal, slots_met, refusal_of};
 ghost use Rattle.ext_tree.specs.Walking.{enter_below};
 ghost use Rattle.ext_tree.specs.Walks.{enter_at, IsWalk, IsMarked, walk_to_do, Continues, IsRefused};
-ghost use Rattle.ext_tree.specs.Flat.{leaf, leaves, flat};
+ghost use Rattle.ext_tree.specs.Flat.{leaf, leaves};
+ghost use Rattle.ext_tree.specs.Taking.{flat};
 ghost use Rattle.ext_tree.specs.Marks.{AreOpen, AreFirsts};
 ghost use Rattle.ext_tree.specs.Shared.{is_list_walked, to_walk};
 ghost use Rattle.ext_tree.specs.declared.task.Task.TheVariants.{Enter, Leave};
@@ -88,7 +89,7 @@ fn push_unwalked(
     ensures { OnOk result (tasks.new.items ≡ tasks.old.items ++ reverse (map (enter_below tree.now visit) (to_walk (is_list_walked lists.now.facets.walked.items lists.now.fields.walked.items) tree.now visit))) }
 {
     if lists.is_walked_after(tree, visit) {
-        push_all(&[], tree.precedence_below(visit), tasks)
+        Ok(())
     } else {
         push_following(tree, visit, tasks)
     }
@@ -98,8 +99,7 @@ fn push_unwalked(
 fn with_last(alloc: Global, nodes: &[ExtId], last: ExtId) -> Result<Vec<ExtId>, AllocError>
     ensures { IfOk result (λ all. all.items ≡ nodes.now ++ last ∷ []) }
 {
-    let mut all = Vec::new(alloc);
-    all.extend_from_slice(nodes)?;
+    let mut all = nodes.to_vec(alloc)?;
     all.push(last)?;
     Ok(all)
 }

@@ -1,5 +1,5 @@
 //! Cases of set contents, extension trees, dependency graphs and configurations: worked examples, each call that takes
-//! memory once on its way to an answer, and large trees that only a fast walk finishes. The crate has no code of its own.
+//! memory once on its way to an answer, and large trees. The crate has no code of its own.
 #![tactic(auto)]
 
 #[cfg(test)]

@@ -1,4 +1,4 @@
-// Large trees, which only a walk finishes that goes over each node and each list a few times.
+// Large trees: many inputs of a facet that enables many nodes, and many nodes in one group.
 use compartments::Contents;
 use ext_tree::{Arena, ExtError, ExtId, ExtIds, Flat, Links, are_links_older, flatten};
 use std::alloc::{AllocError, Global};

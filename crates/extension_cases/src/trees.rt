@@ -107,6 +107,13 @@ fn is_order(found: Result<Flat, ExtError>, order: &[ExtId]) -> bool {
     }
 }
 
+fn are_slots(found: Result<Flat, ExtError>, slots: &[ExtId]) -> bool {
+    match found {
+        Ok(found) => &*found.slots == slots,
+        Err(_) => false,
+    }
+}
+
 fn is_loop(found: Result<Flat, ExtError>, slots: &[ExtId]) -> bool {
     match found {
         Err(ExtError::CompartmentLoop { path }) => path.ids() == slots,
@@ -154,7 +161,7 @@ fn flat_orders(rt: HostRuntime) {
     assert!(rt; is_order(plain(rt.alloc(), &nodes, 10, &[]), &[1, 0]));
 }
 
-/// The flat order of two inputs that enable the same input, and of another facet's input between them.
+/// The flat order of two inputs of one facet, which enables a field, the second input at a low precedence.
 fn enabled_once(alloc: Global) -> Result<Flat, ExtError> {
     let nodes = [
         Made::Field,
@@ -217,6 +224,7 @@ fn slots_and_set_contents(rt: HostRuntime) {
     ];
     assert!(rt; is_order(plain(rt.alloc(), &nodes, 3, &[]), &[0]));
     assert!(rt; is_order(plain(rt.alloc(), &nodes, 3, &[(0, 1)]), &[1]));
+    assert!(rt; are_slots(plain(rt.alloc(), &nodes, 3, &[(0, 1)]), &[3, 2]));
     assert!(rt; is_duplicate(plain(rt.alloc(), &nodes, 5, &[(0, 1)]), 0, 2, 4));
     assert!(rt; is_loop(plain(rt.alloc(), &nodes, 2, &[(0, 2)]), &[2, 2]));
 }
@@ -240,6 +248,28 @@ fn added(alloc: Global, node: &Made) -> Result<ExtId, ExtError> {
     let mut arena = Arena::empty(alloc);
     arena.input(0)?;
     add(&mut arena, node)
+}
+
+/// Whether a node that is added to the arena of one input gets this id.
+fn gets(added: Result<ExtId, ExtError>, id: ExtId) -> bool {
+    match added {
+        Ok(added) => added == id,
+        Err(_) => false,
+    }
+}
+
+#[test]
+fn nodes_get_the_next_id(rt: HostRuntime) {
+    for node in [
+        Made::Input,
+        Made::Group(&[0, 0]),
+        Made::Prec(Precedence::Low, 0),
+        Made::Slot(7, 0),
+        Made::Field,
+        Made::Init,
+    ] {
+        assert!(rt; gets(added(rt.alloc(), &node), 1));
+    }
 }
 
 #[test]

@@ -7,7 +7,8 @@ use Rattle.ext_tree.specs.Links.{LinkLists}
 use Rattle.ext_tree.specs.Tree.{IsArena, AreLinksOlder, tree_of}
 use Rattle.ext_tree.specs.Unfolding.{unfolding_of, UnfoldsOnce}
 use Rattle.ext_tree.specs.declared.visit.Visit.{Visit}
-use Rattle.ext_tree.specs.Flat.{leaves, flat}
+use Rattle.ext_tree.specs.Flat.{leaves}
+use Rattle.ext_tree.specs.Taking.{flat}
 use Rattle.ext_tree.specs.Refusal.{Refusal, refusal_of, refusal, first_refusal}
 use Rattle.ext_tree.proofs.Known.{IsKnownCall, known-call}
 use Rattle.ext_tree.proofs.Choosing.{flat-sorted}
@@ -48,11 +49,6 @@ returns-in_err-leaves-clause-refuses c =
 
 pub returns-clause-order : goal.returns-clause-order
 returns-clause-order c =
-    found-order c.args.arena.now c.nodes.result.now c.args.contents.now c.args.links.now c.args.roots.now c.in_ok-order.order.items c.deref.result.now c.in_ok-leaves.field-0.leaves.items c.nodes.ensures.nodes
-    c.in_ok-order.ensures c.deref.ensures.value c.in_ok-leaves.ensures.leaves
-
-pub returns-clause-sorted : goal.returns-clause-sorted
-returns-clause-sorted c =
     found-order c.args.arena.now c.nodes.result.now c.args.contents.now c.args.links.now c.args.roots.now c.in_ok-order.order.items c.deref.result.now c.in_ok-leaves.field-0.leaves.items c.nodes.ensures.nodes
     c.in_ok-order.ensures c.deref.ensures.value c.in_ok-leaves.ensures.leaves
     ∙ flat-sorted (leaves (tree_of c.args.arena.now c.args.contents.now c.args.links.now) (unfolding_of (tree_of c.args.arena.now c.args.contents.now c.args.links.now) c.args.roots.now))

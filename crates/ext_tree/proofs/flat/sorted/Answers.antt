@@ -1,6 +1,7 @@
 use Rattle.std.proofs.Common.{◌≡◌, ◌<◌, ◌+◌, ◌∙◌, ℕ, zero, suc, List, [], ◌∷◌, drop, fold, refl, arith}
 use Rattle.ext_tree.specs.declared.visit.Visit.{Visit}
-use Rattle.ext_tree.specs.Flat.{take_level, levels}
+use Rattle.ext_tree.specs.Flat.{levels}
+use Rattle.ext_tree.specs.Taking.{take_level}
 use Rattle.ext_tree.proofs.flat.sorted.Goals as goal
 
 next-level : (vs : List Visit) (taken : List ℕ) (k : ℕ) → k < 5 → fold (take_level vs) (take_level vs taken k) (drop (k + 1) levels) ≡ fold (take_level vs) taken (drop k levels)

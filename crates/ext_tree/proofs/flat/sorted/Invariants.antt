@@ -1,6 +1,7 @@
 use Rattle.std.proofs.Common.{◌≡◌, drop, fold, length}
 use Rattle.std.specs.List.{AllByRecursion}
-use Rattle.ext_tree.specs.Flat.{take_level, levels, flat}
+use Rattle.ext_tree.specs.Flat.{levels}
+use Rattle.ext_tree.specs.Taking.{take_level, flat}
 use Rattle.ext_tree.specs.Marks.{AreTaken, IsWithin}
 use Rattle.ext_tree.proofs.flat.sorted.Given as goal
 

@@ -1,5 +1,5 @@
 use Rattle.std.proofs.Common.{◌≡◌, drop, length}
-use Rattle.ext_tree.specs.Flat.{take_level}
+use Rattle.ext_tree.specs.Taking.{take_level}
 use Rattle.ext_tree.specs.Marks.{AreTaken}
 use Rattle.ext_tree.proofs.taken.Taken.take_level.Given as goal
 
