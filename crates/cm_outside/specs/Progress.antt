@@ -76,8 +76,8 @@ pub record LastRead (old new : Progress) (input : List ℕ) : Type 0 where
   pub none : 0 < before → HasNoBreak (old.rest ++ take before input)
   pub within : new.taken - old.taken ≤ before + read_room
 
--- A read is made only where no whole line is left among the bytes taken. Where one stands ready the source stays as it
--- is; and all that was taken before the last read, which takes at most `read_room` bytes, has no break.
+-- What a call shows of its reads. Where a whole line stands ready the source stays as it is; and all that the call took,
+-- but for its last `read_room` bytes at most, has no break.
 pub record ReadsLate {S : Type 0} (old new : Progress) (source source_now : S) (left : Option (List ℕ)) : Type 0 where
   pub ready : ¬ HasNoBreak old.rest → source_now ≡ source
   pub last : IfSome left (LastRead old new)

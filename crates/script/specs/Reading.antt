@@ -2,6 +2,7 @@
 -- read in the table's order, the inner ones of a field before the next outer one, and after them come the members that
 -- the table doesn't have.
 use Rattle.std.specs.Prelude.{◌≡◌, ℕ, ◌^◌, ℤ, pos, negsuc, int_le, ◌&&◌, List, [], ◌∷◌, Bool, false, ◌||◌, nat_lt, Option, Some, None, Result, Ok, Err, if◌then◌else◌, option_map, option_and_then, ⊤}
+use Rattle.std.specs.List.{list_any}
 use Rattle.std.specs.Str.{chars, bytes_eq}
 use Rattle.serde_json.specs.Data.{Data, Items, no_items, item, Members, no_members, member}
 use Rattle.serde_json.specs.Find.{get, at, as_bool, as_str, as_number, as_u64, as_i64, as_array, as_object}
@@ -102,14 +103,10 @@ no_item_at name index d = or_end name (at index d)
 unfoldable pub members_at : List ℕ → Data → Result Members Refusal
 members_at name d = or_bad name (as_object d)
 
-abbrev pub is_among : List ℕ → List (List ℕ) → Bool
-is_among name [] = false
-is_among name (known ∷ others) = bytes_eq name known || is_among name others
-
 -- each member has one of these names; else the first one that has not, in byte order, is refused
 unfoldable pub only : List (List ℕ) → Members → Result ⊤ Refusal
 only names no_members = Ok tt
-only names (member k d ms) = if is_among k names then only names ms else bad k
+only names (member k d ms) = if list_any (bytes_eq k) names then only names ms else bad k
 
 -- the items one after the other, up to the first that is refused
 unfoldable pub each : {A : Type 0} → (Data → Result A Refusal) → Items → Result (List A) Refusal

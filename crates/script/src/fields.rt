@@ -1,6 +1,8 @@
 ghost use Rattle.std.specs.Prelude.{◌≡◌, [], map};
+ghost use Rattle.std.specs.List.{list_any};
+ghost use Rattle.std.specs.Str.{bytes_eq};
 ghost use Rattle.serde_json.specs.View.{view, items_view, members_view};
-ghost use Rattle.script.specs.Reading.{Gives, bad, number_member, text_member, required, optional, text_at, number_at, side_at, items_at, item_at, no_item_at, members_at, only, is_among, defaulted, flag_at};
+ghost use Rattle.script.specs.Reading.{Gives, bad, number_member, text_member, required, optional, text_at, number_at, side_at, items_at, item_at, no_item_at, members_at, only, defaulted, flag_at};
 
 use crate::refusal::{LineError, Refusal};
 use cm_plain::Str;
@@ -114,7 +116,7 @@ pub(crate) fn only_fields(
 }
 
 pub(crate) fn is_among(name: &str, names: &[&str]) -> bool
-    ensures { result ≡ is_among name.now (map (λ n. n.now) names.now) }
+    ensures { result ≡ list_any (bytes_eq name.now) (map (λ n. n.now) names.now) }
 {
     for known in names {
         if name == *known {
