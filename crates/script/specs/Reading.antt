@@ -1,7 +1,7 @@
 -- Reading the members of a JSON value: the answer, or the refusal that names the member nearest to the fault. Fields are
 -- read in the table's order, the inner ones of a field before the next outer one, and after them come the members that
 -- the table doesn't have.
-use Rattle.std.specs.Prelude.{◌≡◌, ℕ, ◌^◌, ℤ, pos, negsuc, int_le, ◌&&◌, List, [], ◌∷◌, Bool, false, ◌||◌, nat_lt, Option, Some, None, Result, Ok, Err, if◌then◌else◌, option_map, option_and_then, ⊤}
+use Rattle.std.specs.Prelude.{◌≡◌, ℕ, ◌^◌, ℤ, pos, negsuc, int_le, ◌&&◌, List, [], ◌∷◌, Bool, false, nat_lt, Option, Some, None, Result, Ok, Err, if◌then◌else◌, option_map, option_and_then, ⊤}
 use Rattle.std.specs.List.{list_any}
 use Rattle.std.specs.Str.{chars, bytes_eq}
 use Rattle.serde_json.specs.Data.{Data, Items, no_items, item, Members, no_members, member}
