@@ -3,7 +3,7 @@ use std::alloc::{AllocError, Global};
 use std::test::Fail;
 
 /// A description of these sections, which are few and short.
-fn described(alloc: Global, sections: &[Section<u32>]) -> Result<Desc, AllocError> {
+pub(crate) fn described(alloc: Global, sections: &[Section<u32>]) -> Result<Desc, AllocError> {
     let mut desc = Desc::new(alloc);
     for section in sections {
         if desc.len() < 100
