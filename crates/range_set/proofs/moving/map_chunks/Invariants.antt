@@ -1,9 +1,9 @@
 use Rattle.std.proofs.Common.{◌≡◌, ◌+◌, ◌≤◌, drop}
+use Rattle.change_desc.specs.Meeting.{BeginAfter}
 use Rattle.range_set.specs.PrivateChunks.{IsBuilder, built, flat}
-use Rattle.range_set.specs.PrivateReplaced.{BeginAfter}
 use Rattle.range_set.proofs.Cost.{allowance}
 use Rattle.range_set.proofs.Walked.{IsWalked}
-use Rattle.range_set.proofs.moving.mapped_chunks.Given as goal
+use Rattle.range_set.proofs.moving.map_chunks.Given as goal
 
 abbrev pub invariant-loop-placed : goal.invariant-loop-placed
 invariant-loop-placed g l =

@@ -2,39 +2,39 @@ use Rattle.std.proofs.Common.{◌≡◌, ℕ, ◌+◌, ◌<◌, ◌≤◌, List,
 use Rattle.std.proofs.lemmas.List.{length-append}
 use Rattle.std.proofs.lemmas.Result.{IfOk-weaker}
 use Rattle.std.specs.Prelude.{unwrap_or}
-use Rattle.change_desc.specs.Positions.{map_pos}
+use Rattle.change_desc.specs.Meeting.{BeginAfter}
+use Rattle.change_desc.specs.Places.{place_after}
 use Rattle.change_desc.specs.Ranges.{replaced}
-use Rattle.change_desc.specs.Sections.{counted, old_size}
+use Rattle.change_desc.specs.Sections.{old_size}
 use Rattle.change_desc.specs.Walker.{Walk}
 use Rattle.change_desc.specs.declared.map_mode.MapMode.TheVariants.{Simple}
+use Rattle.change_desc.proofs.RangesMet.{replaced-begin}
 use Rattle.stable_order.specs.StableSort.{stable_sort}
 use Rattle.stable_order.proofs.StableSort.{length-stable_sort}
 use Rattle.range_set.specs.Order.{before}
 use Rattle.range_set.specs.Mapping.{map_ranges, moved}
 use Rattle.range_set.specs.PrivateChunks.{IsChunk, built, flat, shift}
-use Rattle.range_set.specs.PrivateReplaced.{BeginAfter}
 use Rattle.range_set.specs.declared.ranged.Ranged.{Ranged}
 use Rattle.range_set.proofs.Chunks.{ascend-prefix, length_shifted}
 use Rattle.range_set.proofs.Clear.{Sections, clear_place, map_pos-clear}
 use Rattle.range_set.proofs.Cost.{allowance, allowed}
 use Rattle.range_set.proofs.Each.{Within, end_within, within}
 use Rattle.range_set.proofs.RangeOrder.{rises-no_fault}
-use Rattle.range_set.proofs.Replaced.{replaced-begin}
 use Rattle.range_set.proofs.Under.{rises_ascend, under_end, under_end_order}
 use Rattle.range_set.proofs.Walked.{IsWalked, affected_same, allowance_at, at_chunk, at_end, clear_chunk, run_forward, walked_clear, walked_each, walked_init, within_prefix}
-use Rattle.range_set.proofs.moving.mapped_chunks.Goals as goal
-use Rattle.range_set.proofs.moving.mapped_chunks.Goals.{then-is_affected+in_ok-map_each, else-is_affected+in_ok-put_sorted+in_ok-share}
+use Rattle.range_set.proofs.moving.map_chunks.Goals as goal
+use Rattle.range_set.proofs.moving.map_chunks.Goals.{then-is_affected+in_ok-map_each, else-is_affected+in_ok-put_sorted+in_ok-share}
 
 pub loop-placed-init : goal.loop-placed-init
 loop-placed-init g c =
     let rules = g.T.RangeValue.rules in
     let d = c.args.changes.now in
     let ps = c.args.chunks.now in
-    let reps : c.as_slice-replaced.result.now ≡ replaced d = c.as_slice-replaced.ensures.value ∙ c.in_ok-ranges.ensures in
+    let reps = c.requires.replaced in
     record {
       builder = c.new-builder.ensures.builder;
       walked = rw (c.new-builder.ensures.ranges, c.new-run.ensures.items, c.new-walker.ensures)
-          (walked_init rules d ps c.as_slice-replaced.result.now c.requires.chunks (rises-no_fault rules (flat ps) c.requires.order) (within (old_size d) (flat ps) c.requires.inside) reps);
+          (walked_init rules d ps c.args.ranges.now c.requires.chunks (rises-no_fault rules (flat ps) c.requires.order) (within (old_size d) (flat ps) c.requires.inside) reps);
       desc = ap (λ (w : Walk). w.desc) c.new-walker.ensures;
       begin = subst (BeginAfter 0) (sym reps) (replaced-begin 0 0 d);
       cost = omega arith;
@@ -90,8 +90,8 @@ returns-in_err-map_each-clause-cost g c =
     let ranges = map (shift p.start) p.chunk.value.ranges.items in
     let kept = c.loop-placed.invariant in
     let here = at_chunk rules d (flat ps) ps i p done run reached reps c.loop-placed-test.true c.placed-item.is kept.walked in
-    let same = c.from_place-replaced.ensures.same in
-    let affected = affected_same rules d (flat ps) p rest done run reached reps c.from_place-replaced.result.now here same c.is_affected.result c.is_affected.ensures in
+    let same = c.ranges_from-replaced.ensures.same in
+    let affected = affected_same rules d (flat ps) p rest done run reached reps c.ranges_from-replaced.result.now here same c.is_affected.result c.is_affected.ensures in
     let top = allowed rules d 0 ps c.requires.chunks (rises_ascend rules (flat ps) (rises-no_fault rules (flat ps) c.requires.order)) in
     let spent = kept.cost in
     let each = c.map_each.ensures.cost in
@@ -114,8 +114,8 @@ put_sorted-requires-clause-order g c =
     let ranges = map (shift p.start) p.chunk.value.ranges.items in
     let kept = c.loop-placed.invariant in
     let here = at_chunk rules d (flat ps) ps i p done run reached reps c.loop-placed-test.true c.placed-item.is kept.walked in
-    let same = c.from_place-replaced.ensures.same in
-    let affected = affected_same rules d (flat ps) p rest done run reached reps c.from_place-replaced.result.now here same c.is_affected.result c.is_affected.ensures in
+    let same = c.ranges_from-replaced.ensures.same in
+    let affected = affected_same rules d (flat ps) p rest done run reached reps c.ranges_from-replaced.result.now here same c.is_affected.result c.is_affected.ensures in
     let clear = clear_chunk rules d (flat ps) p rest done run reached reps here (sym affected ∙ c.if-is_affected.false) in
     clear.order
 
@@ -145,8 +145,8 @@ returns-in_err-put_sorted-clause-cost g c =
     let spent = c.loop-placed.invariant.cost in
     omega (arith, top, spent)
 
-pub map_pos-requires-clause-inside : goal.map_pos-requires-clause-inside
-map_pos-requires-clause-inside g c =
+pub place_after-start-requires-clause-inside : goal.place_after-start-requires-clause-inside
+place_after-start-requires-clause-inside g c =
     let rules = g.T.RangeValue.rules in
     let d = c.args.changes.now in
     let ps = c.args.chunks.now in
@@ -160,15 +160,15 @@ map_pos-requires-clause-inside g c =
     let ranges = map (shift p.start) p.chunk.value.ranges.items in
     let kept = c.loop-placed.invariant in
     let here = at_chunk rules d (flat ps) ps i p done run reached reps c.loop-placed-test.true c.placed-item.is kept.walked in
-    let same = c.from_place-replaced.ensures.same in
-    let affected = affected_same rules d (flat ps) p rest done run reached reps c.from_place-replaced.result.now here same c.is_affected.result c.is_affected.ensures in
+    let same = c.ranges_from-replaced.ensures.same in
+    let affected = affected_same rules d (flat ps) p rest done run reached reps c.ranges_from-replaced.result.now here same c.is_affected.result c.is_affected.ensures in
     let clear = clear_chunk rules d (flat ps) p rest done run reached reps here (sym affected ∙ c.if-is_affected.false) in
     let size = ap old_size kept.desc in
     let inside = clear.inside in
     omega (arith, size, inside)
 
-pub map_pos-requires-clause-ascending : goal.map_pos-requires-clause-ascending
-map_pos-requires-clause-ascending g c =
+pub place_after-start-requires-clause-ascending : goal.place_after-start-requires-clause-ascending
+place_after-start-requires-clause-ascending g c =
     let rules = g.T.RangeValue.rules in
     let d = c.args.changes.now in
     let ps = c.args.chunks.now in
@@ -182,8 +182,8 @@ map_pos-requires-clause-ascending g c =
     let ranges = map (shift p.start) p.chunk.value.ranges.items in
     let kept = c.loop-placed.invariant in
     let here = at_chunk rules d (flat ps) ps i p done run reached reps c.loop-placed-test.true c.placed-item.is kept.walked in
-    let same = c.from_place-replaced.ensures.same in
-    let affected = affected_same rules d (flat ps) p rest done run reached reps c.from_place-replaced.result.now here same c.is_affected.result c.is_affected.ensures in
+    let same = c.ranges_from-replaced.ensures.same in
+    let affected = affected_same rules d (flat ps) p rest done run reached reps c.ranges_from-replaced.result.now here same c.is_affected.result c.is_affected.ensures in
     let clear = clear_chunk rules d (flat ps) p rest done run reached reps here (sym affected ∙ c.if-is_affected.false) in
     clear.ascend
 
@@ -202,11 +202,11 @@ share-requires-clause-chunk g c =
     let ranges = map (shift p.start) p.chunk.value.ranges.items in
     let kept = c.loop-placed.invariant in
     let here = at_chunk rules d (flat ps) ps i p done run reached reps c.loop-placed-test.true c.placed-item.is kept.walked in
-    let same = c.from_place-replaced.ensures.same in
-    let affected = affected_same rules d (flat ps) p rest done run reached reps c.from_place-replaced.result.now here same c.is_affected.result c.is_affected.ensures in
+    let same = c.ranges_from-replaced.ensures.same in
+    let affected = affected_same rules d (flat ps) p rest done run reached reps c.ranges_from-replaced.result.now here same c.is_affected.result c.is_affected.ensures in
     let clear = clear_chunk rules d (flat ps) p rest done run reached reps here (sym affected ∙ c.if-is_affected.false) in
-    let start : c.unwrap_or-start.result ≡ clear_place d p.start =
-    c.unwrap_or-start.ensures ∙ ap (λ o. unwrap_or o 0) (c.map_pos.ensures.value ∙ (ap (λ (s : Sections). map_pos counted s p.start true Simple) kept.desc ∙ map_pos-clear d p.start true Simple clear.inside clear.clear)) in
+    let start : c.place_after-start.result ≡ clear_place d p.start =
+    c.place_after-start.ensures.value ∙ (ap (λ (s : Sections). place_after s p.start true) kept.desc ∙ ap (λ o. unwrap_or o 0) (map_pos-clear d p.start true Simple clear.inside clear.clear)) in
     let chunk = here.chunks.0.0 in
     let fits = clear.fits in
     let bound = c.new_len-new_len.ensures in
@@ -268,11 +268,11 @@ loop-placed-preserved g c =
     let ranges = map (shift p.start) p.chunk.value.ranges.items in
     let kept = c.loop-placed.invariant in
     let here = at_chunk rules d (flat ps) ps i p done run reached reps c.loop-placed-test.true c.placed-item.is kept.walked in
-    let same = c.from_place-replaced.ensures.same in
-    let affected = affected_same rules d (flat ps) p rest done run reached reps c.from_place-replaced.result.now here same c.is_affected.result c.is_affected.ensures in
+    let same = c.ranges_from-replaced.ensures.same in
+    let affected = affected_same rules d (flat ps) p rest done run reached reps c.ranges_from-replaced.result.now here same c.is_affected.result c.is_affected.ensures in
     let spent = kept.cost in
     let few = here.chunks.0.0.few in
-    let begin = c.from_place-replaced.ensures.order in
+    let begin = c.ranges_from-replaced.ensures.order in
     elim c.if-is_affected.branch [
       | then-is_affected+in_ok-map_each w ↦
           let share = allowance_at rules d ps i p true c.loop-placed-test.true c.placed-item.is (sym affected ∙ w.if-is_affected.true) in
@@ -281,7 +281,7 @@ loop-placed-preserved g c =
           record {
             builder = rw w.builder-is kept.builder;
             walked = rw (w.builder-is, w.run-is, w.walker-is)
-                (walked_each rules d (flat ps) p rest done run w.map_each.new.run.items reached w.map_each.new.walker.reached reps c.from_place-replaced.result.now here same moved_all w.in_ok-map_each.ensures.walk);
+                (walked_each rules d (flat ps) p rest done run w.map_each.new.run.items reached w.map_each.new.walker.reached reps c.ranges_from-replaced.result.now here same moved_all w.in_ok-map_each.ensures.walk);
             desc = rw w.walker-is (w.in_ok-map_each.ensures.desc ∙ kept.desc);
             begin = begin;
             cost = rw w.mapped-is (omega (arith, spent, share, each, few));
@@ -289,16 +289,16 @@ loop-placed-preserved g c =
       | else-is_affected+in_ok-put_sorted+in_ok-share w ↦
           let share = allowance_at rules d ps i p false c.loop-placed-test.true c.placed-item.is (sym affected ∙ w.if-is_affected.false) in
           let clear = clear_chunk rules d (flat ps) p rest done run reached reps here (sym affected ∙ w.if-is_affected.false) in
-          let start : w.unwrap_or-start.result ≡ clear_place d p.start =
-          w.unwrap_or-start.ensures ∙ ap (λ o. unwrap_or o 0) (w.map_pos.ensures.value ∙ (ap (λ (s : Sections). map_pos counted s p.start true Simple) kept.desc ∙ map_pos-clear d p.start true Simple clear.inside clear.clear)) in
+          let start : w.place_after-start.result ≡ clear_place d p.start =
+          w.place_after-start.ensures.value ∙ (ap (λ (s : Sections). place_after s p.start true) kept.desc ∙ ap (λ o. unwrap_or o 0) (map_pos-clear d p.start true Simple clear.inside clear.clear)) in
           let more = w.in_ok-share.ensures.ranges
-          ∙ (ap (λ xs. xs ++ map (shift w.unwrap_or-start.result) p.chunk.value.ranges.items) w.in_ok-put_sorted.ensures.ranges
+          ∙ (ap (λ xs. xs ++ map (shift w.place_after-start.result) p.chunk.value.ranges.items) w.in_ok-put_sorted.ensures.ranges
           ∙ ap (λ n. done ++ stable_sort (before rules) run ++ map (shift n) p.chunk.value.ranges.items) start) in
           record {
             builder = rw w.builder-is w.in_ok-share.ensures.builder;
-            walked = rw (w.builder-is, w.run-is, w.walker-is, w.map_pos.ensures.walk, w.in_ok-put_sorted.ensures.none)
-                (walked_clear rules d (flat ps) p rest done run (built w.share.new.self) reached reps c.from_place-replaced.result.now here same clear more);
-            desc = rw (w.walker-is, w.map_pos.ensures.walk) kept.desc;
+            walked = rw (w.builder-is, w.run-is, w.walker-is, w.place_after-start.ensures.walk, w.in_ok-put_sorted.ensures.none)
+                (walked_clear rules d (flat ps) p rest done run (built w.share.new.self) reached reps c.ranges_from-replaced.result.now here same clear more);
+            desc = rw (w.walker-is, w.place_after-start.ensures.walk) kept.desc;
             begin = begin;
             cost = rw w.mapped-is (omega (arith, spent, share));
           }
