@@ -26,8 +26,7 @@ fn walks_alike(desc: &Desc, side: i32, mode: MapMode) -> bool {
             return false;
         }
     }
-    let mut again = walker.again();
-    again.map_pos(len, side, mode) == desc.map_pos(len, side, mode)
+    walker.map_pos(len, side, mode) == desc.map_pos(len, side, mode)
 }
 
 /// The same for a description of these sections.

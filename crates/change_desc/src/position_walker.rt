@@ -44,17 +44,6 @@ impl<'a> PositionWalker<'a> {
         }
     }
 
-    /// A walk of its own from the same place on.
-    pub fn again(&self) -> PositionWalker<'a>
-        ensures { result ≡ self.now }
-    {
-        PositionWalker {
-            sections: self.sections,
-            passed: self.passed,
-            reached: self.reached,
-        }
-    }
-
     /// What `Desc::map_pos` answers for a place of the old text, in characters, that isn't less than the last one asked for
     /// (Reference Manual, ChangeDesc.mapPos).
     pub fn map_pos(&mut self, pos: u32, side: i32, mode: MapMode) -> Option<u32>
