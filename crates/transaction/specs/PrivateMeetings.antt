@@ -1,4 +1,4 @@
--- What private clauses say of two sets of changes of one document.
+-- Two sets of changes of one document. Private.
 use Rattle.std.specs.Prelude.{◌≡◌, ℕ, List, true, false, None}
 use Rattle.change_desc.specs.Sections.{spelled, counted, lengths, new_size, old_size}
 use Rattle.change_desc.specs.declared.section.Section.{Section}

@@ -1,4 +1,4 @@
--- What private clauses say of a spec that was made into a draft by itself.
+-- A spec that was made into a draft by itself. Private.
 use Rattle.std.specs.Prelude.{◌≡◌, ℕ, ◌≤◌, Option, None}
 use Rattle.change_desc.specs.Sections.{spelled, new_size, old_size}
 use Rattle.change_desc.specs.Algebra.{of}

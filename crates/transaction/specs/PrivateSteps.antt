@@ -1,4 +1,4 @@
--- What private clauses say of one more spec.
+-- One more spec. Private.
 use Rattle.std.specs.Prelude.{◌≡◌, ℕ, ◌≤◌, Bool, List, fold, Option, Some, None, option_map}
 use Rattle.std.specs.Option.{option_or}
 use Rattle.change_desc.specs.Sections.{spelled, new_size}

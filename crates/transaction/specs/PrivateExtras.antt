@@ -1,4 +1,4 @@
--- What private clauses say of what a draft has beside its changes.
+-- What a draft has beside its changes. Private.
 use Rattle.std.specs.Prelude.{ℕ, ◌&&◌, List, ◌++◌, option_map}
 use Rattle.std.specs.Option.{option_or}
 use Rattle.change_desc.specs.declared.section.Section.{Section}
