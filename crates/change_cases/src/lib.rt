@@ -5,6 +5,8 @@
 #[cfg(test)]
 mod descriptions;
 #[cfg(test)]
+mod meetings;
+#[cfg(test)]
 mod sets;
 #[cfg(test)]
 mod walks;

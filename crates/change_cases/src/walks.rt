@@ -3,7 +3,7 @@ use std::alloc::{AllocError, Global};
 use std::test::Fail;
 
 /// A description of these sections, which are few and short.
-fn described(alloc: Global, sections: &[Section<u32>]) -> Result<Desc, AllocError> {
+pub(crate) fn described(alloc: Global, sections: &[Section<u32>]) -> Result<Desc, AllocError> {
     let mut desc = Desc::new(alloc);
     for section in sections {
         if desc.len() < 100
@@ -26,8 +26,7 @@ fn walks_alike(desc: &Desc, side: i32, mode: MapMode) -> bool {
             return false;
         }
     }
-    let mut again = walker.again();
-    again.map_pos(len, side, mode) == desc.map_pos(len, side, mode)
+    walker.map_pos(len, side, mode) == desc.map_pos(len, side, mode)
 }
 
 /// The same for a description of these sections.

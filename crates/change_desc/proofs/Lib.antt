@@ -16,3 +16,6 @@ pub mod MapLengths
 pub mod Measures
 pub mod Bounds
 pub mod Walks
+pub mod Swapped
+pub mod RangesMet
+pub mod Beginnings

@@ -1,6 +1,8 @@
 pub mod Sections
 pub mod Positions
+pub mod Places
 pub mod Ranges
+pub mod Meeting
 pub mod Columns
 pub mod Pieces
 pub mod Compose
@@ -15,3 +17,4 @@ pub mod Weaving
 pub mod MapSteps
 pub mod Laws
 pub mod Walker
+pub mod Index

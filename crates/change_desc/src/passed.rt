@@ -41,7 +41,7 @@ impl Passed {
     }
 
     /// These sections and the next.
-    fn beyond(self, section: &Section<u32>) -> Passed
+    pub(crate) fn beyond(self, section: &Section<u32>) -> Passed
         requires count_fits { self.count + 1 < 2 ^ 64 }
         requires old_fits { self.old + old_of section.now < 2 ^ 32 }
         requires new_fits { self.new + new_of counted section.now < 2 ^ 32 }

@@ -13,9 +13,9 @@ use std::marker::Model;
 /// description and of the places, where `Desc::map_pos` takes that of the description for each place. It takes no memory.
 #[derive(Drop)]
 pub struct PositionWalker<'a> {
-    sections: &'a [Section<u32>],
-    passed: Passed,
-    reached: u32,
+    pub(crate) sections: &'a [Section<u32>],
+    pub(crate) passed: Passed,
+    pub(crate) reached: u32,
 }
 
 impl<'a> Model for PositionWalker<'a> {
@@ -41,17 +41,6 @@ impl<'a> PositionWalker<'a> {
                 new: 0,
             },
             reached: 0,
-        }
-    }
-
-    /// A walk of its own from the same place on.
-    pub fn again(&self) -> PositionWalker<'a>
-        ensures { result ≡ self.now }
-    {
-        PositionWalker {
-            sections: self.sections,
-            passed: self.passed,
-            reached: self.reached,
         }
     }
 

@@ -29,10 +29,6 @@ pub items-data : (ds : List Datum) → items_of (data_of ds) ≡ ds
 items-data [] = refl
 items-data (d ∷ ds) = ap (λ x. d ∷ x) (items-data ds)
 
-pub data-items : (ds : Data) → data_of (items_of ds) ≡ ds
-data-items no_data = refl
-data-items (datum d ds) = ap (datum d) (data-items ds)
-
 -- A scalar and an empty list have depth 1, another list one more than its deepest item.
 abbrev mutual
   pub depth : Datum → ℕ

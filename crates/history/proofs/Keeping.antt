@@ -1,6 +1,6 @@
 -- What each step leaves of a history is one that leads from the new document.
 use Rattle.std.proofs.Common.{◌≡◌, ℕ, ◌≤◌, Bool, true, false, cond, ℤ, pos, List, [], ◌∷◌, drop, length, Option, None, refl, sym, subst, ap, ◌∙◌}
-use Rattle.std.specs.Prelude.{◌&&◌, is_some, ◌||◌}
+use Rattle.std.specs.Prelude.{◌&&◌, ◌==◌, is_some, ◌||◌}
 use Rattle.std.proofs.lemmas.Bool.{and_parts, and_from}
 use Rattle.change_desc.specs.declared.section.Section.{Section}
 use Rattle.change_desc.specs.Sections.{spelled, lengths, old_size, new_size}
@@ -17,7 +17,7 @@ use Rattle.history.specs.declared.step_input.StepInput.{StepInput}
 use Rattle.history.specs.Histories.{AreItems, IsHistory, LeadOn, empty, leads, leads_from}
 use Rattle.history.specs.Items.{begins_with_change, begins_with_select, keep_changes, keep_selects, most_selects}
 use Rattle.history.specs.Joining.{joins}
-use Rattle.history.specs.Moving.{is_nil, items_over}
+use Rattle.history.specs.Moving.{items_over}
 use Rattle.history.specs.Selecting.{is_false, makes_select, with_left}
 use Rattle.history.specs.Steps.{IsStep, case_of, cut_to, goes_over, in_case, is_from, is_idle_step, is_newest, joined_to, kept_count, start_of, step, way_back}
 use Rattle.history.proofs.Leading.{joined-leads, keep_changes-leads, keep_selects-leads, leading, led, older-leads, rest-leads, way_back-leads, with_left-leads}
@@ -151,7 +151,7 @@ module _ (i : StepInput) (s : IsStep i) (h : Lists) (k : Leads (length i.documen
       let p = goes-parts (pos 3) (begins_with_select h.undone) (redo_selection-case _ _ _ _ _ _ e) in
       record { done = start-leads p.0 h.done k.done; undone = over p.0 (drop 1 h.undone) (rest-leads (length i.document.characters) h.undone k.undone p.1) }
   case-leads Unchanged e =
-      let p : (changes_nothing i.changes ≡ true) × (is_nil i.effects ≡ true) = and_parts (changes_nothing i.changes) (is_nil i.effects) (unchanged-case _ _ _ _ _ _ e) in
+      let p : (changes_nothing i.changes ≡ true) × ((length i.effects == 0) ≡ true) = and_parts (changes_nothing i.changes) (length i.effects == 0) (unchanged-case _ _ _ _ _ _ e) in
       record { done = over p.0 (cond (makes_select i) (with_left i h.done) h.done) (left-leads (makes_select i)); undone = over p.0 h.undone k.undone }
   case-leads Unrecorded e = record { done = moved-leads h.done k.done; undone = moved-leads h.undone k.undone }
   case-leads Recorded e = record { done = recorded-leads (joins h i); undone = tt }

@@ -2,8 +2,6 @@ pub mod Calls
 pub mod Counted
 pub mod Keeping
 pub mod Leading
-pub mod Meeting
 pub mod Moved
 pub mod Returning
 pub mod Same
-pub mod Swapped

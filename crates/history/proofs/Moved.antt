@@ -1,5 +1,6 @@
 -- Items over changes that are not recorded.
-use Rattle.std.proofs.Common.{◌≡◌, ◌≢◌, ℕ, ◌+◌, ◌≤◌, ◌<◌, ◌^◌, Bool, true, false, cond, not, ◌&&◌, List, [], ◌∷◌, ◌++◌, map, refl, sym, ap, subst, ◌∙◌, append_assoc, arith}
+use Rattle.std.proofs.Common.{◌≡◌, ◌≢◌, ℕ, ◌+◌, ◌≤◌, ◌<◌, ◌^◌, Bool, true, false, cond, not, ◌&&◌, List, [], ◌∷◌, ◌++◌, length, map, refl, sym, ap, subst, ◌∙◌, append_assoc, arith}
+use Rattle.std.specs.Prelude.{◌==◌}
 use Rattle.std.proofs.lemmas.List.{append-nil}
 use Rattle.std.proofs.lemmas.Bool.{and_parts, le-ltb, lt-ltb, ltb-false}
 use Rattle.line_tree.specs.Text.{max_len}
@@ -18,14 +19,15 @@ use Rattle.selection.specs.Ranges.{moved_range}
 use Rattle.selection.specs.Selections.{LieIn, SelectionView, moved_selection}
 use Rattle.selection.proofs.Moves.{all_moved-inside}
 use Rattle.selection.proofs.Normals.{normal-inside}
-use Rattle.history.proofs.Swapped.{merged_len-swap}
+use Rattle.change_desc.proofs.Swapped.{merged_len-swap}
 use Rattle.history.specs.declared.item.ChangeItem.{ChangeItem}
 use Rattle.history.specs.declared.item.SelectItem.{SelectItem}
 use Rattle.history.specs.declared.item.Item.{Item}
 use Rattle.history.specs.declared.item.Item.TheVariants.{Change, Select}
 use Rattle.history.specs.declared.moving.Moved.{Moved}
 use Rattle.history.specs.Histories.{LeadOn}
-use Rattle.history.specs.Moving.{IsMoved, PutsNone, PutsSome, changes_over, is_idle, is_nil, is_too_long, items_over, moved_change, moved_select, newest_stays, over_after, put_kept}
+use Rattle.history.specs.Moving.{changes_over, is_idle, is_too_long, items_over, moved_change, moved_select, newest_stays, over_after, put_kept}
+use Rattle.history.specs.PrivateMoved.{IsMoved, PutsNone, PutsSome}
 
 -- where nothing is changed both documents have one length
 pub nothing-sizes : (s : List (Section (List ℕ))) → changes_nothing s ≡ true → new_size spelled s ≡ old_size s
@@ -59,7 +61,7 @@ moved-inside : (over : List (Section ℕ)) (s : SelectionView) → LieIn (new_si
 moved-inside over s = normal-inside (new_size counted over) (map (moved_range over) s.ranges) s.main (all_moved-inside over s.ranges)
 
 idle-sizes : (c : ChangeItem) → is_idle c ≡ true → new_size spelled c.changes ≡ old_size c.changes
-idle-sizes c h = nothing-sizes c.changes (and_parts (changes_nothing c.changes) (is_nil c.effects) h).0
+idle-sizes c h = nothing-sizes c.changes (and_parts (changes_nothing c.changes) (length c.effects == 0) h).0
 
 put-leads : (len : ℕ) (c : ChangeItem) (items : List Item) → old_size c.changes ≡ len → new_size spelled c.changes ≤ max_len → LieIn (new_size spelled c.changes) c.selection.ranges →
     LeadOn (new_size spelled c.changes) items → LeadOn len (put_kept c items)
@@ -171,12 +173,12 @@ module _ (over copy : List (Section ℕ)) (item newest : Item) (items others old
   alone : items_over over (newest ∷ []) ≡ items_over copy (item ∷ [])
   alone = ap (λ o. items_over o (newest ∷ [])) (sym c) ∙ ap (λ x. items_over copy (x ∷ [])) (sym e)
 
-  stays-alone : (kept : List Item) → items_over copy (item ∷ []) ≡ kept → newest_stays over items ≡ not (is_nil kept)
-  stays-alone kept k = ap (newest_stays over) i ∙ ap (λ x. not (is_nil x)) (alone ∙ k)
+  stays-alone : (kept : List Item) → items_over copy (item ∷ []) ≡ kept → newest_stays over items ≡ not (length kept == 0)
+  stays-alone kept k = ap (newest_stays over) i ∙ ap (λ x. not (length x == 0)) (alone ∙ k)
 
   pub stays-none : PutsNone copy item old new → false ≡ newest_stays over items
   stays-none p = sym (stays-alone [] (p.gives []))
 
-  pub stays-some : (after : List (Section ℕ)) (b : Bool) → PutsSome copy item old new after → b ≡ is_nil new → not b ≡ newest_stays over items
+  pub stays-some : (after : List (Section ℕ)) (b : Bool) → PutsSome copy item old new after → b ≡ (length new == 0) → not b ≡ newest_stays over items
   stays-some after b p f =
       ap not f ∙ sym (stays-alone new (ap (λ x. x ++ items_over copy (item ∷ [])) (sym n) ∙ (sym (p.gives []) ∙ append-nil new)))

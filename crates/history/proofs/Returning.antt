@@ -17,7 +17,7 @@ use Rattle.history.specs.declared.step_input.StepInput.{StepInput}
 use Rattle.history.specs.Histories.{empty, leads, leads_from}
 use Rattle.history.specs.Items.{keep_changes, keep_selects, most_selects, newest_change}
 use Rattle.history.specs.Joining.{closes_before, is_joinable, is_near, is_soon, joins}
-use Rattle.history.specs.Restoring.{Restores, StepsRestore, before_group, given_by, new_text, old_text}
+use Rattle.history.specs.Restoring.{Restores, before_group, given_by, new_text, old_text}
 use Rattle.history.specs.Steps.{IsStep, case_of, cut_to, in_case, joined_to, kept_count, start_of, step, way_back}
 use Rattle.history.proofs.Keeping.{step-led}
 use Rattle.history.proofs.Leading.{invert-new, invert-old}
@@ -98,9 +98,6 @@ module _ (i : StepInput) (s : IsStep i) where
   pub restores : (h : Lists) → Restores (start_of h i) i (step h i)
   restores h = restores-from (start_of h i) (start-leads h)
 
-pub steps-restore : StepsRestore
-steps-restore h i s = restores i s h
-
 pub next-restores : (i : StepInput) → IsStep i → (h : Lists) → (b : Bool) → b ≡ leads_from (length i.document.characters) h → (n : Lists) →
     n ≡ cut_to i.min_depth (in_case (case_of (cond b h empty) i) (cond b h empty) i) → Restores (start_of h i) i n
-next-restores i s h b e n f = subst (Restores (start_of h i) i) (sym (f ∙ sym (step-led i h b e))) (steps-restore h i s)
+next-restores i s h b e n f = subst (Restores (start_of h i) i) (sym (f ∙ sym (step-led i h b e))) (restores i s h)

@@ -81,7 +81,7 @@ deleted_by_undo = refl
 pub deleted_from_elsewhere : step (step empty first) (record deleting { from_history = Some (pos 7) }) ≡ empty
 deleted_from_elsewhere = refl
 
--- one that is recorded joins, and leaves an event without changes, which a step without changes can undo
+-- one that is recorded joins, and leaves a Change without changes, which a step without changes can undo
 pub deleted : depth (step (step empty first) deleting) ≡ (1, 0)
 deleted = refl
 

@@ -2,17 +2,8 @@
 use Rattle.std.specs.Prelude.{ℕ, zero, suc, Bool, true, false, List, [], ◌∷◌, Option, Some, None}
 use Rattle.std.specs.List.{count_by}
 use Rattle.history.specs.declared.item.ChangeItem.{ChangeItem}
-use Rattle.history.specs.declared.item.SelectItem.{SelectItem}
 use Rattle.history.specs.declared.item.Item.{Item}
 use Rattle.history.specs.declared.item.Item.TheVariants.{Change, Select}
-
-abbrev pub change_of : Item → Option ChangeItem
-change_of (Change c) = Some c
-change_of (Select s) = None
-
-abbrev pub select_of : Item → Option SelectItem
-select_of (Change c) = None
-select_of (Select s) = Some s
 
 abbrev pub is_change : Item → Bool
 is_change (Change c) = true
@@ -60,9 +51,3 @@ keep_selects room [] = []
 keep_selects room (Change c ∷ items) = Change c ∷ keep_selects most_selects items
 keep_selects zero (Select s ∷ items) = keep_selects zero items
 keep_selects (suc room) (Select s ∷ items) = Select s ∷ keep_selects room items
-
--- what a private clause says of the room that is left after an item, and whether the item stays
-abbrev pub room_after : (room : ℕ) → (is_change : Bool) → ℕ × Bool
-room_after room true = (most_selects, true)
-room_after zero false = (0, false)
-room_after (suc room) false = (room, true)

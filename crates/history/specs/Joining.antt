@@ -1,12 +1,9 @@
 -- When a change joins the newest group (manual: HistoryConfig.newGroupDelay, isolateHistory, Transaction.userEvent).
 use Rattle.std.specs.Prelude.{ℕ, Bool, true, false, not, ◌&&◌, ◌||◌, ℤ, pos, ◌-ℤ◌, int_lt, List, ◌∷◌, codes, Option, Some, None}
-use Rattle.std.specs.List.{list_any}
 use Rattle.std.specs.Option.{option_map_or}
-use Rattle.change_desc.specs.declared.changed_range.ChangedRange.{ChangedRange}
-use Rattle.change_desc.specs.declared.touch.Touch.{Touch}
-use Rattle.change_desc.specs.declared.touch.Touch.TheVariants.{No}
 use Rattle.change_desc.specs.Sections.{spelled, lengths}
-use Rattle.change_desc.specs.Ranges.{replaced, meets}
+use Rattle.change_desc.specs.Meeting.{some_meet}
+use Rattle.change_desc.specs.Ranges.{replaced}
 use Rattle.cm_plain.specs.UserEvents.{is_below}
 use Rattle.history.specs.declared.item.ChangeItem.{ChangeItem}
 use Rattle.history.specs.declared.item.Item.{Item}
@@ -49,13 +46,6 @@ abbrev pub is_soon : Group → Option ℤ → (delay : ℤ) → Bool
 is_soon (Open (Some last)) (Some now) delay = is_within last now delay
 is_soon _ _ _ = false
 
--- some range of the one list and some of the other overlap or touch
-abbrev pub any_meets : List ChangedRange → ChangedRange → Bool
-any_meets rs q = list_any (meets q.from_a q.to_a) rs
-
-abbrev pub some_meet : List ChangedRange → List ChangedRange → Bool
-some_meet qs rs = list_any (any_meets rs) qs
-
 -- the newest item, if it is a Change
 abbrev pub first_change : List Item → Option ChangeItem
 first_change (Change c ∷ items) = Some c
@@ -70,8 +60,3 @@ is_near i items =
 -- Joins: the step is soon, its user event lets it, no isolation stands before it, and it is near the newest Change.
 abbrev pub joins : Lists → StepInput → Bool
 joins h i = is_soon h.group i.time i.delay && is_joinable i.user_event && not (closes_before i.isolate) && is_near i h.done
-
--- what a private clause says of how ranges meet
-abbrev pub is_met : Touch → Bool
-is_met No = false
-is_met _ = true

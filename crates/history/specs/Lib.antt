@@ -2,6 +2,7 @@ pub use Rattle.line_tree.specs.Text
 pub use Rattle.change_desc.specs.Sections
 pub use Rattle.change_desc.specs.Algebra
 pub use Rattle.change_desc.specs.Ranges
+pub use Rattle.change_desc.specs.Meeting
 pub use Rattle.change_set.specs.Same
 pub use Rattle.selection.specs.Selections
 pub use Rattle.cm_plain.specs.UserEvents
@@ -14,4 +15,6 @@ pub mod Moving
 pub mod Steps
 pub mod Restoring
 pub mod Reading
+pub mod PrivateItems
+pub mod PrivateMoved
 pub mod Examples

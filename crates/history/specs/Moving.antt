@@ -1,8 +1,8 @@
 -- Where changes that aren't recorded move the items of a list (manual: Transaction.addToHistory).
-use Rattle.std.specs.Prelude.{◌≡◌, ℕ, Bool, true, false, cond, not, ◌&&◌, ltb, List, [], ◌∷◌, ◌++◌, Option, Some, None}
+use Rattle.std.specs.Prelude.{ℕ, Bool, true, false, cond, not, ◌&&◌, ◌==◌, ltb, List, [], ◌∷◌, length}
 use Rattle.line_tree.specs.Text.{max_len}
 use Rattle.change_desc.specs.declared.section.Section.{Section}
-use Rattle.change_desc.specs.Sections.{spelled, counted, lengths, new_size, old_size}
+use Rattle.change_desc.specs.Sections.{spelled, counted, lengths, new_size}
 use Rattle.change_desc.specs.Algebra.{map_over}
 use Rattle.change_desc.specs.Ranges.{changes_nothing}
 use Rattle.kept_effects.specs.MappedValues.{moved_effects}
@@ -11,8 +11,6 @@ use Rattle.history.specs.declared.item.ChangeItem.{ChangeItem}
 use Rattle.history.specs.declared.item.SelectItem.{SelectItem}
 use Rattle.history.specs.declared.item.Item.{Item}
 use Rattle.history.specs.declared.item.Item.TheVariants.{Change, Select}
-use Rattle.history.specs.declared.moving.Moved.{Moved}
-use Rattle.history.specs.Histories.{LeadOn}
 
 -- a Change's changes over the new document
 abbrev pub changes_over : List (Section ℕ) → ChangeItem → List (Section (List ℕ))
@@ -36,13 +34,9 @@ moved_select over s = record { selection = moved_selection over s.selection; tim
 abbrev pub is_too_long : List (Section ℕ) → ChangeItem → Bool
 is_too_long over c = ltb max_len (new_size spelled (changes_over over c))
 
-abbrev pub is_nil : {X : Type 0} → List X → Bool
-is_nil [] = true
-is_nil (x ∷ xs) = false
-
 -- no change and no effect is left
 abbrev pub is_idle : ChangeItem → Bool
-is_idle c = changes_nothing c.changes && is_nil c.effects
+is_idle c = changes_nothing c.changes && length c.effects == 0
 
 -- before others, unless nothing is left of it
 abbrev pub put_kept : ChangeItem → List Item → List Item
@@ -58,29 +52,4 @@ items_over over (Change c ∷ items) = cond (is_too_long over c) [] (put_kept (m
 -- whether the newest item stays
 abbrev pub newest_stays : List (Section ℕ) → List Item → Bool
 newest_stays over [] = false
-newest_stays over (item ∷ items) = not (is_nil (items_over over (item ∷ [])))
-
--- what private clauses say of items to which a moved one was put, where there is room for it: what stands after them goes over the
--- changes as they stand after it
-pub record PutsSome (over : List (Section ℕ)) (item : Item) (old new : List Item) (after : List (Section ℕ)) : Type 0 where
-  pub gives : (items : List Item) → new ++ items_over after items ≡ old ++ items_over over (item ∷ items)
-  pub leads : (items : List Item) → LeadOn (old_size over) (item ∷ items) → LeadOn (old_size after) items
-
--- and where it would be too long
-pub record PutsNone (over : List (Section ℕ)) (item : Item) (old new : List Item) : Type 0 where
-  pub gives : (items : List Item) → items_over over (item ∷ items) ≡ []
-  pub same : new ≡ old
-
-abbrev pub PutsMoved : List (Section ℕ) → Item → (old new : List Item) → Option (List (Section ℕ)) → Type 0
-PutsMoved over item old new None = PutsNone over item old new
-PutsMoved over item old new (Some after) = PutsSome over item old new after
-
--- what private clauses say of one moved Change: none where it would be too long
-pub record IsMoved (over : List (Section ℕ)) (c : ChangeItem) (m : Moved) : Type 0 where
-  pub fits : is_too_long over c ≡ false
-  pub item : m.item ≡ moved_change over c
-  pub after_it : m.after ≡ over_after over c
-
-abbrev pub MovesTo : List (Section ℕ) → ChangeItem → Option Moved → Type 0
-MovesTo over c None = is_too_long over c ≡ true
-MovesTo over c (Some m) = IsMoved over c m
+newest_stays over (item ∷ items) = not (length (items_over over (item ∷ [])) == 0)

@@ -8,7 +8,7 @@ use Rattle.history.specs.declared.lists.Lists.{Lists}
 use Rattle.history.specs.declared.step_input.StepInput.{StepInput}
 use Rattle.history.specs.Items.{newest_change}
 use Rattle.history.specs.Joining.{joins}
-use Rattle.history.specs.Steps.{IsStep, case_of, start_of, step}
+use Rattle.history.specs.Steps.{case_of}
 
 -- the text that the newest Change of a list, if there is one, gives on a text
 abbrev pub given_by : List Item → List ℕ → Option (List ℕ)
@@ -31,7 +31,3 @@ pub record Restores (start : Lists) (i : StepInput) (end : Lists) : Type 0 where
   pub recorded : case_of start i ≡ Recorded → pos 1 ≤ℤ i.min_depth → given_by end.done (new_text i) ≡ before_group start i
   pub undone : case_of start i ≡ Undo → given_by end.undone (new_text i) ≡ Some (old_text i)
   pub redone : case_of start i ≡ Redo → pos 1 ≤ℤ i.min_depth → given_by end.done (new_text i) ≡ Some (old_text i)
-
--- each step restores
-abbrev pub StepsRestore : Type 0
-StepsRestore = (h : Lists) (i : StepInput) → IsStep i → Restores (start_of h i) i (step h i)

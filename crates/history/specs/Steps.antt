@@ -1,5 +1,5 @@
 -- What a step of a document makes of its history (manual: history, undo, redo, undoSelection, HistoryConfig.minDepth).
-use Rattle.std.specs.Prelude.{◌≡◌, ℕ, ◌≤◌, Bool, true, false, cond, ◌&&◌, ◌||◌, ℤ, pos, negsuc, List, [], ◌∷◌, ◌++◌, drop, length, is_some, is_none, Option, Some, None}
+use Rattle.std.specs.Prelude.{◌≡◌, ℕ, ◌≤◌, Bool, true, false, cond, ◌&&◌, ◌||◌, ◌==◌, ℤ, pos, negsuc, List, [], ◌∷◌, ◌++◌, drop, length, is_some, is_none, Option, Some, None}
 use Rattle.std.specs.Option.{option_map_or}
 use Rattle.std.specs.Ordering.{int_eq}
 use Rattle.line_tree.specs.Text.{max_len}
@@ -22,7 +22,7 @@ use Rattle.history.specs.declared.step_input.StepInput.{StepInput}
 use Rattle.history.specs.Histories.{empty, leads_from}
 use Rattle.history.specs.Items.{begins_with_change, begins_with_select, keep_changes, keep_selects, most_selects, newest_change, older}
 use Rattle.history.specs.Joining.{closes_after, first_change, joins}
-use Rattle.history.specs.Moving.{is_nil, items_over, newest_stays}
+use Rattle.history.specs.Moving.{items_over, newest_stays}
 use Rattle.history.specs.Selecting.{is_false, makes_select, with_left}
 
 -- the step starts in this document and leads to a document that isn't too long, and the selection lies in the former
@@ -52,7 +52,7 @@ is_newest changes items = option_map_or (λ (c : ChangeItem). same_sections chan
 
 -- the step changes nothing, and its effects need not be undone
 abbrev pub is_idle_step : StepInput → Bool
-is_idle_step i = changes_nothing i.changes && is_nil i.effects
+is_idle_step i = changes_nothing i.changes && length i.effects == 0
 
 -- the step goes over the newest item of a list, where that is a Select
 abbrev pub goes_over : ℤ → StepInput → (is_select : Bool) → Bool

@@ -10,7 +10,7 @@ use crate::case::Case;
 use crate::group::Group;
 use crate::isolation::Isolation;
 use crate::item::{ChangeItem, Item, SelectItem};
-use crate::items::{older, rest, shared, with_first};
+use crate::items::{older, shared, with_first, without_first};
 use crate::lists::{Lists, group_if};
 use crate::moving::items_over;
 use crate::shared_item::SharedItem;
@@ -77,7 +77,7 @@ impl Lists {
     {
         let select = input.start_select()?;
         Ok(Lists {
-            done: shared(alloc, rest(self.done.as_slice()))?,
+            done: shared(alloc, without_first(self.done.as_slice()))?,
             undone: with_first(alloc, Item::Select(select), self.undone.as_slice())?,
             group: Group::Closed,
         })
@@ -90,7 +90,7 @@ impl Lists {
         let select = input.start_select()?;
         Ok(Lists {
             done: with_first(alloc, Item::Select(select), self.done.as_slice())?,
-            undone: shared(alloc, rest(self.undone.as_slice()))?,
+            undone: shared(alloc, without_first(self.undone.as_slice()))?,
             group: Group::Closed,
         })
     }
@@ -235,7 +235,7 @@ fn joined_to(
         None => with_first(alloc, Item::Change(way_back), items),
         Some(change) => {
             let joined = joined_change(alloc, &way_back, change)?;
-            with_first(alloc, Item::Change(joined), rest(items))
+            with_first(alloc, Item::Change(joined), without_first(items))
         }
     }
 }
@@ -273,7 +273,7 @@ fn with_left(
     match first_select(items) {
         Some(select) if input.select_joins(select) => {
             let joined = select_at(select, input.time)?;
-            with_first(alloc, Item::Select(joined), rest(items))
+            with_first(alloc, Item::Select(joined), without_first(items))
         }
         _ => with_first(alloc, Item::Select(input.left_select()?), items),
     }

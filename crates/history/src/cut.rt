@@ -1,5 +1,6 @@
 ghost use Rattle.std.specs.Prelude.{IfOk, ◌≡◌};
-ghost use Rattle.history.specs.Items.{keep_changes, keep_selects, most_selects, room_after};
+ghost use Rattle.history.specs.Items.{keep_changes, keep_selects, most_selects};
+ghost use Rattle.history.specs.PrivateItems.{room_after};
 ghost use Rattle.history.specs.Steps.{kept_count};
 
 use crate::shared_item::SharedItem;

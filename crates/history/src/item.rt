@@ -1,5 +1,6 @@
 ghost use Rattle.std.specs.Prelude.{IsTrue, option_copied, ◌↔◌, ◌≡◌};
-ghost use Rattle.history.specs.Items.{change_of, is_change, select_of};
+ghost use Rattle.history.specs.Items.{is_change};
+ghost use Rattle.history.specs.PrivateItems.{change_of, select_of};
 
 use change_set::ChangeSet;
 use cm_plain::{KeptEffect, Str};

@@ -43,7 +43,7 @@ pub(crate) fn with_first(
 }
 
 /// All but the first.
-pub(crate) fn rest(items: &[SharedItem]) -> &[SharedItem]
+pub(crate) fn without_first(items: &[SharedItem]) -> &[SharedItem]
     ensures { result.now ≡ drop 1 items.now }
 {
     match items.split_first() {

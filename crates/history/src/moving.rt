@@ -2,7 +2,8 @@ ghost use Rattle.std.specs.Prelude.{IfOk, OnOk, [], ◌++◌, ◌∷◌, ◌≡�
 ghost use Rattle.change_desc.specs.Sections.{new_size, old_size, spelled};
 ghost use Rattle.selection.specs.Selections.{LieIn};
 ghost use Rattle.history.specs.Histories.{LeadOn};
-ghost use Rattle.history.specs.Moving.{MovesTo, PutsMoved, is_idle, is_nil, items_over, moved_select, newest_stays, put_kept};
+ghost use Rattle.history.specs.Moving.{is_idle, items_over, moved_select, newest_stays, put_kept};
+ghost use Rattle.history.specs.PrivateMoved.{MovesTo, PutsMoved};
 
 use crate::item::{ChangeItem, Item, SelectItem};
 use crate::shared_item::SharedItem;
@@ -146,16 +147,6 @@ fn extend_moved(
     Ok(())
 }
 
-/// Whether there are none.
-fn is_nil(items: &[SharedItem]) -> bool
-    ensures { result ≡ is_nil items.now }
-{
-    match items.first() {
-        None => true,
-        Some(_) => false,
-    }
-}
-
 /// The items over changes of their start document that are not recorded.
 pub(crate) fn items_over(
     alloc: Global,
@@ -179,7 +170,7 @@ pub(crate) fn items_over(
             newest_stays: false,
         }),
         Some(after) => {
-            let newest_stays = !is_nil(&all);
+            let newest_stays = !all.as_slice().is_empty();
             extend_moved(alloc, &mut all, others, after)?;
             Ok(MovedItems {
                 items: Listed::new(all),

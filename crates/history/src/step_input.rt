@@ -1,7 +1,6 @@
 ghost use Rattle.std.specs.Prelude.{IfOk, is_some, length, option_copied, ◌≡◌, ◌||◌};
 ghost use Rattle.change_desc.specs.Sections.{old_size};
-ghost use Rattle.change_desc.specs.Ranges.{replaced};
-ghost use Rattle.history.specs.Joining.{any_meets, first_change, is_joinable, is_met, is_near, is_soon, is_within, some_meet};
+ghost use Rattle.history.specs.Joining.{first_change, is_joinable, is_near, is_soon, is_within};
 ghost use Rattle.history.specs.Selecting.{are_close, are_selecting, goes_elsewhere, is_false, left_select, makes_select, select_joins};
 ghost use Rattle.history.specs.Steps.{goes_over, is_from, is_idle_step, own_case, start_select, way_back};
 
@@ -10,7 +9,6 @@ use crate::group::Group;
 use crate::isolation::Isolation;
 use crate::item::{ChangeItem, SelectItem};
 use crate::shared_item::SharedItem;
-use change_desc::{ChangedRange, Desc, Touch};
 use change_set::ChangeSet;
 use cm_plain::{KeptEffect, Str};
 use line_tree::Text;
@@ -200,7 +198,7 @@ impl StepInput {
             Some(change) => {
                 let own = self.changes.desc()?;
                 let other = change.changes.desc()?;
-                some_meet(&own, &other)
+                own.meets(&other)
             }
         }
     }
@@ -267,42 +265,5 @@ pub(crate) fn copied_event(event: &Option<Str>) -> Result<Option<Str>, AllocErro
     match event {
         None => Ok(None),
         Some(event) => Ok(Some(event.try_copy()?)),
-    }
-}
-
-/// Whether some range that one description replaces overlaps or touches one that the other replaces.
-fn some_meet(first: &Desc, second: &Desc) -> Result<bool, AllocError>
-    ensures { IfOk result (λ meet. meet ≡ some_meet (replaced first.now) (replaced second.now)) }
-{
-    let ranges = first.ranges(true)?;
-    Ok(some_of_meet(&ranges, second))
-}
-
-/// Whether one of these ranges overlaps or touches one that is replaced.
-fn some_of_meet(ranges: &[ChangedRange], changes: &Desc) -> bool
-    ensures { result ≡ some_meet ranges.now (replaced changes.now) }
-{
-    for range in ranges {
-        if any_meets(*range, changes) {
-            return true;
-        }
-    }
-    false
-}
-
-/// Whether a range overlaps or touches one that is replaced.
-fn any_meets(range: ChangedRange, changes: &Desc) -> bool
-    ensures { result ≡ any_meets (replaced changes.now) range }
-{
-    is_met(changes.touches(range.from_a, range.to_a))
-}
-
-/// Whether there is a range that overlaps or touches.
-fn is_met(touch: Touch) -> bool
-    ensures { result ≡ is_met touch }
-{
-    match touch {
-        Touch::No => false,
-        _ => true,
     }
 }

@@ -1,9 +1,10 @@
 -- Where changes move the values of kept effects (manual: StateEffect.map, MapMode).
-use Rattle.std.specs.Prelude.{ℕ, ◌≤◌, Bool, true, false, cond, ◌&&◌, leb, ltb, ℤ, pos, negsuc, List, [], ◌∷◌, filter_map, Option, Some, None, option_map}
-use Rattle.std.specs.Option.{option_and_then, option_map_or, unwrap_or}
+use Rattle.std.specs.Prelude.{ℕ, Bool, true, false, cond, ◌&&◌, leb, ltb, ℤ, pos, negsuc, List, [], ◌∷◌, filter_map, Option, Some, None, option_map}
+use Rattle.std.specs.Option.{option_and_then, option_map_or}
 use Rattle.change_desc.specs.declared.section.Section.{Section}
-use Rattle.change_desc.specs.declared.map_mode.MapMode.TheVariants.{Simple, TrackDel}
+use Rattle.change_desc.specs.declared.map_mode.MapMode.TheVariants.{TrackDel}
 use Rattle.change_desc.specs.Sections.{counted, old_size}
+use Rattle.change_desc.specs.Places.{place_after}
 use Rattle.change_desc.specs.Positions.{map_pos}
 use Rattle.cm_plain.specs.Datum.{number}
 use Rattle.cm_plain.specs.declared.plain.Plain.{Plain}
@@ -39,14 +40,6 @@ ends_in len ends = None
 -- the ends of the range of a document of this length that a value is, if it is one
 abbrev pub ends_of : ℕ → Plain → Option (ℕ × ℕ)
 ends_of len value = option_and_then (ends_in len) (two_numbers value)
-
--- what private clauses say of such ends
-abbrev pub AreIn : ℕ → ℕ × ℕ → Type 0
-AreIn len ends = (ends.0 ≤ len) × (ends.1 ≤ len)
-
--- where changes move a position of their old document
-abbrev pub place_after : List (Section ℕ) → ℕ → (before : Bool) → ℕ
-place_after changes p before = unwrap_or (map_pos counted changes p before Simple) 0
 
 abbrev pub range_value : (from to : ℕ) → Plain
 range_value from to = plain.List (number (pos from) ∷ number (pos to) ∷ [])

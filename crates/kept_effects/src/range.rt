@@ -1,9 +1,9 @@
 ghost use Rattle.std.specs.Prelude.{IfOk, IfSome, ◌≡◌, ◌≤◌};
-ghost use Rattle.change_desc.specs.Positions.{is_negative};
 ghost use Rattle.change_desc.specs.Sections.{old_size};
-ghost use Rattle.kept_effects.specs.MappedValues.{AreIn, ends_in, ends_of, mapped_ends, place_after, range_value, two_numbers};
+ghost use Rattle.kept_effects.specs.PrivateEnds.{AreIn};
+ghost use Rattle.kept_effects.specs.MappedValues.{ends_in, ends_of, mapped_ends, range_value, two_numbers};
 
-use change_desc::{Desc, MapMode};
+use change_desc::Desc;
 use cm_plain::{Plain, TooDeep};
 use std::alloc::{AllocError, Global};
 
@@ -42,16 +42,6 @@ pub(crate) fn ends_of(len: u32, value: &Plain) -> Option<(u32, u32)>
     }
 }
 
-/// Where changes move a position of their old document.
-fn place_after(changes: &Desc, position: u32, side: i32) -> u32
-    requires { position ≤ old_size changes.now }
-    ensures { result ≡ place_after changes.now position (is_negative side) }
-{
-    changes
-        .map_pos(position, side, MapMode::Simple)
-        .unwrap_or(0)
-}
-
 /// The list of the two ends of a range.
 fn range_value(alloc: Global, from: u32, to: u32) -> Result<Plain, AllocError>
     ensures { IfOk result (λ value. value ≡ range_value from to) }
@@ -76,8 +66,8 @@ pub(crate) fn mapped_ends(
     requires to { to ≤ old_size changes.now }
     ensures { IfOk result (λ moved. moved ≡ mapped_ends changes.now from to) }
 {
-    let start = place_after(changes, from, 1);
-    let end = place_after(changes, to, -1);
+    let start = changes.place_after(from, 1);
+    let end = changes.place_after(to, -1);
     if end <= start {
         return Ok(None);
     }

@@ -2,7 +2,6 @@ pub mod RangeOrder
 pub mod Clear
 pub mod Chunks
 pub mod Passing
-pub mod Replaced
 pub mod Each
 pub mod Under
 pub mod ClearChunks

@@ -5,6 +5,7 @@ pub mod Mapping
 pub mod Updating
 pub mod Seen
 pub mod PrivateChunks
-pub mod PrivateReplaced
 pub use Rattle.change_desc.specs.Sections
+pub use Rattle.change_desc.specs.Ranges
+pub use Rattle.change_desc.specs.Meeting
 pub use Rattle.change_desc.specs.Walker

@@ -7,13 +7,13 @@ use Rattle.std.specs.Cmp.{IsStrictWeakOrder}
 use Rattle.range_set.specs.Rules.{RangeRules}
 use Rattle.range_set.specs.Order.{before}
 
-abbrev ahead : ℕ → ℤ → ℕ → ℤ → Bool
-ahead a s b t = nat_lt a b || (a == b && int_lt s t)
+abbrev less : ℕ → ℤ → ℕ → ℤ → Bool
+less a s b t = nat_lt a b || (a == b && int_lt s t)
 
-before-one_way : (a b : ℕ) (s t : ℤ) → ahead a s b t ≡ true → ahead b t a s ≡ false
+before-one_way : (a b : ℕ) (s t : ℤ) → less a s b t ≡ true → less b t a s ≡ false
 before-one_way a b s t h = grind (arith, ints, nat_tests)
 
-before-chain : (a b c : ℕ) (s t u : ℤ) → ahead a s b t ≡ false → ahead b t c u ≡ false → ahead a s c u ≡ false
+before-chain : (a b c : ℕ) (s t u : ℤ) → less a s b t ≡ false → less b t c u ≡ false → less a s c u ≡ false
 before-chain a b c s t u h k = grind (arith, ints, nat_tests)
 
 pub before-order : {T : Type 0} (rules : RangeRules T) → IsStrictWeakOrder (before rules)

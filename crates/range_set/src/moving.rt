@@ -1,13 +1,13 @@
 ghost use Rattle.std.specs.Prelude.{IfOk, List, [], false, length, ℕ, ◌*◌, ◌++◌, ◌+◌, ◌<◌, ◌^◌, ◌||◌, ◌≡◌, ◌≤◌, filter_map, map};
 ghost use Rattle.std.specs.List.{list_any};
 ghost use Rattle.change_desc.specs.declared.changed_range.ChangedRange.{ChangedRange};
-ghost use Rattle.change_desc.specs.Ranges.{meets};
+ghost use Rattle.change_desc.specs.Meeting.{BeginAfter, EndsAtOrAfter};
+ghost use Rattle.change_desc.specs.Ranges.{meets, replaced};
 ghost use Rattle.change_desc.specs.Sections.{new_size, counted, old_size};
 ghost use Rattle.range_set.specs.declared.ranged.Ranged.{Ranged};
 ghost use Rattle.range_set.specs.Mapping.{EndWithin, map_ranges, moved, most_mapped};
 ghost use Rattle.range_set.specs.Order.{AllForward, before, first_fault};
 ghost use Rattle.range_set.specs.PrivateChunks.{AreChunks, AreSound, Ascend, Fit, IsBuilder, IsChunk, built, flat, shift};
-ghost use Rattle.range_set.specs.PrivateReplaced.{BeginAfter, EndsAtOrAfter};
 ghost use Rattle.stable_order.specs.StableSort.{stable_sort};
 
 use crate::chunk::{Chunk, Placed};
@@ -15,7 +15,7 @@ use crate::chunk_builder::ChunkBuilder;
 use crate::range_ref::RangeRef;
 use crate::range_value::RangeValue;
 use crate::ranged::Ranged;
-use change_desc::{ChangedRange, Desc, MapMode, PositionWalker};
+use change_desc::{ChangedRange, Desc, PositionIndex, PositionWalker, first_meets, ranges_from};
 use stable_order::sort_stably;
 use std::alloc::{AllocError, Global};
 use std::mem;
@@ -40,44 +40,48 @@ pub(crate) fn mapped_chunks<T: RangeValue, L: Ledger>(
     ensures ranges { IfOk result (λ made. flat made.0.items ≡ map_ranges T.rules changes.now (flat chunks.now)) }
     ensures cost { mapped.new ≤ mapped.old + most_mapped T.rules changes.now (flat chunks.now) }
 {
+    let ranges = changes.ranges(true)?;
+    let index = PositionIndex::new(alloc, changes)?;
+    map_chunks(alloc, chunks, changes, &ranges, &index, mapped)
+}
+
+/// The same, where the replaced ranges and an index of the changes are given.
+fn map_chunks<T: RangeValue, L: Ledger>(
+    alloc: Global,
+    chunks: &[Placed<T>],
+    changes: &Desc,
+    ranges: &[ChangedRange],
+    index: &PositionIndex,
+    mapped: &mut Steps<L>,
+) -> Result<(Vec<Placed<T>>, usize), AllocError>
+    requires replaced { ranges.now ≡ replaced changes.now }
+    requires index { index.now ≡ changes.now }
+    requires chunks { AreChunks T.rules chunks.now }
+    requires order { first_fault T.rules (flat chunks.now) ≡ None }
+    requires room { length (flat chunks.now) < 2 ^ 64 }
+    requires inside { EndWithin (old_size changes.now) (flat chunks.now) }
+    ensures chunks { IfOk result (λ made. AreSound T.rules made.0.items made.1) }
+    ensures ranges { IfOk result (λ made. flat made.0.items ≡ map_ranges T.rules changes.now (flat chunks.now)) }
+    ensures cost { mapped.new ≤ mapped.old + most_mapped T.rules changes.now (flat chunks.now) }
+{
     // The proof takes from this line that lengths of the new document fit u32.
     let _new_len = changes.new_len();
-    let ranges = changes.ranges(true)?;
-    let mut replaced = ranges.as_slice();
+    let mut replaced = ranges;
     let mut walker = PositionWalker::new(changes);
     let mut builder = ChunkBuilder::new(alloc);
     let mut run = Vec::new(alloc);
     for placed in chunks {
-        replaced = from_place(replaced, placed.start);
+        replaced = ranges_from(replaced, placed.start);
         if is_affected(placed, replaced) {
-            map_each(alloc, placed, &mut walker, &mut run, mapped)?;
+            map_each(alloc, placed, &mut walker, index, &mut run, mapped)?;
         } else {
             put_sorted(&mut run, &mut builder)?;
-            let start = walker
-                .map_pos(placed.start, -1, MapMode::Simple)
-                .unwrap_or(0);
+            let start = walker.place_after(placed.start, -1);
             builder.share(start, &placed.chunk)?;
         }
     }
     put_sorted(&mut run, &mut builder)?;
     builder.finish()
-}
-
-/// The replaced ranges from the first on that doesn't end before a place.
-fn from_place(replaced: &[ChangedRange], place: u32) -> &[ChangedRange]
-    requires { BeginAfter 0 replaced.now }
-    ensures same { (a b : ℕ) → place ≤ a → list_any (meets a b) result.now ≡ list_any (meets a b) replaced.now }
-    ensures order { BeginAfter 0 result.now }
-    ensures first { EndsAtOrAfter place result.now }
-{
-    let mut rest = replaced;
-    while let Some((first, others)) = rest.split_first() {
-        if place <= first.to_a {
-            return rest;
-        }
-        rest = others;
-    }
-    rest
 }
 
 /// Whether the ranges of a chunk are mapped each by itself: whether its hull meets a replaced range, of which those before the
@@ -88,13 +92,7 @@ fn is_affected<T: RangeValue>(placed: &Placed<T>, replaced: &[ChangedRange]) -> 
     requires first { EndsAtOrAfter placed.now.start replaced.now }
     ensures { result ≡ (placed.now.chunk.value.is_turned || list_any (meets placed.now.start (placed.now.start + placed.now.chunk.value.reach)) replaced.now) }
 {
-    if placed.chunk.is_turned {
-        return true;
-    }
-    match replaced.first() {
-        Some(first) => first.from_a <= placed.start + placed.chunk.reach,
-        None => false,
-    }
+    placed.chunk.is_turned || first_meets(replaced, placed.start, placed.start + placed.chunk.reach)
 }
 
 /// Puts the ranges of a chunk that the changes of a walk keep, moved, after a run of others. `Err`: out of memory.
@@ -102,9 +100,11 @@ fn map_each<T: RangeValue, L: Ledger>(
     alloc: Global,
     placed: &Placed<T>,
     walker: &mut PositionWalker,
+    index: &PositionIndex,
     run: &mut Vec<Ranged<T>>,
     mapped: &mut Steps<L>,
 ) -> Result<(), AllocError>
+    requires index { index.now ≡ walker.old.desc }
     requires chunk { IsChunk T.rules placed.now.start placed.now.chunk.value }
     requires inside { EndWithin (old_size walker.old.desc) (map (shift placed.now.start) placed.now.chunk.value.ranges.items) }
     requires ascending { Ascend walker.old.reached (map (shift placed.now.start) placed.now.chunk.value.ranges.items) }
@@ -120,7 +120,7 @@ fn map_each<T: RangeValue, L: Ledger>(
             to: range.to + placed.start,
             value: &range.value,
         };
-        match range.moved(alloc, walker)? {
+        match range.moved(alloc, walker, index)? {
             Some(moved) => run.push(moved)?,
             None => {}
         }

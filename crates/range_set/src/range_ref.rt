@@ -5,7 +5,7 @@ ghost use Rattle.range_set.specs.Seen.{seen};
 
 use crate::range_value::RangeValue;
 use crate::ranged::Ranged;
-use change_desc::{MapMode, PositionWalker};
+use change_desc::{MapMode, PositionIndex, PositionWalker};
 use std::alloc::{AllocError, Global};
 
 /// A range of a set, with its value lent. Places are in characters.
@@ -36,12 +36,15 @@ impl<'a, T: RangeValue> RangeRef<'a, T> {
         })
     }
 
-    /// The range where the changes of a walk move it, unless they drop it; the walk comes to its start. `Err`: out of memory.
+    /// The range where the changes of a walk move it, unless they drop it; the walk comes to its start. Its end may lie far
+    /// after, so it is looked for in the index of the same changes. `Err`: out of memory.
     pub(crate) fn moved(
         &self,
         alloc: Global,
         walker: &mut PositionWalker,
+        index: &PositionIndex,
     ) -> Result<Option<Ranged<T>>, AllocError>
+        requires index { index.now ≡ walker.old.desc }
         requires start { self.now.from ≤ old_size walker.old.desc }
         requires end { self.now.to ≤ old_size walker.old.desc }
         requires forward { self.now.from ≤ self.now.to }
@@ -49,7 +52,7 @@ impl<'a, T: RangeValue> RangeRef<'a, T> {
         ensures value { IfOk result (λ range. range ≡ moved T.rules walker.old.desc (seen self.now)) }
         ensures walk { walker.new ≡ record { desc = walker.old.desc; reached = self.now.from } }
     {
-        match self.new_ends(walker) {
+        match self.new_ends(walker, index) {
             Some((from, to)) => {
                 let value = self.value.try_copy(alloc)?;
                 Ok(Some(Ranged { from, to, value }))
@@ -59,7 +62,8 @@ impl<'a, T: RangeValue> RangeRef<'a, T> {
     }
 
     /// Where the changes of a walk move its ends, unless they drop it.
-    fn new_ends(&self, walker: &mut PositionWalker) -> Option<(u32, u32)>
+    fn new_ends(&self, walker: &mut PositionWalker, index: &PositionIndex) -> Option<(u32, u32)>
+        requires index { index.now ≡ walker.old.desc }
         requires start { self.now.from ≤ old_size walker.old.desc }
         requires end { self.now.to ≤ old_size walker.old.desc }
         requires forward { self.now.from ≤ self.now.to }
@@ -72,7 +76,7 @@ impl<'a, T: RangeValue> RangeRef<'a, T> {
         let (from, to) = if self.from == self.to {
             point_ends(self.from, start_side, end_side, self.value.mode(), walker)?
         } else {
-            span_ends(self.from, self.to, start_side, end_side, walker)?
+            span_ends(self.from, self.to, start_side, end_side, walker, index)?
         };
         ends_unless_turned(from, to, start_side, end_side)
     }
@@ -96,14 +100,16 @@ fn point_ends(
     if to < from { None } else { Some((from, to)) }
 }
 
-/// Where the ends of a range that isn't empty go. Its end is looked for from its start on, by a walk of its own.
+/// Where the ends of a range that isn't empty go. Its end is looked for in the index of the same changes.
 fn span_ends(
     from: u32,
     to: u32,
     start_side: i32,
     end_side: i32,
     walker: &mut PositionWalker,
+    index: &PositionIndex,
 ) -> Option<(u32, u32)>
+    requires index { index.now ≡ walker.old.desc }
     requires end { to ≤ old_size walker.old.desc }
     requires forward { from ≤ to }
     requires ascending { walker.old.reached ≤ from }
@@ -111,8 +117,7 @@ fn span_ends(
     ensures walk { walker.new ≡ record { desc = walker.old.desc; reached = from } }
 {
     let new_from = walker.map_pos(from, start_side, MapMode::Simple)?;
-    let mut ahead = walker.again();
-    let new_to = ahead.map_pos(to, end_side, MapMode::Simple)?;
+    let new_to = index.walk_from(to).map_pos(to, end_side, MapMode::Simple)?;
     let is_dropped = new_to < new_from || (new_from == new_to && start_side > 0 && end_side <= 0);
     if is_dropped {
         None

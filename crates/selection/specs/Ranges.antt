@@ -1,9 +1,7 @@
 -- Ranges of a selection: their ends, their direction, and where changes move them (manual: SelectionRange).
-use Rattle.std.specs.Prelude.{ℕ, min, max, Bool, true, false, cond, ◌&&◌, ◌||◌, eqb, leb, ltb, List, unwrap_or}
+use Rattle.std.specs.Prelude.{ℕ, min, max, Bool, true, false, cond, ◌&&◌, ◌||◌, eqb, leb, ltb, List}
 use Rattle.change_desc.specs.declared.section.Section.{Section}
-use Rattle.change_desc.specs.declared.map_mode.MapMode.TheVariants.{Simple}
-use Rattle.change_desc.specs.Sections.{counted}
-use Rattle.change_desc.specs.Positions.{map_pos}
+use Rattle.change_desc.specs.Places.{place_after}
 use Rattle.selection.specs.declared.range.Range.{Range}
 
 -- the lesser and the greater end
@@ -41,10 +39,6 @@ meet a b = ltb (low b) (high a) || (eqb (low b) (high a) && (is_empty a || is_em
 abbrev pub joined_range : Range → Range → Range
 joined_range a b = ordered_range (low a) (max (high a) (high b)) (is_backward b)
 
--- Mapped place: where a position goes whatever was deleted around it (in that mode there always is an answer).
-abbrev pub place_in : List (Section ℕ) → ℕ → (negative : Bool) → ℕ
-place_in changes p negative = unwrap_or (map_pos counted changes p negative Simple) 0
-
 -- the range between two mapped ends, a cursor at the second where they crossed
 abbrev pub uncrossed : (from to : ℕ) → (backward : Bool) → Range
 uncrossed from to backward = cond (ltb to from) (cursor to) (ordered_range from to backward)
@@ -53,5 +47,5 @@ uncrossed from to backward = cond (ltb to from) (cursor to) (ordered_range from 
 -- before it, so that it doesn't grow; where the ends cross it is a cursor at the mapped end. Its direction is kept.
 abbrev pub moved_range : List (Section ℕ) → Range → Range
 moved_range changes r =
-    cond (is_empty r) (cursor (place_in changes r.head true))
-    (uncrossed (place_in changes (low r) false) (place_in changes (high r) true) (is_backward r))
+    cond (is_empty r) (cursor (place_after changes r.head true))
+    (uncrossed (place_after changes (low r) false) (place_after changes (high r) true) (is_backward r))

@@ -1,9 +1,8 @@
 ghost use Rattle.std.specs.Prelude.{◌≡◌, ◌≤◌};
-ghost use Rattle.change_desc.specs.Positions.{is_negative};
 ghost use Rattle.change_desc.specs.Sections.{old_size};
-ghost use Rattle.selection.specs.Ranges.{high, is_backward, is_empty, low, meet, moved_range, ordered_range, place_in, joined_range};
+ghost use Rattle.selection.specs.Ranges.{high, is_backward, is_empty, low, meet, moved_range, ordered_range, joined_range};
 
-use change_desc::{MapMode, PositionWalker};
+use change_desc::PositionWalker;
 
 /// A range of a selection, from where it began to where it ends now (Reference Manual, SelectionRange). Both are positions in
 /// a document, in characters; the head may lie before the anchor, and an empty range is a cursor.
@@ -82,14 +81,14 @@ impl Range {
         ensures walk { walker.new ≡ record { desc = walker.old.desc; reached = high self.now } }
     {
         if self.is_empty() {
-            let place = place_in(walker, self.head, -1);
+            let place = walker.place_after(self.head, -1);
             return Range {
                 anchor: place,
                 head: place,
             };
         }
-        let from = place_in(walker, self.from(), 1);
-        let to = place_in(walker, self.to(), -1);
+        let from = walker.place_after(self.from(), 1);
+        let to = walker.place_after(self.to(), -1);
         if to < from {
             return Range {
                 anchor: to,
@@ -98,14 +97,4 @@ impl Range {
         }
         Range::ordered(from, to, self.is_backward())
     }
-}
-
-/// Where a place of the old document goes, whatever was deleted around it.
-fn place_in(walker: &mut PositionWalker, pos: u32, side: i32) -> u32
-    requires inside { pos ≤ old_size walker.old.desc }
-    requires ascending { walker.old.reached ≤ pos }
-    ensures value { result ≡ place_in walker.old.desc pos (is_negative side) }
-    ensures walk { walker.new ≡ record { desc = walker.old.desc; reached = pos } }
-{
-    walker.map_pos(pos, side, MapMode::Simple).unwrap_or(0)
 }

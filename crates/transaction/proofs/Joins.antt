@@ -11,8 +11,8 @@ use Rattle.transaction.specs.declared.meeting.Meeting.{Meeting}
 use Rattle.transaction.specs.Effects.{ValueMap}
 use Rattle.transaction.specs.Frames.{AreWithin}
 use Rattle.transaction.specs.Merging.{Changes, IsDraft, SelectionIn, beside, followed}
-use Rattle.transaction.specs.Extras.{both_extras, draft_of, extras_of, moved_extras}
-use Rattle.transaction.specs.Meetings.{IsMeeting, back_of}
+use Rattle.transaction.specs.PrivateExtras.{both_extras, draft_of, extras_of, moved_extras}
+use Rattle.transaction.specs.PrivateMeetings.{IsMeeting, back_of}
 use Rattle.transaction.proofs.Within.{is-short, within}
 
 module _ {V : Type 0} (kinds : EffectKinds) (map_value : ValueMap V) where

@@ -3,10 +3,9 @@ use Rattle.std.proofs.Common.{◌≡◌, ℕ, ◌≤◌, ◌<◌, ◌^◌, Bool,
 use Rattle.std.proofs.lemmas.Bool.Decides.{nat_tests}
 use Rattle.change_desc.specs.declared.section.Section.{Section}
 use Rattle.change_desc.specs.Sections.{spelled, counted, lengths, new_size, old_size}
-use Rattle.change_desc.specs.Columns.{Row, last, next, Fate, stays, leaves, follows, along_old}
+use Rattle.change_desc.specs.Columns.{along_old}
 use Rattle.change_desc.specs.Algebra.{compose, map_over, then_also}
-use Rattle.change_desc.specs.MapSteps.{merged_len}
-use Rattle.change_desc.proofs.MapLengths.{column_new, ends_new}
+use Rattle.change_desc.proofs.Swapped.{merged_len-swap}
 use Rattle.change_desc.proofs.Measures.{new_size-map_over}
 use Rattle.change_desc.proofs.Merges.{old_size-lengths, new_size-lengths, old_size-map_over}
 use Rattle.change_set.proofs.RunningTotals.{also-size, also-old, also-meets, also-moved, also-is}
@@ -14,23 +13,8 @@ use Rattle.transaction.specs.declared.error.TransactionError.TheVariants.{TooLon
 use Rattle.transaction.specs.declared.meeting.Meeting.{Meeting}
 use Rattle.transaction.specs.Merging.{Changes}
 use Rattle.transaction.specs.Refusals.{too_long}
-use Rattle.transaction.specs.Meetings.{IsMeeting, IsMet, back_of}
+use Rattle.transaction.specs.PrivateMeetings.{IsMeeting, IsMet, back_of}
 use Rattle.transaction.proofs.Within.{is-short}
-
--- the length of the merge is the same from both sides
-merged_len-swap : (r s : Row ℕ (Fate ℕ)) → merged_len r s ≡ merged_len s r
-merged_len-swap (last i) (last j) = omega (arith, ends_new false i j, ends_new false j i)
-merged_len-swap (last i) (next j y s) = refl
-merged_len-swap (next i x r) (last j) = refl
-merged_len-swap (next i stays r) (next j stays s) = omega (arith, column_new false i stays r j stays s, column_new false j stays s i stays r, merged_len-swap r s)
-merged_len-swap (next i stays r) (next j (leaves u) s) = omega (arith, column_new false i stays r j (leaves u) s, column_new false j (leaves u) s i stays r, merged_len-swap r s)
-merged_len-swap (next i stays r) (next j follows s) = omega (arith, column_new false i stays r j follows s, column_new false j follows s i stays r, merged_len-swap r s)
-merged_len-swap (next i (leaves t) r) (next j stays s) = omega (arith, column_new false i (leaves t) r j stays s, column_new false j stays s i (leaves t) r, merged_len-swap r s)
-merged_len-swap (next i (leaves t) r) (next j (leaves u) s) = omega (arith, column_new false i (leaves t) r j (leaves u) s, column_new false j (leaves u) s i (leaves t) r, merged_len-swap r s)
-merged_len-swap (next i (leaves t) r) (next j follows s) = omega (arith, column_new false i (leaves t) r j follows s, column_new false j follows s i (leaves t) r, merged_len-swap r s)
-merged_len-swap (next i follows r) (next j stays s) = omega (arith, column_new false i follows r j stays s, column_new false j stays s i follows r, merged_len-swap r s)
-merged_len-swap (next i follows r) (next j (leaves u) s) = omega (arith, column_new false i follows r j (leaves u) s, column_new false j (leaves u) s i follows r, merged_len-swap r s)
-merged_len-swap (next i follows r) (next j follows s) = omega (arith, column_new false i follows r j follows s, column_new false j follows s i follows r, merged_len-swap r s)
 
 pub is_long : (max n : ℕ) (total : Changes) → n ≡ new_size spelled total → max < n → too_long max total ≡ Some (TooLong n max)
 is_long max n total e l = rw (← e) (cases (ltb max n) (grind (arith, nat_tests)))

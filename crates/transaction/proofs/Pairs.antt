@@ -9,7 +9,8 @@ use Rattle.cm_plain.specs.declared.plain.Plain.{Plain}
 use Rattle.transaction.specs.declared.effect.Effect.{Effect}
 use Rattle.transaction.specs.declared.effect.Effect.TheVariants.{Kind, Reconfigure, Root, Append}
 use Rattle.transaction.specs.Effects.{map_of}
-use Rattle.transaction.specs.Inverted.{has_pair, inverted_effect, inverted_over, paired}
+use Rattle.transaction.specs.Inverted.{inverted_effect, inverted_over, paired}
+use Rattle.transaction.specs.PrivatePairs.{has_pair}
 
 both-false : (a b : Bool) → (a || b) ≡ false → (a ≡ false) × (b ≡ false)
 both-false true b h = cc

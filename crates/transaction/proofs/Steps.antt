@@ -15,8 +15,8 @@ use Rattle.transaction.specs.declared.effect_kinds.EffectKinds.{EffectKinds}
 use Rattle.transaction.specs.Effects.{ValueMap}
 use Rattle.transaction.specs.Merging.{Changes, IsDraft, empty_draft, joined, merged, next_draft, next_total, own_changes, spec_draft, start_len, with_spec}
 use Rattle.transaction.specs.Refusals.{changes_refusal, given_refusal, of_changes_error, selections_refusal, spec_changes_refusal, specs_refusal, too_long, unknown_effect, unknown_in}
-use Rattle.transaction.specs.Made.{IsMade}
-use Rattle.transaction.specs.Steps.{Advances, Follows, IsShort, Progress, changes_before, joined_after}
+use Rattle.transaction.specs.PrivateMade.{IsMade}
+use Rattle.transaction.specs.PrivateSteps.{Advances, Follows, IsShort, Progress, changes_before, joined_after}
 use Rattle.transaction.proofs.Meetings.{not_long}
 use Rattle.transaction.proofs.Within.{is-short}
 

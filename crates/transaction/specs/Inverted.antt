@@ -1,5 +1,5 @@
 -- What undoes the effects of a draft (manual: invertedEffects).
-use Rattle.std.specs.Prelude.{ℕ, Bool, false, is_some, List, reverse, filter_map, Option, Some, None, option_map}
+use Rattle.std.specs.Prelude.{ℕ, List, reverse, filter_map, Option, Some, None, option_map}
 use Rattle.std.specs.Option.{option_and_then}
 use Rattle.change_desc.specs.declared.section.Section.{Section}
 use Rattle.change_desc.specs.Sections.{spelled, lengths, inverted}
@@ -17,11 +17,6 @@ abbrev pub kept_effect : (id : ℕ) → (map : Option ℕ) → Plain → List (S
 kept_effect id number value changes =
     let map = option_and_then kept_map_of number in
     option_map (λ value. record { id = id; map = map; value = value }) (mapped_value map value changes)
-
--- the effect's kind has a pair
-abbrev pub has_pair : {V : Type 0} → List (Option ℕ) → Effect V → Bool
-has_pair pairs (Kind id value) = is_some (map_of pairs id)
-has_pair pairs effect = false
 
 -- which values are plain, the map numbers of the kinds, and the pairs of the kinds
 module _ {V : Type 0} (plain : V → Option Plain) (kinds pairs : List (Option ℕ)) where

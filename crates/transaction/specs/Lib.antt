@@ -13,7 +13,8 @@ pub mod Merging
 pub mod Refusals
 pub mod Annotations
 pub mod Inverted
-pub mod Extras
-pub mod Meetings
-pub mod Steps
-pub mod Made
+pub mod PrivateExtras
+pub mod PrivateMeetings
+pub mod PrivateSteps
+pub mod PrivateMade
+pub mod PrivatePairs

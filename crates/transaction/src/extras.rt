@@ -1,9 +1,9 @@
 ghost use Rattle.std.specs.Prelude.{IfOk, IsTrue, None, [], ◌++◌, ◌<◌, ◌^◌, ◌≡◌, ◌≤◌, option_map};
 ghost use Rattle.change_desc.specs.Sections.{counted, lengths, new_size, old_size, spelled};
 ghost use Rattle.selection.specs.Selections.{moved_selection};
-ghost use Rattle.transaction.specs.Extras.{both_extras, moved_extras};
+ghost use Rattle.transaction.specs.PrivateExtras.{both_extras, moved_extras};
 ghost use Rattle.transaction.specs.Frames.{AreWithin, IsFrame};
-ghost use Rattle.transaction.specs.Meetings.{back_of};
+ghost use Rattle.transaction.specs.PrivateMeetings.{back_of};
 ghost use Rattle.transaction.specs.Merging.{SelectionIn};
 
 use crate::annotation::Annotation;

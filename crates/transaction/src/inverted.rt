@@ -1,6 +1,7 @@
 ghost use Rattle.std.specs.Prelude.{IfOk, ◌≡◌};
 ghost use Rattle.std.specs.List.{list_any};
-ghost use Rattle.transaction.specs.Inverted.{has_pair, inverted_effect, inverted_effects, inverted_over, kept_effect};
+ghost use Rattle.transaction.specs.Inverted.{inverted_effect, inverted_effects, inverted_over, kept_effect};
+ghost use Rattle.transaction.specs.PrivatePairs.{has_pair};
 
 use crate::draft::Draft;
 use crate::effect::Effect;

@@ -3,7 +3,7 @@ ghost use Rattle.change_desc.specs.Sections.{new_size, old_size, spelled};
 ghost use Rattle.transaction.specs.Frames.{IsFrame};
 ghost use Rattle.transaction.specs.Merging.{IsDraft, SelectionIn, merged, next_total, start_len, with_spec};
 ghost use Rattle.transaction.specs.Refusals.{spec_changes_refusal, specs_refusal, too_long, unknown_effect, unknown_in};
-ghost use Rattle.transaction.specs.Steps.{Advances, Follows, IsBefore, changes_before};
+ghost use Rattle.transaction.specs.PrivateSteps.{Advances, Follows, IsBefore, changes_before};
 
 use crate::draft::Draft;
 use crate::effect_maps::EffectMaps;

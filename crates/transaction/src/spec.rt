@@ -1,7 +1,7 @@
 ghost use Rattle.std.specs.Prelude.{IfErr, IfOk, Some, ◌≡◌, ◌≢◌, option_map};
 ghost use Rattle.change_set.specs.Refusals.{refusal};
 ghost use Rattle.transaction.specs.Refusals.{of_changes_error, unknown_effect, unknown_in};
-ghost use Rattle.transaction.specs.Made.{IsMade, IsMadeSelection, IsWith};
+ghost use Rattle.transaction.specs.PrivateMade.{IsMade, IsMadeSelection, IsWith};
 
 use crate::annotation::{Annotation, with_event};
 use crate::draft::Draft;

@@ -152,7 +152,7 @@ pub(crate) fn together(
 }
 
 /// An effect in numbers: a number or a list of two as the value of a kind, where the second number of the former is -1; a
-/// compartment and its node after 100; a node after 200.
+/// compartment and its node after 100, an unknown one after 101; a node after 200.
 pub(crate) type Coded = (u32, i64, i64);
 
 /// A list of two numbers.
@@ -169,6 +169,10 @@ pub(crate) fn effect(alloc: Global, code: Coded) -> Result<Effect<Plain>, AllocE
         (100, to, _) => Ok(Effect::Reconfigure {
             compartment: 0,
             to: if to == 7 { 7 } else { 0 },
+        }),
+        (101, _, _) => Ok(Effect::Reconfigure {
+            compartment: 1,
+            to: 0,
         }),
         (200, _, _) => Ok(Effect::Append(9)),
         (id, number, -1) => Ok(Effect::Kind {

@@ -84,27 +84,10 @@ fn a_root_is_kept(rt: HostRuntime) -> Result<(), Fail> {
     Ok(())
 }
 
-/// A spec with an effect of an unknown kind, and one on an unknown compartment.
-fn unknown(alloc: Global, compartment_first: bool) -> Result<Spec<Plain>, AllocError> {
-    let reconfigure = Effect::Reconfigure {
-        compartment: 1,
-        to: 0,
-    };
-    let kind = effect(alloc, (3, 0, -1))?;
-    let mut spec = changing(alloc, 9, 9, &[])?;
-    if compartment_first {
-        spec.effects.push(reconfigure)?;
-        spec.effects.push(kind)?;
-    } else {
-        spec.effects.push(kind)?;
-        spec.effects.push(reconfigure)?;
-    }
-    Ok(spec)
-}
-
-/// The unknown id that such a spec is refused with: of a compartment after 10, of a kind after 20.
-fn unknown_id(alloc: Global, compartment_first: bool) -> Result<Option<u32>, AllocError> {
-    let spec = unknown(alloc, compartment_first)?;
+/// The unknown id that a spec with these effects and a change out of range is refused with: of a compartment after 10, of a kind
+/// after 20.
+fn unknown_id(alloc: Global, codes: &[Coded]) -> Result<Option<u32>, AllocError> {
+    let spec = telling(alloc, 9, 'x', codes)?;
     match alone(alloc, spec) {
         Err(TransactionError::UnknownCompartment { id }) => Ok(id.checked_add(10)),
         Err(TransactionError::UnknownEffect { id }) => Ok(id.checked_add(20)),
@@ -114,8 +97,10 @@ fn unknown_id(alloc: Global, compartment_first: bool) -> Result<Option<u32>, All
 
 #[test]
 fn the_first_unknown_is_refused(rt: HostRuntime) -> Result<(), Fail> {
-    assert!(rt; unknown_id(rt.alloc(), true)? == Some(11));
-    assert!(rt; unknown_id(rt.alloc(), false)? == Some(23));
+    let compartment = (101, 0, -1);
+    let kind = (3, 0, -1);
+    assert!(rt; unknown_id(rt.alloc(), &[compartment, kind])? == Some(11));
+    assert!(rt; unknown_id(rt.alloc(), &[kind, compartment])? == Some(23));
     Ok(())
 }
 
@@ -159,11 +144,19 @@ fn effects_are_undone_in_reverse_order(rt: HostRuntime) -> Result<(), Fail> {
     Ok(())
 }
 
+/// Whether a draft is that of no spec over four characters.
+fn is_empty(draft: &Draft<Plain>) -> bool {
+    draft.changes.is_empty()
+        && draft.changes.len() == 4
+        && draft.selection.is_none()
+        && draft.effects.as_slice().is_empty()
+        && draft.annotations.as_slice().is_empty()
+        && draft.filter
+}
+
 #[test]
 fn no_spec_at_all_is_an_empty_draft(rt: HostRuntime) -> Result<(), Fail> {
     let draft = merged(rt.alloc(), Vec::new(rt.alloc()))?;
-    assert!(rt; draft.changes.is_empty() && draft.changes.len() == 4);
-    assert!(rt; draft.effects.as_slice().is_empty() && draft.filter);
-    assert!(rt; draft.selection.is_none() && draft.annotations.as_slice().is_empty());
+    assert!(rt; is_empty(&draft));
     Ok(())
 }

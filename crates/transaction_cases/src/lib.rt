@@ -1,12 +1,10 @@
-//! Cases of plain data, transactions and histories, and no code of its own.
+//! Cases of plain data, kept effects and transactions, and no code of its own.
 #![tactic(auto)]
 
 #[cfg(test)]
 mod drafts;
 #[cfg(test)]
 mod effects;
-#[cfg(test)]
-mod histories;
 #[cfg(test)]
 mod kept;
 #[cfg(test)]

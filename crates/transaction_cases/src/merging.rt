@@ -72,13 +72,21 @@ fn are_one_event(annotations: &[Annotation], want: &[char]) -> bool {
     }
 }
 
+/// Whether the merge of both insertions is as it is to be.
+fn are_merged(alloc: Global, event: &[char]) -> Result<bool, TransactionError> {
+    let draft = both_at_one_place(alloc)?;
+    Ok(
+        is_text_after(alloc, &draft, &['a', 'x', 'y', 'b', 'c', 'd'])?
+            && is_cursor(&draft.selection, 1)
+            && are_one_event(draft.annotations.as_slice(), event)
+            && draft.filter,
+    )
+}
+
 #[test]
 fn specs_merge_over_one_document(rt: HostRuntime) -> Result<(), Fail> {
-    let draft = both_at_one_place(rt.alloc())?;
-    assert!(rt; is_text_after(rt.alloc(), &draft, &['a', 'x', 'y', 'b', 'c', 'd'])?);
-    assert!(rt; is_cursor(&draft.selection, 1) && draft.filter);
     let event = ['s', 'e', 'l', 'e', 'c', 't', '.', 'w', 'o', 'r', 'd'];
-    assert!(rt; are_one_event(draft.annotations.as_slice(), &event));
+    assert!(rt; are_merged(rt.alloc(), &event)?);
     Ok(())
 }
 
@@ -139,13 +147,21 @@ fn one_more(alloc: Global) -> Result<Draft<Plain>, TransactionError> {
     merged_with(alloc, draft, next)
 }
 
+/// Whether the draft with one more spec is as it is to be.
+fn is_one_more(alloc: Global) -> Result<bool, TransactionError> {
+    let both = one_more(alloc)?;
+    Ok(
+        is_text_after(alloc, &both, &['a', 'b', 'c', 'd', 'x', 'y'])?
+            && is_cursor(&both.selection, 6)
+            && are_effects(both.effects.as_slice(), &[(1, 6, -1), (1, 5, -1)])
+            && both.annotations.as_slice().is_empty()
+            && !both.filter,
+    )
+}
+
 #[test]
 fn a_draft_takes_one_more_spec(rt: HostRuntime) -> Result<(), Fail> {
-    let both = one_more(rt.alloc())?;
-    assert!(rt; is_text_after(rt.alloc(), &both, &['a', 'b', 'c', 'd', 'x', 'y'])?);
-    assert!(rt; is_cursor(&both.selection, 6) && !both.filter);
-    assert!(rt; are_effects(both.effects.as_slice(), &[(1, 6, -1), (1, 5, -1)]));
-    assert!(rt; both.annotations.as_slice().is_empty());
+    assert!(rt; is_one_more(rt.alloc())?);
     Ok(())
 }
 

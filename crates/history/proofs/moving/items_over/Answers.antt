@@ -1,5 +1,7 @@
-use Rattle.std.proofs.Common.{subst, ap, ◌∙◌}
-use Rattle.history.specs.Moving.{PutsMoved, is_nil}
+use Rattle.std.proofs.Common.{List, length, subst, ap, ◌∙◌}
+use Rattle.std.specs.Prelude.{◌==◌}
+use Rattle.history.specs.declared.item.Item.{Item}
+use Rattle.history.specs.PrivateMoved.{PutsMoved}
 use Rattle.history.proofs.Moved.{stays-none, stays-some}
 use Rattle.history.proofs.moving.items_over.Goals as goal
 
@@ -12,6 +14,6 @@ returns-in-None-clause-stays c =
 pub returns-in_ok-extend_moved-in-Some-2-clause-stays : goal.returns-in_ok-extend_moved-in-Some-2-clause-stays
 returns-in_ok-extend_moved-in-Some-2-clause-stays c =
     stays-some c.args.over.now c.in_ok-try_copy.field-0 c.item.result.now c.in-Some.newest.now c.args.items.now c.in-Some.others.now c.new-all.result.items c.push_moved.new.items.items
-    c.in_ok-try_copy.ensures.ok c.item.ensures c.in-Some.ensures.cases.0 c.new-all.ensures.items c.in-Some-2.after c.is_nil-newest_stays.result
+    c.in_ok-try_copy.ensures.ok c.item.ensures c.in-Some.ensures.cases.0 c.new-all.ensures.items c.in-Some-2.after c.is_empty-newest_stays.result
     (subst (PutsMoved c.in_ok-try_copy.field-0 c.item.result.now c.new-all.result.items c.push_moved.new.items.items) c.in-Some-2.is c.in_ok-push_moved.ensures)
-    (c.is_nil-newest_stays.ensures ∙ ap is_nil c.deref.ensures.value)
+    (c.is_empty-newest_stays.ensures ∙ ap (λ (xs : List Item). length xs == 0) c.as_slice.ensures.value)

@@ -1,5 +1,5 @@
 use Rattle.std.proofs.Common.{sym, subst}
-use Rattle.history.specs.Moving.{MovesTo, PutsSome}
+use Rattle.history.specs.PrivateMoved.{MovesTo, PutsSome}
 use Rattle.history.proofs.Moved.{puts-change}
 use Rattle.history.proofs.moving.push_moved.Goals as goal
 

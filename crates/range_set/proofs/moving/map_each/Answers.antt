@@ -48,6 +48,7 @@ moved-requires g c =
     let inside = within_at (old_size c.args.walker.now.desc) start items i r l is (within _ _ c.requires.inside) in
     let forward = forward_item items i r l is c.requires.chunk.forward in
     record {
+      index = c.requires.index ∙ sym c.loop-range.invariant.desc;
       start = omega (arith, size, inside.0);
       end = omega (arith, size, inside.1);
       forward = omega (arith, forward);

@@ -4,7 +4,7 @@ use Rattle.std.proofs.lemmas.Result.{IfOk-weaker, IfErr-weaker}
 use Rattle.transaction.specs.declared.error.TransactionError.TheVariants.{NoMemory}
 use Rattle.transaction.specs.Refusals.{spec_changes_refusal, too_long}
 use Rattle.transaction.specs.Merging.{next_total}
-use Rattle.transaction.specs.Steps.{Advances, Follows, changes_before}
+use Rattle.transaction.specs.PrivateSteps.{Advances, Follows, changes_before}
 use Rattle.transaction.proofs.Steps.{advances, refused_by_length}
 use Rattle.transaction.proofs.merging.advance.Goals as goal
 

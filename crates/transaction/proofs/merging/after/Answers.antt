@@ -1,5 +1,5 @@
 use Rattle.std.proofs.Common.{subst}
-use Rattle.transaction.specs.Steps.{IsBefore}
+use Rattle.transaction.specs.PrivateSteps.{IsBefore}
 use Rattle.transaction.proofs.Steps.{follows-sequential}
 use Rattle.transaction.proofs.merging.after.Goals as goal
 

@@ -1,4 +1,4 @@
-use Rattle.transaction.specs.Steps.{Progress}
+use Rattle.transaction.specs.PrivateSteps.{Progress}
 use Rattle.transaction.proofs.merging.resolve_known.Given as goal
 
 abbrev pub invariant-loop-spec : goal.invariant-loop-spec

@@ -1,7 +1,7 @@
 use Rattle.std.proofs.Common.{sym, ap, ◌∙◌}
 use Rattle.std.specs.List.{list_any}
 use Rattle.change_desc.specs.Sections.{inverted, lengths, spelled}
-use Rattle.transaction.specs.Inverted.{has_pair}
+use Rattle.transaction.specs.PrivatePairs.{has_pair}
 use Rattle.transaction.proofs.Pairs.{none-inverted}
 use Rattle.transaction.proofs.draft.Draft.inverted_effects.Goals as goal
 

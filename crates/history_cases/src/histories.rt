@@ -1,0 +1,275 @@
+use crate::acts::{Act, Twist, restored, text};
+use crate::scenes::{Scene, acted, played};
+use history::{History, Isolation};
+use std::alloc::{AllocError, Global};
+use std::test::Fail;
+
+/// Whether acts from a document without characters lead to a document and a history with so many Changes.
+fn lead_to(
+    acts: &[(Act, Twist)],
+    alloc: Global,
+    depth: (usize, usize),
+    document: &[char],
+) -> Result<bool, Fail> {
+    let scene = played(alloc, &[], acts)?;
+    let shown = scene.document.chars()?;
+    Ok(scene.history.depth() == depth && shown.as_slice() == document)
+}
+
+#[test]
+fn changes_join_a_group_or_make_one(rt: HostRuntime) -> Result<(), Fail> {
+    for (twist, groups) in &[
+        (Twist::None, 1),
+        (Twist::Isolated(Isolation::Before), 2),
+        (Twist::Isolated(Isolation::After), 1),
+        (Twist::Isolated(Isolation::Full), 2),
+        (Twist::At(None), 2),
+        (Twist::At(Some(499)), 1),
+        (Twist::At(Some(500)), 2),
+        (Twist::At(Some(-1)), 1),
+        (Twist::Delay(0), 2),
+        (Twist::Depth(0), 0),
+        (Twist::Depth(-1), 0),
+        (Twist::Event("input.type"), 1),
+        (Twist::Event("delete.word"), 1),
+        (Twist::Event("input.paste"), 2),
+    ] {
+        let acts = [
+            (Act::Insert(0, 'a'), Twist::None),
+            (Act::Insert(1, 'b'), *twist),
+        ];
+        assert!(rt; lead_to(&acts, rt.alloc(), (*groups, 0), &['a', 'b'])?);
+    }
+    Ok(())
+}
+
+#[test]
+fn a_change_after_an_isolated_or_timeless_one_makes_a_group(rt: HostRuntime) -> Result<(), Fail> {
+    for twist in &[Twist::Isolated(Isolation::After), Twist::At(None)] {
+        let acts = [
+            (Act::Insert(0, 'a'), *twist),
+            (Act::Insert(1, 'b'), Twist::None),
+        ];
+        assert!(rt; lead_to(&acts, rt.alloc(), (2, 0), &['a', 'b'])?);
+    }
+    Ok(())
+}
+
+#[test]
+fn a_selection_between_changes_closes_the_group(rt: HostRuntime) -> Result<(), Fail> {
+    for (between, groups) in &[
+        (Act::Nothing, 1),
+        (Act::Select(1, 1), 2),
+        (Act::Select(0, 1), 2),
+    ] {
+        let acts = [
+            (Act::Insert(0, 'a'), Twist::None),
+            (*between, Twist::None),
+            (Act::Insert(1, 'b'), Twist::None),
+        ];
+        assert!(rt; lead_to(&acts, rt.alloc(), (*groups, 0), &['a', 'b'])?);
+    }
+    Ok(())
+}
+
+#[test]
+fn changes_that_do_not_touch_make_groups(rt: HostRuntime) -> Result<(), Fail> {
+    for (at, groups) in &[(0, 1), (1, 1), (2, 2), (3, 2)] {
+        let acts = [
+            (Act::Insert(0, 'a'), Twist::Unrecorded),
+            (Act::Insert(1, 'a'), Twist::Unrecorded),
+            (Act::Insert(0, 'a'), Twist::None),
+            (Act::Insert(*at, 'a'), Twist::None),
+        ];
+        assert!(rt; lead_to(&acts, rt.alloc(), (*groups, 0), &['a', 'a', 'a', 'a'])?);
+    }
+    Ok(())
+}
+
+#[test]
+fn a_deletion_leaves_a_change_where_it_is_recorded(rt: HostRuntime) -> Result<(), Fail> {
+    for (twist, groups) in &[
+        (Twist::Unrecorded, 0),
+        (Twist::From(7), 0),
+        (Twist::Event("delete"), 1),
+    ] {
+        let acts = [
+            (Act::Insert(0, 'a'), Twist::None),
+            (Act::Delete(0, 1), *twist),
+        ];
+        assert!(rt; lead_to(&acts, rt.alloc(), (*groups, 0), &[])?);
+    }
+    let acts = [
+        (Act::Insert(0, 'a'), Twist::None),
+        (Act::Delete(0, 1), Twist::Event("delete")),
+        (Act::Nothing, Twist::From(0)),
+    ];
+    assert!(rt; lead_to(&acts, rt.alloc(), (0, 1), &[])?);
+    Ok(())
+}
+
+/// Two characters typed, and two others put before them that are not recorded.
+const MOVED: [(Act, Twist); 4] = [
+    (Act::Insert(0, 'a'), Twist::None),
+    (Act::Insert(1, 'b'), Twist::None),
+    (Act::Insert(0, 'z'), Twist::Unrecorded),
+    (Act::Insert(0, 'z'), Twist::Unrecorded),
+];
+
+#[test]
+fn an_undo_and_a_redo_pass_over_other_changes(rt: HostRuntime) -> Result<(), Fail> {
+    let [a, b, c, d] = MOVED;
+    let undo = (Act::Undo, Twist::None);
+    let redo = (Act::Redo, Twist::None);
+    assert!(rt; lead_to(&[a, b, c, d, undo], rt.alloc(), (0, 1), &['z', 'z'])?);
+    assert!(rt;
+        lead_to(
+            &[a, b, c, d, undo, redo],
+            rt.alloc(),
+            (1, 0),
+            &['z', 'z', 'a', 'b']
+        )?
+    );
+    Ok(())
+}
+
+/// Whether acts from "ab" lead to this selection and document.
+fn select_to(
+    acts: &[(Act, Twist)],
+    alloc: Global,
+    selected: (u32, u32),
+    document: &[char],
+) -> Result<bool, Fail> {
+    let scene = played(alloc, &['a', 'b'], acts)?;
+    let shown = scene.document.chars()?;
+    Ok(scene.selected == selected && shown.as_slice() == document)
+}
+
+#[test]
+fn selections_are_undone_and_redone_among_changes(rt: HostRuntime) -> Result<(), Fail> {
+    let undo = (Act::UndoSelection, Twist::None);
+    let redo = (Act::RedoSelection, Twist::None);
+    let acts = [
+        (Act::Select(2, 2), Twist::None),
+        (Act::Insert(2, 'c'), Twist::None),
+        (Act::Select(0, 1), Twist::None),
+        undo,
+        undo,
+        undo,
+        redo,
+        redo,
+        redo,
+    ];
+    for (count, selected, document) in &[
+        (4, (3, 3), "abc"),
+        (5, (2, 2), "ab"),
+        (6, (0, 0), "ab"),
+        (7, (2, 2), "ab"),
+        (8, (3, 3), "abc"),
+        (9, (0, 1), "abc"),
+    ] {
+        let shown: &[char] = if document.len() == 3 {
+            &['a', 'b', 'c']
+        } else {
+            &['a', 'b']
+        };
+        assert!(rt;
+            select_to(&acts[..*count], rt.alloc(), *selected, shown)?,
+            "{count}"
+        );
+    }
+    Ok(())
+}
+
+/// What an undo tells and the selection that it gives, after an insertion at the start that tells 2 and another there that is
+/// not recorded.
+fn told_by_undo(alloc: Global) -> Result<(Option<i64>, (u32, u32)), Fail> {
+    let acts = [
+        (Act::Select(2, 2), Twist::None),
+        (Act::Insert(0, 'c'), Twist::Tells(2)),
+        (Act::Insert(0, 'z'), Twist::Unrecorded),
+        (Act::Undo, Twist::None),
+    ];
+    let scene = played(alloc, &['a', 'b'], &acts)?;
+    Ok((scene.told, scene.selected))
+}
+
+#[test]
+fn an_undo_gives_back_a_selection_and_an_effect(rt: HostRuntime) -> Result<(), Fail> {
+    assert!(rt; told_by_undo(rt.alloc())? == (Some(3), (3, 3)));
+    Ok(())
+}
+
+#[test]
+fn nothing_is_there_to_be_restored_at_first(rt: HostRuntime) -> Result<(), Fail> {
+    let history = History::empty(rt.alloc());
+    for act in &[Act::Undo, Act::Redo, Act::UndoSelection, Act::RedoSelection] {
+        assert!(rt; restored(&history, *act)?.is_none());
+    }
+    Ok(())
+}
+
+/// The numbers of Changes and of items that can be undone after selections 100 milliseconds apart, under an event.
+fn kept_selections(alloc: Global, event: Twist) -> Result<(usize, usize), Fail> {
+    let acts = [
+        (Act::Insert(0, 'a'), Twist::None),
+        (Act::Select(1, 0), event),
+        (Act::Select(0, 1), event),
+        (Act::Select(0, 1), event),
+    ];
+    let scene = played(alloc, &[], &acts)?;
+    Ok((scene.history.depth().0, scene.history.items().0))
+}
+
+#[test]
+fn selections_join(rt: HostRuntime) -> Result<(), Fail> {
+    assert!(rt; kept_selections(rt.alloc(), Twist::None)? == (1, 3));
+    assert!(rt; kept_selections(rt.alloc(), Twist::Event("select.word"))? == (1, 2));
+    assert!(rt; kept_selections(rt.alloc(), Twist::Event("input"))? == (1, 3));
+    assert!(rt; kept_selections(rt.alloc(), Twist::Unrecorded)? == (1, 1));
+    Ok(())
+}
+
+/// The history after those of `MOVED`.
+fn moved(alloc: Global) -> Result<History, Fail> {
+    let Scene { history, .. } = played(alloc, &[], &MOVED)?;
+    Ok(history)
+}
+
+/// The numbers of Changes after an insertion into another document, with this history.
+fn depth_elsewhere(
+    alloc: Global,
+    history: History,
+    characters: &[char],
+) -> Result<(usize, usize), Fail> {
+    let scene = Scene {
+        history,
+        document: text(alloc, characters)?,
+        selected: (0, 0),
+        told: None,
+    };
+    let next = acted(alloc, &scene, Act::Insert(0, 'c'), Twist::None, 150)?;
+    Ok(next.history.depth())
+}
+
+#[test]
+fn a_history_of_another_document_counts_as_empty(rt: HostRuntime) -> Result<(), Fail> {
+    let history = moved(rt.alloc())?;
+    assert!(rt; history.leads_from(4) && !history.leads_from(3));
+    assert!(rt; depth_elsewhere(rt.alloc(), history, &['x'])? == (1, 0));
+    Ok(())
+}
+
+/// Whether a copy is the same.
+fn is_copied(history: &History) -> Result<bool, AllocError> {
+    let copy = history.try_copy()?;
+    Ok(history.same(&copy))
+}
+
+#[test]
+fn a_copy_is_the_same(rt: HostRuntime) -> Result<(), Fail> {
+    let history = moved(rt.alloc())?;
+    assert!(rt; is_copied(&history)?);
+    assert!(rt; !history.same(&History::empty(rt.alloc())));
+    Ok(())
+}

@@ -1,0 +1,149 @@
+use crate::acts::{Act, Step, Twist, step_of, text};
+use cm_plain::{KeptEffect, KeptMap, Plain, Str};
+use history::{History, StepInput};
+use line_tree::{MAX_LEN, Text};
+use listed::Listed;
+use selection::{Selection, first_outside};
+use std::alloc::{AllocError, Global};
+use std::test::Fail;
+
+/// A document, the selection in it, its history, and the number that was told last.
+#[derive(Drop)]
+pub(crate) struct Scene {
+    pub(crate) history: History,
+    pub(crate) document: Text,
+    pub(crate) selected: (u32, u32),
+    pub(crate) told: Option<i64>,
+}
+
+/// The selection of one range.
+fn single(alloc: Global, ends: Option<(u32, u32)>) -> Result<Option<Selection>, AllocError> {
+    match ends {
+        None => Ok(None),
+        Some((anchor, head)) => Ok(Some(Selection::single(alloc, anchor, head)?)),
+    }
+}
+
+/// The effects that undo what was told: a position that tells the same.
+fn telling(alloc: Global, told: Option<i64>) -> Result<Listed<KeptEffect>, AllocError> {
+    let mut effects = Listed::empty(alloc);
+    if let Some(number) = told {
+        effects.push(KeptEffect {
+            id: 0,
+            map: Some(KeptMap::Position),
+            value: Plain::Int(number),
+        })?;
+    }
+    Ok(effects)
+}
+
+/// The document and the selection that a step starts from.
+#[derive(Drop)]
+struct StartState {
+    document: Text,
+    selection: Selection,
+}
+
+fn start_of(alloc: Global, scene: &Scene) -> Result<StartState, AllocError> {
+    let (anchor, head) = scene.selected;
+    Ok(StartState {
+        document: scene.document.try_copy()?,
+        selection: Selection::single(alloc, anchor, head)?,
+    })
+}
+
+/// The input of a step at a time, with all else as by default.
+fn input_of(alloc: Global, scene: &Scene, step: Step, time: i64) -> Result<StepInput, AllocError> {
+    let effects = telling(alloc, step.told)?;
+    let given = single(alloc, step.given)?;
+    let start = start_of(alloc, scene)?;
+    Ok(StepInput {
+        changes: step.changes,
+        effects,
+        document: start.document,
+        selection: start.selection,
+        given,
+        min_depth: 100,
+        delay: 500,
+        time: Some(time),
+        user_event: None,
+        add_to_history: None,
+        isolate: None,
+        from_history: step.from,
+    })
+}
+
+fn apply_twist(alloc: Global, input: &mut StepInput, twist: Twist) -> Result<(), AllocError> {
+    match twist {
+        Twist::None => {}
+        Twist::Unrecorded => input.add_to_history = Some(false),
+        Twist::Isolated(isolation) => input.isolate = Some(isolation),
+        Twist::At(time) => input.time = time,
+        Twist::Delay(delay) => input.delay = delay,
+        Twist::Depth(depth) => input.min_depth = depth,
+        Twist::Event(event) => input.user_event = Some(Str::of_text(alloc, event)?),
+        Twist::From(number) => input.from_history = Some(number),
+        Twist::Tells(number) => input.effects = telling(alloc, Some(number))?,
+    }
+    Ok(())
+}
+
+/// The history and the document after a step.
+fn after(history: &History, input: &StepInput) -> Result<(History, Text), Fail> {
+    if input.changes.len() != input.document.len()
+        || input.document.len() > MAX_LEN
+        || input.changes.new_len() > MAX_LEN
+        || first_outside(input.selection.ranges(), input.document.len()).is_some()
+    {
+        return Err("a step of the document".into());
+    }
+    let document = input.changes.apply(&input.document)?;
+    Ok((history.step(input)?, document))
+}
+
+/// What comes after an act.
+pub(crate) fn acted(
+    alloc: Global,
+    scene: &Scene,
+    act: Act,
+    twist: Twist,
+    time: i64,
+) -> Result<Scene, Fail> {
+    let step = step_of(alloc, &scene.history, scene.document.len(), act)?;
+    let selected = step.given.unwrap_or((0, 0));
+    let told = step.told;
+    let mut input = input_of(alloc, scene, step, time)?;
+    apply_twist(alloc, &mut input, twist)?;
+    let (history, document) = after(&scene.history, &input)?;
+    Ok(Scene {
+        history,
+        document,
+        selected,
+        told,
+    })
+}
+
+/// A document of these characters and without a history.
+fn start(alloc: Global, characters: &[char]) -> Result<Scene, Fail> {
+    Ok(Scene {
+        history: History::empty(alloc),
+        document: text(alloc, characters)?,
+        selected: (0, 0),
+        told: None,
+    })
+}
+
+/// What comes after some acts from a document, 100 milliseconds apart.
+pub(crate) fn played(
+    alloc: Global,
+    characters: &[char],
+    acts: &[(Act, Twist)],
+) -> Result<Scene, Fail> {
+    let mut scene = start(alloc, characters)?;
+    let mut time: i64 = 0;
+    for (act, twist) in acts {
+        scene = acted(alloc, &scene, *act, *twist, time)?;
+        time = time.saturating_add(100);
+    }
+    Ok(scene)
+}
