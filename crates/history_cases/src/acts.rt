@@ -140,12 +140,7 @@ fn acting(alloc: Global, len: u32, act: Act) -> Result<Step, Fail> {
 }
 
 /// An act over a document of `len` characters with this history, as a step.
-pub(crate) fn step_of(
-    alloc: Global,
-    history: &History,
-    len: u32,
-    act: Act,
-) -> Result<Step, Fail> {
+pub(crate) fn step_of(alloc: Global, history: &History, len: u32, act: Act) -> Result<Step, Fail> {
     match restored(history, act)? {
         Some(restore) => Ok(restoring(alloc, len, restore)?),
         None => acting(alloc, len, act),

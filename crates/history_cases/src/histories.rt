@@ -1,8 +1,15 @@
 use crate::acts::{Act, Twist, restored, text};
 use crate::scenes::{Scene, acted, played};
 use history::{History, Isolation};
+use line_tree::Text;
 use std::alloc::{AllocError, Global};
 use std::test::Fail;
+
+/// Whether a document has these characters.
+fn is_spelled(document: &Text, characters: &[char]) -> Result<bool, AllocError> {
+    let shown = document.chars()?;
+    Ok(shown.as_slice() == characters)
+}
 
 /// Whether acts from a document without characters lead to a document and a history with so many Changes.
 fn lead_to(
@@ -12,8 +19,7 @@ fn lead_to(
     document: &[char],
 ) -> Result<bool, Fail> {
     let scene = played(alloc, &[], acts)?;
-    let shown = scene.document.chars()?;
-    Ok(scene.history.depth() == depth && shown.as_slice() == document)
+    Ok(scene.history.depth() == depth && is_spelled(&scene.document, document)?)
 }
 
 #[test]
@@ -99,6 +105,11 @@ fn a_deletion_leaves_a_change_where_it_is_recorded(rt: HostRuntime) -> Result<()
         ];
         assert!(rt; lead_to(&acts, rt.alloc(), (*groups, 0), &[])?);
     }
+    Ok(())
+}
+
+#[test]
+fn a_step_without_changes_undoes_a_change_without_them(rt: HostRuntime) -> Result<(), Fail> {
     let acts = [
         (Act::Insert(0, 'a'), Twist::None),
         (Act::Delete(0, 1), Twist::Event("delete")),
@@ -108,28 +119,25 @@ fn a_deletion_leaves_a_change_where_it_is_recorded(rt: HostRuntime) -> Result<()
     Ok(())
 }
 
-/// Two characters typed, and two others put before them that are not recorded.
-const MOVED: [(Act, Twist); 4] = [
+/// Two characters typed, two others put before them that are not recorded, an undo and a redo.
+const REDONE: [(Act, Twist); 6] = [
     (Act::Insert(0, 'a'), Twist::None),
     (Act::Insert(1, 'b'), Twist::None),
     (Act::Insert(0, 'z'), Twist::Unrecorded),
     (Act::Insert(0, 'z'), Twist::Unrecorded),
+    (Act::Undo, Twist::None),
+    (Act::Redo, Twist::None),
 ];
 
 #[test]
-fn an_undo_and_a_redo_pass_over_other_changes(rt: HostRuntime) -> Result<(), Fail> {
-    let [a, b, c, d] = MOVED;
-    let undo = (Act::Undo, Twist::None);
-    let redo = (Act::Redo, Twist::None);
-    assert!(rt; lead_to(&[a, b, c, d, undo], rt.alloc(), (0, 1), &['z', 'z'])?);
-    assert!(rt;
-        lead_to(
-            &[a, b, c, d, undo, redo],
-            rt.alloc(),
-            (1, 0),
-            &['z', 'z', 'a', 'b']
-        )?
-    );
+fn an_undo_passes_over_other_changes(rt: HostRuntime) -> Result<(), Fail> {
+    assert!(rt; lead_to(&REDONE[..5], rt.alloc(), (0, 1), &['z', 'z'])?);
+    Ok(())
+}
+
+#[test]
+fn a_redo_passes_over_other_changes(rt: HostRuntime) -> Result<(), Fail> {
+    assert!(rt; lead_to(&REDONE, rt.alloc(), (1, 0), &['z', 'z', 'a', 'b'])?);
     Ok(())
 }
 
@@ -141,8 +149,7 @@ fn select_to(
     document: &[char],
 ) -> Result<bool, Fail> {
     let scene = played(alloc, &['a', 'b'], acts)?;
-    let shown = scene.document.chars()?;
-    Ok(scene.selected == selected && shown.as_slice() == document)
+    Ok(scene.selected == selected && is_spelled(&scene.document, document)?)
 }
 
 #[test]
@@ -200,11 +207,16 @@ fn an_undo_gives_back_a_selection_and_an_effect(rt: HostRuntime) -> Result<(), F
     Ok(())
 }
 
+/// Whether an act restores something at first.
+fn restores_at_first(alloc: Global, act: Act) -> Result<bool, AllocError> {
+    let history = History::empty(alloc);
+    Ok(restored(&history, act)?.is_some())
+}
+
 #[test]
 fn nothing_is_there_to_be_restored_at_first(rt: HostRuntime) -> Result<(), Fail> {
-    let history = History::empty(rt.alloc());
     for act in &[Act::Undo, Act::Redo, Act::UndoSelection, Act::RedoSelection] {
-        assert!(rt; restored(&history, *act)?.is_none());
+        assert!(rt; !restores_at_first(rt.alloc(), *act)?);
     }
     Ok(())
 }
@@ -223,27 +235,33 @@ fn kept_selections(alloc: Global, event: Twist) -> Result<(usize, usize), Fail> 
 
 #[test]
 fn selections_join(rt: HostRuntime) -> Result<(), Fail> {
-    assert!(rt; kept_selections(rt.alloc(), Twist::None)? == (1, 3));
-    assert!(rt; kept_selections(rt.alloc(), Twist::Event("select.word"))? == (1, 2));
-    assert!(rt; kept_selections(rt.alloc(), Twist::Event("input"))? == (1, 3));
-    assert!(rt; kept_selections(rt.alloc(), Twist::Unrecorded)? == (1, 1));
+    for (event, counts) in &[
+        (Twist::None, (1, 3)),
+        (Twist::Event("select.word"), (1, 2)),
+        (Twist::Event("input"), (1, 3)),
+        (Twist::Unrecorded, (1, 1)),
+    ] {
+        assert!(rt; kept_selections(rt.alloc(), *event)? == *counts);
+    }
     Ok(())
 }
 
-/// The history after those of `MOVED`.
+/// The history after the first four of `REDONE`.
 fn moved(alloc: Global) -> Result<History, Fail> {
-    let Scene { history, .. } = played(alloc, &[], &MOVED)?;
+    let Scene { history, .. } = played(alloc, &[], &REDONE[..4])?;
     Ok(history)
 }
 
-/// The numbers of Changes after an insertion into another document, with this history.
-fn depth_elsewhere(
-    alloc: Global,
-    history: History,
-    characters: &[char],
-) -> Result<(usize, usize), Fail> {
+/// Whether that history leads from a document of four characters, and from one of three.
+fn leads(alloc: Global) -> Result<(bool, bool), Fail> {
+    let history = moved(alloc)?;
+    Ok((history.leads_from(4), history.leads_from(3)))
+}
+
+/// The numbers of Changes after an insertion into another document, with that history.
+fn depth_elsewhere(alloc: Global, characters: &[char]) -> Result<(usize, usize), Fail> {
     let scene = Scene {
-        history,
+        history: moved(alloc)?,
         document: text(alloc, characters)?,
         selected: (0, 0),
         told: None,
@@ -254,22 +272,20 @@ fn depth_elsewhere(
 
 #[test]
 fn a_history_of_another_document_counts_as_empty(rt: HostRuntime) -> Result<(), Fail> {
-    let history = moved(rt.alloc())?;
-    assert!(rt; history.leads_from(4) && !history.leads_from(3));
-    assert!(rt; depth_elsewhere(rt.alloc(), history, &['x'])? == (1, 0));
+    assert!(rt; leads(rt.alloc())? == (true, false));
+    assert!(rt; depth_elsewhere(rt.alloc(), &['x'])? == (1, 0));
     Ok(())
 }
 
-/// Whether a copy is the same.
-fn is_copied(history: &History) -> Result<bool, AllocError> {
+/// Whether a copy of that history is the same, and the history without items another.
+fn is_copied(alloc: Global) -> Result<bool, Fail> {
+    let history = moved(alloc)?;
     let copy = history.try_copy()?;
-    Ok(history.same(&copy))
+    Ok(history.same(&copy) && !history.same(&History::empty(alloc)))
 }
 
 #[test]
 fn a_copy_is_the_same(rt: HostRuntime) -> Result<(), Fail> {
-    let history = moved(rt.alloc())?;
-    assert!(rt; is_copied(&history)?);
-    assert!(rt; !history.same(&History::empty(rt.alloc())));
+    assert!(rt; is_copied(rt.alloc())?);
     Ok(())
 }

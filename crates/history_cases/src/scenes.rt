@@ -88,8 +88,30 @@ fn apply_twist(alloc: Global, input: &mut StepInput, twist: Twist) -> Result<(),
     Ok(())
 }
 
-/// The history and the document after a step.
-fn after(history: &History, input: &StepInput) -> Result<(History, Text), Fail> {
+/// An act as the input of a step, with the selection that it leaves and the number that it tells.
+#[derive(Drop)]
+struct Request {
+    input: StepInput,
+    selected: (u32, u32),
+    told: Option<i64>,
+}
+
+fn asked(alloc: Global, scene: &Scene, act: Act, twist: Twist, time: i64) -> Result<Request, Fail> {
+    let step = step_of(alloc, &scene.history, scene.document.len(), act)?;
+    let selected = step.given.unwrap_or((0, 0));
+    let told = step.told;
+    let mut input = input_of(alloc, scene, step, time)?;
+    apply_twist(alloc, &mut input, twist)?;
+    Ok(Request {
+        input,
+        selected,
+        told,
+    })
+}
+
+/// What comes after a step.
+fn after(history: &History, request: &Request) -> Result<Scene, Fail> {
+    let input = &request.input;
     if input.changes.len() != input.document.len()
         || input.document.len() > MAX_LEN
         || input.changes.new_len() > MAX_LEN
@@ -97,8 +119,12 @@ fn after(history: &History, input: &StepInput) -> Result<(History, Text), Fail> 
     {
         return Err("a step of the document".into());
     }
-    let document = input.changes.apply(&input.document)?;
-    Ok((history.step(input)?, document))
+    Ok(Scene {
+        history: history.step(input)?,
+        document: input.changes.apply(&input.document)?,
+        selected: request.selected,
+        told: request.told,
+    })
 }
 
 /// What comes after an act.
@@ -109,18 +135,8 @@ pub(crate) fn acted(
     twist: Twist,
     time: i64,
 ) -> Result<Scene, Fail> {
-    let step = step_of(alloc, &scene.history, scene.document.len(), act)?;
-    let selected = step.given.unwrap_or((0, 0));
-    let told = step.told;
-    let mut input = input_of(alloc, scene, step, time)?;
-    apply_twist(alloc, &mut input, twist)?;
-    let (history, document) = after(&scene.history, &input)?;
-    Ok(Scene {
-        history,
-        document,
-        selected,
-        told,
-    })
+    let request = asked(alloc, scene, act, twist, time)?;
+    after(&scene.history, &request)
 }
 
 /// A document of these characters and without a history.
