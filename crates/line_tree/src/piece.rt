@@ -27,6 +27,14 @@ impl Model for Piece {
     ghost invariant = { λ p. IsCounted p.characters.value.items p.len p.breaks };
 }
 
+/// A piece or a chunk in a row of them: where it stands, and how many breaks stand before it.
+#[derive(Clone, Copy)]
+pub(crate) struct Found {
+    pub(crate) index: usize,
+    pub(crate) from: u32,
+    pub(crate) breaks: u32,
+}
+
 impl Piece {
     /// A piece of these characters.
     pub(crate) fn of(alloc: Global, characters: &[char]) -> Result<Piece, AllocError>
