@@ -6,8 +6,8 @@ use Rattle.change_desc.specs.declared.section.Section.{Section}
 use Rattle.change_desc.specs.declared.section.Section.TheVariants.{Keep, Replace}
 use Rattle.change_desc.specs.Sections.{Sections, spelled, counted, put, normal, old_size, new_size}
 use Rattle.change_desc.specs.Positions.{Pair, shift, diagonal, cuts}
-use Rattle.change_desc.specs.Columns.{width, Row, last, next, Fate, stays, leaves, follows, Origin, old, new, more, in_front, times, mores, spell, along_old, along_new}
-use Rattle.change_desc.specs.Pieces.{Piece, single, stretch, Open, closed, add, gather}
+use Rattle.change_desc.specs.Columns.{width, Row, last, next, Fate, stays, leaves, follows, Origin, old, new, more, in_front, times, mores, along_old, along_new}
+use Rattle.change_desc.specs.Pieces.{single, stretch, Open, closed, add, gather}
 use Rattle.change_desc.specs.Compose.{is_cut_new, is_cut_old, count_of, composed, compose}
 use Rattle.change_desc.specs.Laws.{CutsAreShared}
 use Rattle.change_desc.proofs.Applies.{width-along_old, width-along_new}
