@@ -1,13 +1,20 @@
 -- The laws of change sets, as facts of what the calls answer.
 use Rattle.std.specs.Prelude.{◌≡◌, ℕ, Bool, List, length}
+use Rattle.std.specs.List.{Contains}
 use Rattle.change_desc.specs.declared.section.Section.{Section}
 use Rattle.change_desc.specs.Sections.{Sections, spelled, counted, apply, lengths, old_size}
+use Rattle.change_desc.specs.Positions.{cuts}
 use Rattle.change_desc.specs.Compose.{compose}
 use Rattle.change_desc.specs.Map.{map_over, merge}
 
 -- Composed: applied, it is the second applied to the first applied.
 abbrev pub AppliesInTurn : (first second both : Sections) → Type 0
 AppliesInTurn first second both = (doc : List ℕ) → old_size first ≡ length doc → apply both doc ≡ apply second (apply first doc)
+
+-- Composed, by cuts: each cut of what the two give goes through a place of the text between where both have a cut.
+abbrev pub CutsAreShared : (first second both : Sections) → Type 0
+CutsAreShared first second both = (o n : ℕ) → Contains (cuts spelled both) (o, n) →
+    (q : ℕ) × Contains (cuts spelled first) (o, q) × Contains (cuts spelled second) (q, n)
 
 -- Mapped: applied after the other set, it gives the merge of both.
 abbrev pub Merges : (own mapped : Sections) (over : List (Section ℕ)) (before : Bool) → Type 0

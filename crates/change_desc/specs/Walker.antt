@@ -1,4 +1,4 @@
--- A walk along a description that maps places of the old text which don't fall.
+-- A walk along a description that maps ascending places of the old text.
 use Rattle.std.specs.Prelude.{◌≡◌, ℕ, ◌+◌, ◌-◌, ◌<◌, ◌≤◌, ◌^◌, Bool, List, length, drop}
 use Rattle.change_desc.specs.declared.section.Section.{Section}
 use Rattle.change_desc.specs.declared.map_mode.MapMode.{MapMode}

@@ -9,8 +9,8 @@ use crate::positions::{is_lost, place};
 use crate::section::Section;
 use std::marker::Model;
 
-/// Maps places of the old text that don't fall, in one pass over a description: all together it takes the time of the
-/// description and of the places, where `Desc::map_pos` takes that of the description for each place. It takes no memory.
+/// Maps ascending places of the old text, of which some may be equal, in one pass over a description: all together it
+/// takes the time of the description and of the places, where `Desc::map_pos` takes that of the description for each place. It takes no memory.
 #[derive(Drop)]
 pub struct PositionWalker<'a> {
     pub(crate) sections: &'a [Section<u32>],

@@ -3,8 +3,8 @@
 pub enum Touch {
     /// No replaced range overlaps or touches it.
     No,
-    /// A replaced range overlaps or touches it.
+    /// The first replaced range that overlaps or touches it doesn't go on beyond both of its ends.
     Yes,
-    /// The first replaced range that meets it goes on beyond both of its ends.
+    /// The first replaced range that overlaps or touches it goes on beyond both of its ends.
     Cover,
 }

@@ -17,3 +17,4 @@ pub mod FilterSizes
 pub mod FilterBounds
 pub mod FilterLens
 pub mod Sameness
+pub mod SharedCuts

@@ -6,7 +6,7 @@ ghost use Rattle.change_desc.specs.Map.{map_over};
 ghost use Rattle.change_desc.specs.Of.{of, span};
 ghost use Rattle.change_desc.specs.Filter.{filter_kept, filter_dropped};
 ghost use Rattle.change_set.specs.Changes.{as_sets};
-ghost use Rattle.change_desc.specs.Laws.{AppliesInTurn, DescribesComposed, DescribesMapped, LeadsBack, Merges};
+ghost use Rattle.change_desc.specs.Laws.{AppliesInTurn, CutsAreShared, DescribesComposed, DescribesMapped, LeadsBack, Merges};
 ghost use Rattle.change_desc.specs.Ranges.{changes_nothing};
 ghost use Rattle.change_set.specs.Protected.{Apart};
 ghost use Rattle.change_set.specs.Refusals.{refusal};
@@ -97,7 +97,7 @@ impl ChangeSet {
         Ok(ChangeSet { sections })
     }
 
-    /// The old document's length in characters (ChangeSet.length).
+    /// The old document's length in characters (ChangeDesc.length).
     pub fn len(&self) -> u32
         ensures { result ≡ old_size self.now }
     {
@@ -108,7 +108,7 @@ impl ChangeSet {
         len
     }
 
-    /// The new document's length in characters (ChangeSet.newLength).
+    /// The new document's length in characters (ChangeDesc.newLength).
     pub fn new_len(&self) -> u32
         ensures { result ≡ new_size spelled self.now }
     {
@@ -119,7 +119,7 @@ impl ChangeSet {
         len
     }
 
-    /// Whether it keeps the whole document (ChangeSet.empty).
+    /// Whether it keeps the whole document (ChangeDesc.empty).
     pub fn is_empty(&self) -> bool
         ensures { result ≡ changes_nothing self.now }
     {
@@ -131,7 +131,7 @@ impl ChangeSet {
         true
     }
 
-    /// The sections from left to right (ChangeSet.sections).
+    /// The sections from left to right.
     pub fn sections(&self) -> &[Section<InsertedText>]
         ensures { result.now ≡ self.now }
     {
@@ -157,6 +157,7 @@ impl ChangeSet {
         ensures starts { IfOk result (λ both. old_size both ≡ old_size self.now) }
         ensures ends { IfOk result (λ both. new_size spelled both ≡ new_size spelled next.now) }
         ensures in_turn { IfOk result (λ both. AppliesInTurn self.now next.now both) }
+        ensures shared { IfOk result (λ both. CutsAreShared self.now next.now both) }
         ensures described { IfOk result (λ both. DescribesComposed self.now next.now both) }
     {
         let lengths = self.composed_lengths(next)?;
@@ -241,7 +242,7 @@ impl ChangeSet {
         Ok((kept, dropped))
     }
 
-    /// Whether both have the same sections, with the same texts (ChangeSet.eq).
+    /// Whether both have the same sections, with the same texts.
     pub fn same(&self, other: &ChangeSet) -> bool
         ensures value { result ≡ same_sections self.now other.now }
         ensures equal { IsTrue result ↔ (self.now ≡ other.now) }

@@ -13,6 +13,14 @@ use line_tree::Text;
 use smallvec::SmallVec;
 use std::alloc::{AllocError, Global};
 
+/// The half that is made, of a document of `len` characters of which these ranges are protected.
+#[derive(Clone, Copy, Drop)]
+struct Taker<'a> {
+    half: Half,
+    ranges: &'a [(u32, u32)],
+    len: u32,
+}
+
 /// Puts a run of deleted characters after what is done of a half: their deletion with a text, or characters that are kept.
 fn push_run(
     done: &mut SmallVec<Section<InsertedText>, 8>,
@@ -37,28 +45,26 @@ fn push_run(
 fn push_runs(
     alloc: Global,
     done: &mut SmallVec<Section<InsertedText>, 8>,
-    half: Half,
-    ranges: &[(u32, u32)],
+    by: Taker,
     known: usize,
-    len: u32,
     from: u32,
     end: u32,
 ) -> Result<usize, AllocError>
     requires order { from ≤ end }
-    requires within { end ≤ len }
-    requires ended { HasEnded ranges.now known from }
+    requires within { end ≤ by.len }
+    requires ended { HasEnded by.ranges.now known from }
     requires is_normal { normal spelled done.old.items ≡ done.old.items }
-    requires room { (s : Sections) × HasRoom (half_within (taking half ranges.now len) done.old.items from (end - from) s) }
-    ensures ended { IfOk result (λ known. HasEnded ranges.now known end) }
+    requires room { (s : Sections) × HasRoom (half_within (taking by.half by.ranges.now by.len) done.old.items from (end - from) s) }
+    ensures ended { IfOk result (λ known. HasEnded by.entry.ranges.now known end) }
     ensures is_normal { OnOk result (normal spelled done.new.items ≡ done.new.items) }
-    ensures rest { OnOk result ((s : Sections) → half_from (taking half ranges.now len) done.new.items end s ≡ half_within (taking half ranges.now len) done.old.items from (end - from) s) }
+    ensures rest { OnOk result ((s : Sections) → half_from (taking by.entry.half by.entry.ranges.now by.entry.len) done.new.items end s ≡ half_within (taking by.entry.half by.entry.ranges.now by.entry.len) done.old.items from (end - from) s) }
 {
     let mut pos = from;
     let mut count = known;
     'runs: while pos < end {
-        count = ended(ranges, count, pos);
-        let run = run_from(ranges, count, len, pos, end);
-        let is_taken = half.takes(run.is_protected);
+        count = ended(by.ranges, count, pos);
+        let run = run_from(by.ranges, count, by.len, pos, end);
+        let is_taken = by.half.takes(run.is_protected);
         let none = InsertedText::of(Text::empty(alloc)?);
         push_run(done, is_taken, run.to - pos, none)?;
         pos = run.to;
@@ -71,30 +77,28 @@ fn push_runs(
 fn push_deletion(
     alloc: Global,
     done: &mut SmallVec<Section<InsertedText>, 8>,
-    half: Half,
-    ranges: &[(u32, u32)],
+    by: Taker,
     known: usize,
-    len: u32,
     at: u32,
     count: u32,
     text: &InsertedText,
 ) -> Result<usize, AllocError>
     requires some { 0 < count }
-    requires within { at + count ≤ len }
-    requires ended { HasEnded ranges.now known at }
-    requires next { known < length ranges.now → at < (slice_index_or ranges.now known (0, 0)).1 }
+    requires within { at + count ≤ by.len }
+    requires ended { HasEnded by.ranges.now known at }
+    requires next { known < length by.ranges.now → at < (slice_index_or by.ranges.now known (0, 0)).1 }
     requires is_normal { normal spelled done.old.items ≡ done.old.items }
-    requires room { (s : Sections) × HasRoom (half_from (taking half ranges.now len) done.old.items at (Replace count text.now ∷ s)) }
-    ensures ended { IfOk result (λ known. HasEnded ranges.now known (at + count)) }
+    requires room { (s : Sections) × HasRoom (half_from (taking by.half by.ranges.now by.len) done.old.items at (Replace count text.now ∷ s)) }
+    ensures ended { IfOk result (λ known. HasEnded by.entry.ranges.now known (at + count)) }
     ensures is_normal { OnOk result (normal spelled done.new.items ≡ done.new.items) }
-    ensures rest { OnOk result ((s : Sections) → half_from (taking half ranges.now len) done.new.items (at + count) s ≡ half_from (taking half ranges.now len) done.old.items at (Replace count text.now ∷ s)) }
+    ensures rest { OnOk result ((s : Sections) → half_from (taking by.entry.half by.entry.ranges.now by.entry.len) done.new.items (at + count) s ≡ half_from (taking by.entry.half by.entry.ranges.now by.entry.len) done.old.items at (Replace count text.now ∷ s)) }
 {
     let end = at + count;
-    let run = run_from(ranges, known, len, at, end);
-    let is_taken = half.takes(run.is_protected);
+    let run = run_from(by.ranges, known, by.len, at, end);
+    let is_taken = by.half.takes(run.is_protected);
     let copy = text.try_copy()?;
     push_run(done, is_taken, run.to - at, copy)?;
-    let reached = push_runs(alloc, done, half, ranges, known, len, run.to, end)?;
+    let reached = push_runs(alloc, done, by, known, run.to, end)?;
     Ok(reached)
 }
 
@@ -103,23 +107,21 @@ fn push_deletion(
 fn push_filtered(
     alloc: Global,
     done: &mut SmallVec<Section<InsertedText>, 8>,
-    half: Half,
-    ranges: &[(u32, u32)],
+    by: Taker,
     known: usize,
-    len: u32,
     at: u32,
     section: &Section<InsertedText>,
 ) -> Result<usize, AllocError>
-    requires within { at + old_of section.now ≤ len }
-    requires apart { Apart 0 ranges.now }
-    requires ended { HasEnded ranges.now known at }
+    requires within { at + old_of section.now ≤ by.len }
+    requires apart { Apart 0 by.ranges.now }
+    requires ended { HasEnded by.ranges.now known at }
     requires is_normal { normal spelled done.old.items ≡ done.old.items }
-    requires room { (s : Sections) × HasRoom (half_from (taking half ranges.now len) done.old.items at (section.now ∷ s)) }
-    ensures ended { IfOk result (λ known. HasEnded ranges.now known (at + old_of section.now)) }
+    requires room { (s : Sections) × HasRoom (half_from (taking by.half by.ranges.now by.len) done.old.items at (section.now ∷ s)) }
+    ensures ended { IfOk result (λ known. HasEnded by.entry.ranges.now known (at + old_of section.now)) }
     ensures is_normal { OnOk result (normal spelled done.new.items ≡ done.new.items) }
-    ensures rest { OnOk result ((s : Sections) → half_from (taking half ranges.now len) done.new.items (at + old_of section.now) s ≡ half_from (taking half ranges.now len) done.old.items at (section.now ∷ s)) }
+    ensures rest { OnOk result ((s : Sections) → half_from (taking by.entry.half by.entry.ranges.now by.entry.len) done.new.items (at + old_of section.now) s ≡ half_from (taking by.entry.half by.entry.ranges.now by.entry.len) done.old.items at (section.now ∷ s)) }
 {
-    let count = ended(ranges, known, at);
+    let count = ended(by.ranges, known, at);
     match section {
         Section::Keep(kept) => {
             push_section(done, Section::Keep(*kept))?;
@@ -127,12 +129,10 @@ fn push_filtered(
         }
         Section::Replace(gone, text) => {
             if *gone > 0 {
-                let reached = push_deletion(
-                    alloc, done, half, ranges, count, len, at, *gone, text,
-                )?;
+                let reached = push_deletion(alloc, done, by, count, at, *gone, text)?;
                 return Ok(reached);
             }
-            if half.takes(is_inside(ranges, count, len, at)) {
+            if by.half.takes(is_inside(by.ranges, count, by.len, at)) {
                 let copy = text.try_copy()?;
                 push_section(done, Section::Replace(0, copy))?;
             }
@@ -154,11 +154,12 @@ pub(crate) fn filtered(
     requires room { HasRoom (half_from (taking half ranges.now len) [] 0 sections.now) }
     ensures { IfOk result (λ done. done.items ≡ half_from (taking half ranges.now len) [] 0 sections.now) }
 {
+    let by = Taker { half, ranges, len };
     let mut done = SmallVec::new(alloc);
     let mut at = 0;
     let mut known = 0;
     for section in sections {
-        known = push_filtered(alloc, &mut done, half, ranges, known, len, at, section)?;
+        known = push_filtered(alloc, &mut done, by, known, at, section)?;
         at += section.old_len();
     }
     Ok(done)

@@ -51,7 +51,7 @@ impl Place {
         requires offset { self.offset + left < 2 ^ 32 }
         requires index { self.index + 1 < 2 ^ 64 }
         ensures inside { step < left → result ≡ record { index = self.index; offset = self.offset + step } }
-        ensures behind { left ≤ step → result ≡ record { index = self.index + 1; offset = 0 } }
+        ensures after { left ≤ step → result ≡ record { index = self.index + 1; offset = 0 } }
     {
         if step < left {
             Place {

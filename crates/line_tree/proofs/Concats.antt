@@ -136,6 +136,17 @@ pub counted_same : (cs ds : List ℕ) (len breaks : ℕ) → IsCounted cs len br
 counted_same cs ds len breaks is e = subst (λ t. IsCounted t len breaks) (sym e) is
 
 -- a piece more, where no last characters are left
-pub shared_more : (ps new : List (List ℕ)) (last piece : List ℕ) → new ≡ ps ++ piece ∷ [] → last ≡ [] → concat new ++ last ≡ (concat ps ++ last) ++ piece
-shared_more ps new last piece e none =
-    ap (λ r. concat new ++ r) none ∙ append-nil (concat new) ∙ ap concat e ∙ concat_push ps piece ∙ ap (λ r. r ++ piece) (sym (ap (λ r. concat ps ++ r) none ∙ append-nil (concat ps)))
+pub piece_more : (cs ps new : List (List ℕ)) (last piece : List ℕ) → new ≡ ps ++ piece ∷ [] → last ≡ [] → concat cs ++ (concat new ++ last) ≡ (concat cs ++ (concat ps ++ last)) ++ piece
+piece_more cs ps new last piece e none =
+    let whole : concat new ++ last ≡ (concat ps ++ last) ++ piece = ap (λ r. concat new ++ r) none ∙ append-nil (concat new) ∙ ap concat e ∙ concat_push ps piece
+    ∙ ap (λ r. r ++ piece) (sym (ap (λ r. concat ps ++ r) none ∙ append-nil (concat ps))) in
+    ap (λ r. concat cs ++ r) whole ∙ sym (append_assoc (concat cs) (concat ps ++ last) piece)
+
+-- where no pieces and no last characters are left
+pub all_ended : (cs : List ℕ) (ps : List (List ℕ)) (last : List ℕ) → ps ≡ [] → last ≡ [] → cs ++ (concat ps ++ last) ≡ cs
+all_ended cs ps last no_pieces no_last = ap (λ qs. cs ++ (concat qs ++ last)) no_pieces ∙ ap (λ r. cs ++ r) no_last ∙ append-nil cs
+
+-- a chunk more there
+pub chunk_more : (cs new ps : List (List ℕ)) (last chunk : List ℕ) → new ≡ cs ++ chunk ∷ [] → ps ≡ [] → last ≡ [] → concat new ++ (concat ps ++ last) ≡ (concat cs ++ (concat ps ++ last)) ++ chunk
+chunk_more cs new ps last chunk e no_pieces no_last =
+    all_ended (concat new) ps last no_pieces no_last ∙ ap concat e ∙ concat_push cs chunk ∙ ap (λ r. r ++ chunk) (sym (all_ended (concat cs) ps last no_pieces no_last))

@@ -9,7 +9,7 @@ use Rattle.line_tree.specs.Breaks.{count_breaks}
 use Rattle.line_tree.specs.Parts.{after_break, joined, HaveHeight}
 use Rattle.line_tree.proofs.Counts.{count-cons, count-append, count_le}
 
--- the lengths and the breaks of the parts, with one for the break behind each
+-- the lengths and the breaks of the parts, with one for the break after each
 abbrev pub lengths : List TextView → ℕ
 lengths vs = sum_by (λ v. length v.characters + 1) vs
 

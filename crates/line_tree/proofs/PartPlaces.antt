@@ -7,7 +7,7 @@ use Rattle.line_tree.specs.Parts.{after_break, joined}
 use Rattle.line_tree.specs.Places.{before_break, part_of, PartHoldsPlace, PartHoldsBreak}
 use Rattle.line_tree.proofs.Counts.{count-append, count-cons}
 use Rattle.line_tree.proofs.Inside.{take_inside, drop_inside, length_inside, count_all, break_inside, break_after}
-use Rattle.line_tree.proofs.Seams.{join_front, join_back}
+use Rattle.line_tree.proofs.Seams.{join_prefix, join_suffix}
 
 before_break-append : (xs ys : List TextView) → before_break (xs ++ ys) ≡ before_break xs ++ before_break ys
 before_break-append [] ys = refl
@@ -31,7 +31,7 @@ pub join_at : (parts : List TextView) (i : ℕ) (v : TextView) → i < length pa
 join_at parts i v l e =
     ap joined (sym (take-append-drop i parts))
     ∙ ap (λ r. joined (take i parts ++ r)) (drop_more parts i v l ∙ ap (λ w. w ∷ drop (i + 1) parts) (sym e))
-    ∙ join_front (take i parts) (v ∷ drop (i + 1) parts) (omega arith)
+    ∙ join_prefix (take i parts) (v ∷ drop (i + 1) parts) (omega arith)
 
 -- a place past the part at i is in a later one
 pub not_last : (parts : List TextView) (i place : ℕ) (v : TextView) → i < length parts → v ≡ get_or parts i v → length (before_break (take i parts)) + length v.characters < place
@@ -103,11 +103,11 @@ lead_some parts some = sym (append-nil (before_break parts)) ∙ empty_line part
   where
     empty_line : (parts : List TextView) → 0 < length parts → before_break parts ++ [] ≡ joined parts ++ 10 ∷ []
     empty_line parts some =
-        sym (join_front parts (record { characters = []; height = 0 } ∷ []) (omega arith)) ∙ join_back parts (record { characters = []; height = 0 } ∷ []) some
+        sym (join_prefix parts (record { characters = []; height = 0 } ∷ []) (omega arith)) ∙ join_suffix parts (record { characters = []; height = 0 } ∷ []) some
 
--- the parts ahead of a text, as what `append_lines` makes of them
-pub lead_lines : (parts : List TextView) (front text cs : List ℕ) → 0 < length parts → front ≡ joined parts → cs ≡ front ++ 10 ∷ text → cs ≡ before_break parts ++ text
-lead_lines parts front text cs some f e =
+-- the parts before a text, as what `append_lines` makes of them
+pub lead_lines : (parts : List TextView) (prefix text cs : List ℕ) → 0 < length parts → prefix ≡ joined parts → cs ≡ prefix ++ 10 ∷ text → cs ≡ before_break parts ++ text
+lead_lines parts prefix text cs some f e =
     e ∙ ap (λ r. r ++ 10 ∷ text) f ∙ sym (ap (λ r. r ++ text) (lead_some parts some) ∙ append_assoc (joined parts) (10 ∷ []) text)
 
 pub length-before_break : (parts : List TextView) → 0 < length parts → length (before_break parts) ≡ length (joined parts) + 1

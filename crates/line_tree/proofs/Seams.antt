@@ -11,22 +11,22 @@ after_break-append [] ys = refl
 after_break-append (x ∷ xs) ys =
     ap (λ r. 10 ∷ (x.characters ++ r)) (after_break-append xs ys) ∙ ap (λ r. 10 ∷ r) (sym (append_assoc x.characters (after_break xs) (after_break ys)))
 
--- parts behind parts
-pub join_back : (xs ys : List TextView) → 0 < length xs → joined (xs ++ ys) ≡ joined xs ++ after_break ys
-join_back [] ys h = absurd (omega arith)
-join_back (x ∷ xs) ys h = ap (λ r. x.characters ++ r) (after_break-append xs ys) ∙ sym (append_assoc x.characters (after_break xs) (after_break ys))
+-- parts after parts
+pub join_suffix : (xs ys : List TextView) → 0 < length xs → joined (xs ++ ys) ≡ joined xs ++ after_break ys
+join_suffix [] ys h = absurd (omega arith)
+join_suffix (x ∷ xs) ys h = ap (λ r. x.characters ++ r) (after_break-append xs ys) ∙ sym (append_assoc x.characters (after_break xs) (after_break ys))
 
 pub after_break-some : (ys : List TextView) → 0 < length ys → after_break ys ≡ 10 ∷ joined ys
 after_break-some [] h = absurd (omega arith)
 after_break-some (y ∷ ys) h = refl
 
 pub join_two : (xs ys : List TextView) → 0 < length xs → 0 < length ys → joined (xs ++ ys) ≡ joined xs ++ 10 ∷ joined ys
-join_two xs ys h k = join_back xs ys h ∙ ap (λ r. joined xs ++ r) (after_break-some ys k)
+join_two xs ys h k = join_suffix xs ys h ∙ ap (λ r. joined xs ++ r) (after_break-some ys k)
 
-pub join_front : (xs ys : List TextView) → 0 < length ys → joined (xs ++ ys) ≡ before_break xs ++ joined ys
-join_front [] ys h = refl
-join_front (x ∷ xs) ys h =
-    ap (λ r. x.characters ++ r) (after_break-some (xs ++ ys) (omega (arith, length-append xs ys)) ∙ ap (λ r. 10 ∷ r) (join_front xs ys h))
+pub join_prefix : (xs ys : List TextView) → 0 < length ys → joined (xs ++ ys) ≡ before_break xs ++ joined ys
+join_prefix [] ys h = refl
+join_prefix (x ∷ xs) ys h =
+    ap (λ r. x.characters ++ r) (after_break-some (xs ++ ys) (omega (arith, length-append xs ys)) ∙ ap (λ r. 10 ∷ r) (join_prefix xs ys h))
     ∙ sym (append_assoc x.characters (10 ∷ before_break xs) (joined ys))
 
 pub two_joined : (a b : TextView) → joined (a ∷ b ∷ []) ≡ a.characters ++ 10 ∷ b.characters
@@ -39,16 +39,16 @@ regroup : (l b f a : List ℕ) → (l ++ (b ++ f)) ++ a ≡ l ++ (b ++ (f ++ a))
 regroup l b f a = append_assoc l (b ++ f) a ∙ ap (λ r. l ++ r) (append_assoc b f a)
 
 -- what stands between two lists of parts takes the place of the last part of one and the first of the other
-pub glue_joined : (front pieces back : List TextView) (last first : TextView) (between : List ℕ) → 0 < length pieces → joined pieces ≡ last.characters ++ (between ++ first.characters)
-    → joined ((front ++ pieces) ++ back) ≡ joined (front ++ last ∷ []) ++ (between ++ joined (first ∷ back))
-glue_joined front pieces back last first between some e =
-    let rest = between ++ (first.characters ++ after_break back) in
-    ap joined (append_assoc front pieces back)
-    ∙ join_front front (pieces ++ back) (omega (arith, some, length-append pieces back))
-    ∙ ap (λ r. before_break front ++ r) (join_back pieces back some ∙ ap (λ r. r ++ after_break back) e ∙ regroup last.characters between first.characters (after_break back))
-    ∙ sym (append_assoc (before_break front) last.characters rest)
-    ∙ ap (λ r. (before_break front ++ r) ++ rest) (sym (one_joined last))
-    ∙ ap (λ r. r ++ rest) (sym (join_front front (last ∷ []) (omega arith)))
+pub glue_joined : (prefix pieces suffix : List TextView) (last first : TextView) (between : List ℕ) → 0 < length pieces → joined pieces ≡ last.characters ++ (between ++ first.characters)
+    → joined ((prefix ++ pieces) ++ suffix) ≡ joined (prefix ++ last ∷ []) ++ (between ++ joined (first ∷ suffix))
+glue_joined prefix pieces suffix last first between some e =
+    let rest = between ++ (first.characters ++ after_break suffix) in
+    ap joined (append_assoc prefix pieces suffix)
+    ∙ join_prefix prefix (pieces ++ suffix) (omega (arith, some, length-append pieces suffix))
+    ∙ ap (λ r. before_break prefix ++ r) (join_suffix pieces suffix some ∙ ap (λ r. r ++ after_break suffix) e ∙ regroup last.characters between first.characters (after_break suffix))
+    ∙ sym (append_assoc (before_break prefix) last.characters rest)
+    ∙ ap (λ r. (before_break prefix ++ r) ++ rest) (sym (one_joined last))
+    ∙ ap (λ r. r ++ rest) (sym (join_prefix prefix (last ∷ []) (omega arith)))
 
 pub HaveHeight-append : (h : ℕ) (xs ys : List TextView) → HaveHeight h xs → HaveHeight h ys → HaveHeight h (xs ++ ys)
 HaveHeight-append h [] ys a b = b
@@ -75,8 +75,8 @@ single_at (suc i) v text l e = absurd (omega arith)
 
 -- what is known of one side: v is its part at i
 pub record Side (text : TextView) (height : ℕ) (parts : List TextView) (v : TextView) : Type 0 where
-  pub front : HaveHeight (height - 1) (take (length parts - 1) parts)
-  pub back : HaveHeight (height - 1) (drop 1 parts)
+  pub prefix : HaveHeight (height - 1) (take (length parts - 1) parts)
+  pub suffix : HaveHeight (height - 1) (drop 1 parts)
   pub not_higher : v.height ≤ height - 1
   pub same : text.height ≡ height → v.height ≡ height - 1
   pub falls : v.height ≤ text.height
@@ -91,8 +91,8 @@ side text height parts i v pos le level l e = sided (eq-or-lt_of_le le) where
       let all : HaveHeight (height - 1) parts = subst (λ n. HaveHeight n parts) h lower.2 in
       let at = height_of (height - 1) parts i v l e all in
       record {
-        front = HaveHeight-take (height - 1) (length parts - 1) parts all;
-        back = HaveHeight-drop (height - 1) 1 parts all;
+        prefix = HaveHeight-take (height - 1) (length parts - 1) parts all;
+        suffix = HaveHeight-drop (height - 1) 1 parts all;
         not_higher = omega (arith, at);
         same = λ _. at;
         falls = omega (arith, at, same);
@@ -103,8 +103,8 @@ side text height parts i v pos le level l e = sided (eq-or-lt_of_le le) where
       let it : v ≡ text = single_at i v text (subst (λ ps. i < length ps) alone l) (subst (λ ps. v ≡ get_or ps i v) alone e) in
       let height_is : v.height ≡ text.height = ap (λ (x : TextView). x.height) it in
       record {
-        front = subst (λ ps. HaveHeight (height - 1) (take (length ps - 1) ps)) (sym alone) tt;
-        back = subst (λ ps. HaveHeight (height - 1) (drop 1 ps)) (sym alone) tt;
+        prefix = subst (λ ps. HaveHeight (height - 1) (take (length ps - 1) ps)) (sym alone) tt;
+        suffix = subst (λ ps. HaveHeight (height - 1) (drop 1 ps)) (sym alone) tt;
         not_higher = omega (arith, height_is, lower);
         same = λ s. absurd (omega (arith, s, lower));
         falls = omega (arith, height_is);
@@ -133,8 +133,8 @@ adds_two h cs old mid new f b fh bh e one two = record {
 
 -- What holds where the last part of one text and the first part of another are put together.
 pub record Seam (left right : TextView) (height : ℕ) (lefts rights : List TextView) (last first : TextView) : Type 0 where
-  pub front : HaveHeight (height - 1) (take (length lefts - 1) lefts)
-  pub back : HaveHeight (height - 1) (drop 1 rights)
+  pub prefix : HaveHeight (height - 1) (take (length lefts - 1) lefts)
+  pub suffix : HaveHeight (height - 1) (drop 1 rights)
   pub middle : max last.height first.height ≡ height - 1
   pub falls : last.height + first.height < left.height + right.height
   pub short : length last.characters + length first.characters ≤ length left.characters + length right.characters
@@ -151,12 +151,12 @@ all_but_first : (xs : List TextView) (first : TextView) → 0 < length xs → fi
 all_but_first [] first some e = absurd (omega arith)
 all_but_first (x ∷ xs) first some e = ap (λ v. v ∷ xs) e
 
-last_short : (front : List TextView) (last : TextView) → length last.characters ≤ length (joined (front ++ last ∷ []))
-last_short front last =
-    omega (arith, ap length (join_front front (last ∷ []) (omega arith)), length-append (before_break front) (joined (last ∷ [])), ap length (one_joined last))
+last_short : (prefix : List TextView) (last : TextView) → length last.characters ≤ length (joined (prefix ++ last ∷ []))
+last_short prefix last =
+    omega (arith, ap length (join_prefix prefix (last ∷ []) (omega arith)), length-append (before_break prefix) (joined (last ∷ [])), ap length (one_joined last))
 
-first_short : (first : TextView) (back : List TextView) → length first.characters ≤ length (joined (first ∷ back))
-first_short first back = omega (arith, length-append first.characters (after_break back))
+first_short : (first : TextView) (suffix : List TextView) → length first.characters ≤ length (joined (first ∷ suffix))
+first_short first suffix = omega (arith, length-append first.characters (after_break suffix))
 
 higher_is : (a b h : ℕ) → h ≡ max a b → (a ≡ h) ⊎ (b ≡ h)
 higher_is a b h is = cases (eq-or-lt_of_le (let le : a ≤ h = omega arith in le))
@@ -185,18 +185,18 @@ pub seam : (left right : TextView) (height : ℕ) (lefts rights : List TextView)
 seam left right height lefts rights last first is pos one two last_is first_is =
     let l = side left height lefts (length lefts - 1) last pos (omega arith) one (omega (arith, one.some)) last_is in
     let r = side right height rights 0 first pos (omega arith) two (two.some) first_is in
-    let front = take (length lefts - 1) lefts in
-    let back = drop 1 rights in
-    let left_is : joined (front ++ last ∷ []) ≡ left.characters = ap joined (all_but_last lefts last one.some last_is) ∙ one.whole in
-    let right_is : joined (first ∷ back) ≡ right.characters = ap joined (all_but_first rights first two.some first_is) ∙ two.whole in
+    let prefix = take (length lefts - 1) lefts in
+    let suffix = drop 1 rights in
+    let left_is : joined (prefix ++ last ∷ []) ≡ left.characters = ap joined (all_but_last lefts last one.some last_is) ∙ one.whole in
+    let right_is : joined (first ∷ suffix) ≡ right.characters = ap joined (all_but_first rights first two.some first_is) ∙ two.whole in
     record {
-      front = l.front;
-      back = r.back;
+      prefix = l.prefix;
+      suffix = r.suffix;
       middle = middle_is left.height right.height height last.height first.height is l.same r.same l.not_higher r.not_higher;
       falls = sum_falls left.height right.height height last.height first.height is l.falls r.falls l.falls_more r.falls_more;
-      short = omega (arith, last_short front last, first_short first back, ap length left_is, ap length right_is);
+      short = omega (arith, last_short prefix last, first_short first suffix, ap length left_is, ap length right_is);
       whole = λ pieces between some e.
-          glue_joined front pieces back last first between some e ∙ ap (λ cs. cs ++ (between ++ joined (first ∷ back))) left_is ∙ ap (λ cs. left.characters ++ (between ++ cs)) right_is;
+          glue_joined prefix pieces suffix last first between some e ∙ ap (λ cs. cs ++ (between ++ joined (first ∷ suffix))) left_is ∙ ap (λ cs. left.characters ++ (between ++ cs)) right_is;
     }
 
 -- The parts of the new text: those before the seam, the pieces at it, and those after it.
@@ -214,7 +214,7 @@ sewn left between right height lefts rights last first start before after new s 
     record {
       same = subst (λ r. HaveHeight (height - 1) r) (sym e)
           (HaveHeight-append (height - 1) (take (length lefts - 1) lefts ++ adds.pieces) (drop 1 rights)
-          (HaveHeight-append (height - 1) (take (length lefts - 1) lefts) adds.pieces s.front (subst (λ n. HaveHeight n adds.pieces) s.middle adds.same)) s.back);
+          (HaveHeight-append (height - 1) (take (length lefts - 1) lefts) adds.pieces s.prefix (subst (λ n. HaveHeight n adds.pieces) s.middle adds.same)) s.suffix);
       whole = ap joined e ∙ s.whole adds.pieces between adds.some adds.whole;
     }
 

@@ -1,4 +1,5 @@
 -- A text is a list of characters in which LF is the break (Reference Manual: Text).
+use Rattle.line_tree.specs.declared.text.TheConstants.{MAX_LEN}
 use Rattle.std.specs.Prelude.{◌≡◌, ℕ, ◌-◌, List, [], ◌∷◌, ◌++◌, take, drop, count_by, Bool, true, false, ◌==◌, ◌&&◌, if◌then◌else◌}
 
 -- what contracts see of a text: its characters, and how many levels stand above its leaves
@@ -8,7 +9,7 @@ pub record TextView : Type 0 where
 
 -- the greatest length of a document, in characters
 abbrev pub max_len : ℕ
-max_len = 16777216
+max_len = MAX_LEN
 
 abbrev pub line_feed : ℕ
 line_feed = 10

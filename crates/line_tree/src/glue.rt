@@ -120,8 +120,8 @@ pub(crate) fn after_parts(
     if count == 0 {
         return Ok(text);
     }
-    let front = join_copies(text.alloc(), &parts[..count], height)?;
-    append_lines(&front, &text)
+    let prefix = join_copies(text.alloc(), &parts[..count], height)?;
+    append_lines(&prefix, &text)
 }
 
 /// The text and then the parts from `start` on, each on lines of its own.
@@ -140,8 +140,8 @@ pub(crate) fn before_parts(
     if start == parts.len() {
         return Ok(text);
     }
-    let back = join_copies(text.alloc(), &parts[start..], height)?;
-    append_lines(&text, &back)
+    let suffix = join_copies(text.alloc(), &parts[start..], height)?;
+    append_lines(&text, &suffix)
 }
 
 /// The lines of a leaf with those of another in place of the characters from `from` to `to`.

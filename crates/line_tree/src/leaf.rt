@@ -3,14 +3,16 @@ ghost use Rattle.std.specs.List.{concat};
 ghost use Rattle.line_tree.specs.Breaks.{count_breaks, IsBreakAt};
 ghost use Rattle.line_tree.specs.Pieces.{HoldsPlace, HoldsBreak};
 
-use crate::piece::{Piece, break_place_in, breaks_in};
+use crate::chunk::Chunk;
+use crate::piece::Found;
 use std::alloc::Global;
 use std::marker::Model;
 
-/// The characters of some lines, in pieces that other leaves may share.
+/// The characters of some lines, in chunks of pieces that other leaves may share: an edit in a long line copies a piece,
+/// the list of one chunk and the list of chunks.
 #[derive(Drop)]
 pub(crate) struct Leaf {
-    pub(crate) pieces: Vec<Piece>,
+    pub(crate) chunks: Vec<Chunk>,
     pub(crate) len: u32,
     pub(crate) breaks: u32,
 }
@@ -22,67 +24,59 @@ impl Model for Leaf {
 
     ghost Value = { List ℕ };
 
-    ghost view = { λ l. concat l.pieces.items };
+    ghost view = { λ l. concat l.chunks.items };
 
-    ghost invariant = { λ l. IsCounted (concat l.pieces.items) l.len l.breaks };
+    ghost invariant = { λ l. IsCounted (concat l.chunks.items) l.len l.breaks };
 }
 
-/// A piece of a leaf: where it stands, and how many breaks stand before it.
-#[derive(Clone, Copy)]
-struct PieceAt {
-    index: usize,
-    from: u32,
-    breaks: u32,
-}
-
-/// The piece that has the character at a place.
-fn piece_at(pieces: &[Piece], pos: u32) -> PieceAt
-    requires within { pos < length (concat pieces.now) }
-    requires fits { length (concat pieces.now) < 2 ^ 32 }
-    ensures { HoldsPlace pieces.now pos result.index result.from result.breaks }
+/// The chunk that has the character at a place.
+fn chunk_at(chunks: &[Chunk], pos: u32) -> Found
+    requires within { pos < length (concat chunks.now) }
+    requires fits { length (concat chunks.now) < 2 ^ 32 }
+    ensures { HoldsPlace chunks.now pos result.index result.from result.breaks }
 {
     let mut from = 0;
     let mut breaks = 0;
-    for (index, piece) in pieces.iter().enumerate() {
-        let len = piece.len();
+    for (index, chunk) in chunks.iter().enumerate() {
+        let len = chunk.len();
         if pos - from < len {
-            return PieceAt {
+            return Found {
                 index,
                 from,
                 breaks,
             };
         }
         from += len;
-        breaks += piece.breaks();
+        breaks += chunk.breaks();
     }
     unreachable!()
 }
 
-/// The piece that has the break after so many others.
-fn piece_of_break(pieces: &[Piece], before: u32) -> PieceAt
-    requires within { before < count_breaks (concat pieces.now) }
-    requires fits { length (concat pieces.now) < 2 ^ 32 }
-    ensures { HoldsBreak pieces.now before result.index result.from result.breaks }
+/// The chunk that has the break after so many others.
+fn chunk_of_break(chunks: &[Chunk], before: u32) -> Found
+    requires within { before < count_breaks (concat chunks.now) }
+    requires fits { length (concat chunks.now) < 2 ^ 32 }
+    ensures { HoldsBreak chunks.now before result.index result.from result.breaks }
 {
     let mut from = 0;
     let mut breaks = 0;
-    for (index, piece) in pieces.iter().enumerate() {
-        if before - breaks < piece.breaks() {
-            return PieceAt {
+    for (index, chunk) in chunks.iter().enumerate() {
+        if before - breaks < chunk.breaks() {
+            return Found {
                 index,
                 from,
                 breaks,
             };
         }
-        from += piece.len();
-        breaks += piece.breaks();
+        from += chunk.len();
+        breaks += chunk.breaks();
     }
     unreachable!()
 }
 
 impl Leaf {
     pub(crate) fn alloc(&self) -> Global {
-        *self.pieces.allocator()
+        *self.chunks.allocator()
     }
 
     pub(crate) fn len(&self) -> u32
@@ -105,9 +99,8 @@ impl Leaf {
         if pos == self.len {
             return self.breaks;
         }
-        let found = piece_at(self.pieces.as_slice(), pos);
-        let characters = self.pieces[found.index].chars();
-        found.breaks + breaks_in(&characters[..(pos - found.from) as usize])
+        let found = chunk_at(self.chunks.as_slice(), pos);
+        found.breaks + self.chunks[found.index].breaks_before(pos - found.from)
     }
 
     /// The place of the break after so many others.
@@ -115,19 +108,18 @@ impl Leaf {
         requires { before < count_breaks self.now }
         ensures { IsBreakAt self.now before result }
     {
-        let found = piece_of_break(self.pieces.as_slice(), before);
-        let characters = self.pieces[found.index].chars();
-        found.from + break_place_in(characters, before - found.breaks) as u32
+        let found = chunk_of_break(self.chunks.as_slice(), before);
+        found.from + self.chunks[found.index].break_place(before - found.breaks)
     }
 
-    /// Some of the characters from a place on: those of its piece.
+    /// Some of the characters from a place on: those of a piece.
     pub(crate) fn run_at(&self, pos: u32) -> &[char]
         requires { pos < length self.now }
         ensures some { 0 < length result.now }
         ensures run { result.now ≡ take (length result.now) (drop pos self.now) }
         ensures short { pos + length result.now ≤ length self.now }
     {
-        let found = piece_at(self.pieces.as_slice(), pos);
-        &self.pieces[found.index].chars()[(pos - found.from) as usize..]
+        let found = chunk_at(self.chunks.as_slice(), pos);
+        self.chunks[found.index].run_at(pos - found.from)
     }
 }

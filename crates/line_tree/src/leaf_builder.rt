@@ -2,14 +2,16 @@ ghost use Rattle.std.specs.Prelude.{◌≡◌, ◌++◌, ◌+◌, ◌^◌, ◌<�
 ghost use Rattle.std.specs.List.{concat};
 ghost use Rattle.line_tree.specs.Breaks.{count_breaks};
 
+use crate::chunk::{CHUNK_LEN, Chunk, push_piece};
 use crate::leaf::Leaf;
 use crate::piece::{PIECE_LEN, Piece, breaks_in};
 use std::alloc::{AllocError, Global};
 use std::marker::Model;
 
-/// A leaf that grows at its end. It shares the pieces that it is given whole, and copies the rest.
+/// A leaf that grows at its end. It shares the chunks and the pieces that it is given whole, and copies the rest.
 #[derive(Drop)]
 pub(crate) struct LeafBuilder {
+    chunks: Vec<Chunk>,
     pieces: Vec<Piece>,
     last: Vec<char>,
     len: u32,
@@ -23,23 +25,9 @@ impl Model for LeafBuilder {
 
     ghost Value = { List ℕ };
 
-    ghost view = { λ b. concat b.pieces.items ++ b.last.items };
+    ghost view = { λ b. concat b.chunks.items ++ (concat b.pieces.items ++ b.last.items) };
 
-    ghost invariant = { λ b. IsCounted (concat b.pieces.items ++ b.last.items) b.len b.breaks };
-}
-
-/// Adds a piece of these characters, if there are some.
-fn push_piece(pieces: &mut Vec<Piece>, characters: &[char]) -> Result<(), AllocError>
-    requires { length characters.now < 2 ^ 32 }
-    ensures value { OnOk result (concat pieces.new.items ≡ concat pieces.old.items ++ characters.now) }
-    ensures refused { OnErr result (pieces.new.items ≡ pieces.old.items) }
-{
-    if characters.is_empty() {
-        return Ok(());
-    }
-    let piece = Piece::of(*pieces.allocator(), characters)?;
-    pieces.push(piece)?;
-    Ok(())
+    ghost invariant = { λ b. IsCounted (concat b.chunks.items ++ (concat b.pieces.items ++ b.last.items)) b.len b.breaks };
 }
 
 /// Makes a piece of the last characters.
@@ -53,11 +41,75 @@ fn end_piece(pieces: &mut Vec<Piece>, last: &mut Vec<char>) -> Result<(), AllocE
     Ok(())
 }
 
+/// Adds a chunk of these pieces and then of these characters, if there are some.
+fn push_chunk(
+    chunks: &mut Vec<Chunk>,
+    pieces: &[Piece],
+    characters: &[char],
+) -> Result<(), AllocError>
+    requires { length (concat pieces.now) + length characters.now < 2 ^ 32 }
+    ensures value { OnOk result (concat chunks.new.items ≡ concat chunks.old.items ++ (concat pieces.now ++ characters.now)) }
+    ensures refused { OnErr result (chunks.new.items ≡ chunks.old.items) }
+{
+    if pieces.is_empty() && characters.is_empty() {
+        return Ok(());
+    }
+    let chunk = Chunk::of(*chunks.allocator(), pieces, characters)?;
+    chunks.push(chunk)?;
+    Ok(())
+}
+
+/// Makes a chunk of the last pieces and characters.
+fn end_chunk(
+    chunks: &mut Vec<Chunk>,
+    pieces: &mut Vec<Piece>,
+    last: &mut Vec<char>,
+) -> Result<(), AllocError>
+    requires { length (concat pieces.old.items) + length last.old.items < 2 ^ 32 }
+    ensures same { concat chunks.new.items ++ (concat pieces.new.items ++ last.new.items) ≡ concat chunks.old.items ++ (concat pieces.old.items ++ last.old.items) }
+    ensures no_pieces { OnOk result (pieces.new.items ≡ []) }
+    ensures no_last { OnOk result (last.new.items ≡ []) }
+{
+    push_chunk(chunks, pieces.as_slice(), last.as_slice())?;
+    pieces.clear();
+    last.clear();
+    Ok(())
+}
+
+/// Makes a piece of the last characters, and a chunk of the pieces where they are as many as a chunk may have.
+fn end_last(
+    chunks: &mut Vec<Chunk>,
+    pieces: &mut Vec<Piece>,
+    last: &mut Vec<char>,
+) -> Result<(), AllocError>
+    requires { length (concat pieces.old.items) + length last.old.items < 2 ^ 32 }
+    ensures same { concat chunks.new.items ++ (concat pieces.new.items ++ last.new.items) ≡ concat chunks.old.items ++ (concat pieces.old.items ++ last.old.items) }
+    ensures no_last { OnOk result (last.new.items ≡ []) }
+{
+    if pieces.len() >= CHUNK_LEN - 1 {
+        end_chunk(chunks, pieces, last)
+    } else {
+        end_piece(pieces, last)
+    }
+}
+
+/// The chunks once more.
+fn copied(chunks: &Vec<Chunk>) -> Result<Vec<Chunk>, AllocError>
+    ensures { IfOk result (λ copies. copies.items ≡ chunks.now.items) }
+{
+    let mut copies = Vec::with_capacity(*chunks.allocator(), chunks.len())?;
+    for chunk in chunks {
+        copies.push(chunk.try_copy()?)?;
+    }
+    Ok(copies)
+}
+
 impl LeafBuilder {
     pub(crate) fn new(alloc: Global) -> LeafBuilder
         ensures { result ≡ [] }
     {
         LeafBuilder {
+            chunks: Vec::new(alloc),
             pieces: Vec::new(alloc),
             last: Vec::new(alloc),
             len: 0,
@@ -77,6 +129,37 @@ impl LeafBuilder {
         self.breaks
     }
 
+    /// Adds characters to the last ones.
+    fn push_last(&mut self, characters: &[char]) -> Result<(), AllocError>
+        requires { length self.old + length characters.now < 2 ^ 32 }
+        ensures { OnOk result (self.new ≡ self.old ++ characters.now) }
+    {
+        let breaks = breaks_in(characters);
+        self.last.extend_from_slice(characters)?;
+        self.len += characters.len() as u32;
+        self.breaks += breaks;
+        Ok(())
+    }
+
+    /// Ends the last piece where it is full.
+    fn make_room(&mut self) -> Result<(), AllocError>
+        ensures { self.new ≡ self.old }
+    {
+        if self.last.len() >= PIECE_LEN {
+            end_last(&mut self.chunks, &mut self.pieces, &mut self.last)?;
+        }
+        Ok(())
+    }
+
+    /// Adds characters as a piece of their own.
+    fn push_own(&mut self, characters: &[char]) -> Result<(), AllocError>
+        requires { length self.old + length characters.now < 2 ^ 32 }
+        ensures { OnOk result (self.new ≡ self.old ++ characters.now) }
+    {
+        let piece = Piece::of(*self.pieces.allocator(), characters)?;
+        self.share(&piece)
+    }
+
     /// Adds some of the characters, at least one, and answers how many.
     fn push_some(&mut self, characters: &[char]) -> Result<usize, AllocError>
         requires some { 0 < length characters.now }
@@ -84,15 +167,14 @@ impl LeafBuilder {
         ensures count { IfOk result (λ n. (0 < n) × (n ≤ length characters.now)) }
         ensures value { IfOk result (λ n. self.new ≡ self.old ++ take n characters.now) }
     {
-        if self.last.len() >= PIECE_LEN {
-            end_piece(&mut self.pieces, &mut self.last)?;
-        }
+        self.make_room()?;
         let room = PIECE_LEN.saturating_sub(self.last.len()).max(1);
         let now = &characters[..room.min(characters.len())];
-        let breaks = breaks_in(now);
-        self.last.extend_from_slice(now)?;
-        self.len += now.len() as u32;
-        self.breaks += breaks;
+        if now.len() == PIECE_LEN {
+            self.push_own(now)?;
+        } else {
+            self.push_last(now)?;
+        }
         Ok(now.len())
     }
 
@@ -115,10 +197,23 @@ impl LeafBuilder {
         ensures { OnOk result (self.new ≡ self.old ++ piece.now) }
     {
         let copy = piece.try_copy()?;
-        end_piece(&mut self.pieces, &mut self.last)?;
+        end_last(&mut self.chunks, &mut self.pieces, &mut self.last)?;
         self.pieces.push(copy)?;
         self.len += piece.len();
         self.breaks += piece.breaks();
+        Ok(())
+    }
+
+    /// Adds a chunk, which is shared.
+    fn share_chunk(&mut self, chunk: &Chunk) -> Result<(), AllocError>
+        requires { length self.old + length chunk.now < 2 ^ 32 }
+        ensures { OnOk result (self.new ≡ self.old ++ chunk.now) }
+    {
+        let copy = chunk.try_copy()?;
+        end_chunk(&mut self.chunks, &mut self.pieces, &mut self.last)?;
+        self.chunks.push(copy)?;
+        self.len += chunk.len();
+        self.breaks += chunk.breaks();
         Ok(())
     }
 
@@ -138,6 +233,50 @@ impl LeafBuilder {
         }
     }
 
+    /// Adds some characters of pieces in a row.
+    fn push_pieces(&mut self, pieces: &[Piece], from: usize, count: usize) -> Result<(), AllocError>
+        requires within { from + count ≤ length (concat pieces.now) }
+        requires fits { length self.old + count < 2 ^ 32 }
+        ensures { OnOk result (self.new ≡ self.old ++ take count (drop from (concat pieces.now))) }
+    {
+        let mut skip = from;
+        let mut left = count;
+        for piece in pieces {
+            if left == 0 {
+                return Ok(());
+            }
+            let len = piece.len() as usize;
+            let start = skip.min(len);
+            let now = left.min(len - start);
+            self.push_part(piece, start, now)?;
+            skip -= start;
+            left -= now;
+        }
+        Ok(())
+    }
+
+    /// Adds some characters of a chunk, and shares it where it is added whole and has pieces enough.
+    fn push_chunk_part(
+        &mut self,
+        chunk: &Chunk,
+        from: usize,
+        count: usize,
+    ) -> Result<(), AllocError>
+        requires within { from + count ≤ length chunk.now }
+        requires fits { length self.old + count < 2 ^ 32 }
+        ensures { OnOk result (self.new ≡ self.old ++ take count (drop from chunk.now)) }
+    {
+        if count == 0 {
+            return Ok(());
+        }
+        let pieces = chunk.pieces();
+        if count == chunk.len() as usize && self.pieces.len() + pieces.len() > CHUNK_LEN / 2 {
+            self.share_chunk(chunk)
+        } else {
+            self.push_pieces(pieces, from, count)
+        }
+    }
+
     /// Adds some characters of a leaf.
     pub(crate) fn push_leaf(&mut self, leaf: &Leaf, from: u32, count: u32) -> Result<(), AllocError>
         requires within { from + count ≤ length leaf.now }
@@ -146,14 +285,14 @@ impl LeafBuilder {
     {
         let mut skip = from as usize;
         let mut left = count as usize;
-        for piece in &leaf.pieces {
+        for chunk in &leaf.chunks {
             if left == 0 {
                 return Ok(());
             }
-            let len = piece.len() as usize;
+            let len = chunk.len() as usize;
             let start = skip.min(len);
             let now = left.min(len - start);
-            self.push_part(piece, start, now)?;
+            self.push_chunk_part(chunk, start, now)?;
             skip -= start;
             left -= now;
         }
@@ -172,13 +311,10 @@ impl LeafBuilder {
     pub(crate) fn leaf(&self) -> Result<Leaf, AllocError>
         ensures { IfOk result (λ l. l ≡ self.now) }
     {
-        let mut pieces = Vec::with_capacity(*self.pieces.allocator(), self.pieces.len() + 1)?;
-        for piece in &self.pieces {
-            pieces.push(piece.try_copy()?)?;
-        }
-        push_piece(&mut pieces, self.last.as_slice())?;
+        let mut chunks = copied(&self.chunks)?;
+        push_chunk(&mut chunks, self.pieces.as_slice(), self.last.as_slice())?;
         Ok(Leaf {
-            pieces,
+            chunks,
             len: self.len,
             breaks: self.breaks,
         })
@@ -191,14 +327,15 @@ impl LeafBuilder {
         ensures { IfOk result (λ l. l ≡ self) }
     {
         let LeafBuilder {
-            mut pieces,
+            mut chunks,
+            pieces,
             last,
             len,
             breaks,
         } = self;
-        push_piece(&mut pieces, last.as_slice())?;
+        push_chunk(&mut chunks, pieces.as_slice(), last.as_slice())?;
         Ok(Leaf {
-            pieces,
+            chunks,
             len,
             breaks,
         })

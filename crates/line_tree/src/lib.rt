@@ -8,6 +8,7 @@
 #![tactic(auto)]
 
 mod builder;
+mod chunk;
 mod cursor;
 mod glue;
 mod leaf;

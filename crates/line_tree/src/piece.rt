@@ -6,7 +6,7 @@ use std::marker::Model;
 use std::rc::Rc;
 
 /// The greatest number of characters that are put into one piece.
-pub(crate) const PIECE_LEN: usize = 4096;
+pub(crate) const PIECE_LEN: usize = 1024;
 
 /// Some characters that leaves share. Their numbers stand beside them, so that looking for a place reads no characters.
 #[derive(Drop)]
@@ -25,6 +25,14 @@ impl Model for Piece {
     ghost view = { λ p. p.characters.value.items };
 
     ghost invariant = { λ p. IsCounted p.characters.value.items p.len p.breaks };
+}
+
+/// A piece or a chunk in a row of them: where it stands, and how many breaks stand before it.
+#[derive(Clone, Copy)]
+pub(crate) struct Found {
+    pub(crate) index: usize,
+    pub(crate) from: u32,
+    pub(crate) breaks: u32,
 }
 
 impl Piece {
@@ -81,7 +89,13 @@ pub(crate) fn breaks_in(characters: &[char]) -> u32
     requires { length characters.now < 2 ^ 32 }
     ensures { result ≡ count_breaks characters.now }
 {
-    characters.iter().filter(|c| **c == '\n').count() as u32
+    let mut breaks = 0;
+    for c in characters {
+        if *c == '\n' {
+            breaks += 1;
+        }
+    }
+    breaks
 }
 
 /// The place of the break after so many others.

@@ -375,7 +375,7 @@ impl Text {
     }
 
     /// The characters before a place.
-    pub(crate) fn front(&self, pos: u32) -> Result<Text, AllocError>
+    pub(crate) fn prefix(&self, pos: u32) -> Result<Text, AllocError>
         requires { pos ≤ length self.now.characters }
         ensures { IfOk result (λ t. t.characters ≡ take pos self.now.characters) }
     {
@@ -383,7 +383,7 @@ impl Text {
             Node::Leaf(leaf) => make_leaf(leaf.alloc(), leaf.part(0, pos)?),
             Node::Branch(branch) => {
                 let found = part_at(branch.parts.as_slice(), pos);
-                let part = branch.parts[found.index].front(pos - found.from)?;
+                let part = branch.parts[found.index].prefix(pos - found.from)?;
                 after_parts(
                     branch.parts.as_slice(),
                     found.index,
@@ -395,7 +395,7 @@ impl Text {
     }
 
     /// The characters from a place on.
-    pub(crate) fn back(&self, pos: u32) -> Result<Text, AllocError>
+    pub(crate) fn suffix(&self, pos: u32) -> Result<Text, AllocError>
         requires { pos ≤ length self.now.characters }
         ensures { IfOk result (λ t. t.characters ≡ drop pos self.now.characters) }
     {
@@ -403,7 +403,7 @@ impl Text {
             Node::Leaf(leaf) => make_leaf(leaf.alloc(), leaf.part(pos, leaf.len() - pos)?),
             Node::Branch(branch) => {
                 let found = part_at(branch.parts.as_slice(), pos);
-                let part = branch.parts[found.index].back(pos - found.from)?;
+                let part = branch.parts[found.index].suffix(pos - found.from)?;
                 before_parts(
                     branch.parts.as_slice(),
                     found.index + 1,
@@ -434,9 +434,9 @@ impl Text {
         requires fits { length self.now.characters - (to - from) + length inserted.now.characters < 2 ^ 32 }
         ensures { IfOk result (λ t. t.characters ≡ replaced from to inserted.now.characters self.now.characters) }
     {
-        let front = self.front(from)?;
-        let back = self.back(to)?;
-        front.append(inserted)?.append(&back)
+        let prefix = self.prefix(from)?;
+        let suffix = self.suffix(to)?;
+        prefix.append(inserted)?.append(&suffix)
     }
 
     /// The characters of this text, then those of the other (Text.append). `Err`: out of memory.
@@ -454,11 +454,11 @@ impl Text {
         ensures { IfOk result (λ t. t.characters ≡ slice from to self.now.characters) }
     {
         if from == 0 {
-            self.front(to)
+            self.prefix(to)
         } else if to == self.len() {
-            self.back(from)
+            self.suffix(from)
         } else {
-            self.front(to)?.back(from)
+            self.prefix(to)?.suffix(from)
         }
     }
 

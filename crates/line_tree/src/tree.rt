@@ -53,10 +53,10 @@ pub(crate) fn add_lines(alloc: Global, leaf: Leaf, out: &mut Vec<Text>) -> Resul
         return Ok(());
     }
     let place = leaf.break_place(leaf.breaks() / 2);
-    let front = leaf.part(0, place)?;
-    let back = leaf.part(place + 1, leaf.len() - place - 1)?;
-    out.push(make_leaf(alloc, front)?)?;
-    out.push(make_leaf(alloc, back)?)?;
+    let prefix = leaf.part(0, place)?;
+    let suffix = leaf.part(place + 1, leaf.len() - place - 1)?;
+    out.push(make_leaf(alloc, prefix)?)?;
+    out.push(make_leaf(alloc, suffix)?)?;
     Ok(())
 }
 

@@ -8,8 +8,8 @@ use Rattle.change_set.proofs.filter.filtered.Given as goal
 abbrev pub invariant-loop-section : goal.invariant-loop-section
 invariant-loop-section l =
     record {
-      level : l.at + old_size (drop l.section-index l.sections) ≡ l.len;
-      ended : HasEnded l.ranges l.known l.at;
+      level : l.at + old_size (drop l.section-index l.sections) ≡ l.by.len;
+      ended : HasEnded l.by.ranges.now l.known l.at;
       is_normal : normal spelled l.done.items ≡ l.done.items;
-      rest : half_from (taking l.half l.ranges l.len) l.done.items l.at (drop l.section-index l.sections) ≡ half_from (taking l.half l.ranges l.len) [] 0 l.sections;
+      rest : half_from (taking l.by.half l.by.ranges.now l.by.len) l.done.items l.at (drop l.section-index l.sections) ≡ half_from (taking l.by.half l.by.ranges.now l.by.len) [] 0 l.sections;
     }

@@ -9,9 +9,9 @@ use Rattle.change_set.proofs.filter.push_deletion.Goals as goal
 
 pub push_run-requires : goal.push_run-requires
 push_run-requires c =
-    let half = c.args.half in
-    let rs = c.args.ranges.now in
-    let len = c.args.len in
+    let half = c.args.by.half in
+    let rs = c.args.by.ranges.now in
+    let len = c.args.by.len in
     let at = c.args.at in
     let to = c.run_from-run.result.to in
     let s = c.requires.room.0 in
@@ -34,9 +34,9 @@ push_runs-requires-clause-is_normal c =
 
 pub push_runs-requires-clause-room : goal.push_runs-requires-clause-room
 push_runs-requires-clause-room c =
-    let half = c.args.half in
-    let rs = c.args.ranges.now in
-    let len = c.args.len in
+    let half = c.args.by.half in
+    let rs = c.args.by.ranges.now in
+    let len = c.args.by.len in
     let at = c.args.at in
     let to = c.run_from-run.result.to in
     let s = c.requires.room.0 in
@@ -53,9 +53,9 @@ push_runs-requires-clause-room c =
 
 pub returns-clause-rest : goal.returns-clause-rest
 returns-clause-rest c =
-    let half = c.args.half in
-    let rs = c.args.ranges.now in
-    let len = c.args.len in
+    let half = c.args.by.half in
+    let rs = c.args.by.ranges.now in
+    let len = c.args.by.len in
     let at = c.args.at in
     let to = c.run_from-run.result.to in
     let b = c.takes-is_taken.result in

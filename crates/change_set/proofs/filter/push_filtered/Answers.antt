@@ -11,9 +11,9 @@ use Rattle.change_set.proofs.filter.push_filtered.Goals as goal
 
 pub push_section-requires : goal.push_section-requires
 push_section-requires c =
-    let half = c.args.half in
-    let rs = c.args.ranges.now in
-    let len = c.args.len in
+    let half = c.args.by.half in
+    let rs = c.args.by.ranges.now in
+    let len = c.args.by.len in
     let at = c.args.at in
     let p = c.args.done.now.items in
     let s = c.requires.room.0 in
@@ -25,9 +25,9 @@ push_section-requires c =
 
 pub push_section-requires-then-takes : goal.push_section-requires-then-takes
 push_section-requires-then-takes c =
-    let half = c.args.half in
-    let rs = c.args.ranges.now in
-    let len = c.args.len in
+    let half = c.args.by.half in
+    let rs = c.args.by.ranges.now in
+    let len = c.args.by.len in
     let at = c.args.at in
     let p = c.args.done.now.items in
     let t = c.in-Replace.text in
@@ -44,9 +44,9 @@ push_section-requires-then-takes c =
 
 pub returns-in_ok-push_section-in-Keep : goal.returns-in_ok-push_section-in-Keep
 returns-in_ok-push_section-in-Keep c =
-    let half = c.args.half in
-    let rs = c.args.ranges.now in
-    let len = c.args.len in
+    let half = c.args.by.half in
+    let rs = c.args.by.ranges.now in
+    let len = c.args.by.len in
     let at = c.args.at in
     let p = c.args.done.now.items in
     let n = c.in-Keep.kept in
@@ -62,9 +62,9 @@ returns-in_ok-push_section-in-Keep c =
 
 pub returns-in_ok-push_section-in-Replace : goal.returns-in_ok-push_section-in-Replace
 returns-in_ok-push_section-in-Replace c =
-    let half = c.args.half in
-    let rs = c.args.ranges.now in
-    let len = c.args.len in
+    let half = c.args.by.half in
+    let rs = c.args.by.ranges.now in
+    let len = c.args.by.len in
     let at = c.args.at in
     let p = c.args.done.now.items in
     let t = c.in-Replace.text in

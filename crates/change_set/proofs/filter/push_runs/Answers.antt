@@ -9,9 +9,9 @@ use Rattle.change_set.proofs.filter.push_runs.Goals as goal
 
 pub push_run-requires : goal.push_run-requires
 push_run-requires c =
-    let half = c.args.half in
-    let rs = c.args.ranges.now in
-    let len = c.args.len in
+    let half = c.args.by.half in
+    let rs = c.args.by.ranges.now in
+    let len = c.args.by.len in
     let pos = c.runs.pos in
     let to = c.run_from-run.result.to in
     let end = c.args.end in
@@ -30,9 +30,9 @@ push_run-requires c =
 
 pub runs-preserved : goal.runs-preserved
 runs-preserved c =
-    let half = c.args.half in
-    let rs = c.args.ranges.now in
-    let len = c.args.len in
+    let half = c.args.by.half in
+    let rs = c.args.by.ranges.now in
+    let len = c.args.by.len in
     let pos = c.runs.pos in
     let to = c.run_from-run.result.to in
     let end = c.args.end in
@@ -40,7 +40,7 @@ runs-preserved c =
     record {
       from = omega (arith, c.runs.invariant.from, c.run_from-run.ensures.run.some);
       order = c.run_from-run.ensures.run.within;
-      ended = ended-later c.args.ranges.now c.ended-count.result pos to (omega (arith, c.run_from-run.ensures.run.some)) c.ended-count.ensures.ended;
+      ended = ended-later c.args.by.ranges.now c.ended-count.result pos to (omega (arith, c.run_from-run.ensures.run.some)) c.ended-count.ensures.ended;
       is_normal = filtered-normal c.runs.done.items c.push_run.new.done.items (run_section b (to - pos) c.of-none.result) c.in_ok-push_run.ensures;
       rest = λ s.
           filter-push c.runs.done.items c.push_run.new.done.items (pieced (taking half rs len) pos (times spelled (end - pos) follows (along_old spelled s)))

@@ -11,9 +11,9 @@ invariant-runs l =
     record {
       from : l.from ≤ l.pos;
       order : l.pos ≤ l.end;
-      ended : HasEnded l.ranges l.count l.pos;
+      ended : HasEnded l.by.ranges.now l.count l.pos;
       is_normal : normal spelled l.done.items ≡ l.done.items;
-      rest : (s : List (Section (List ℕ))) → half_within (taking l.half l.ranges l.len) l.done.items l.pos (l.end - l.pos) s ≡ half_within (taking l.half l.ranges l.len) l.fn.done.items l.from (l.end - l.from) s;
+      rest : (s : List (Section (List ℕ))) → half_within (taking l.by.half l.by.ranges.now l.by.len) l.done.items l.pos (l.end - l.pos) s ≡ half_within (taking l.by.half l.by.ranges.now l.by.len) l.fn.done.items l.from (l.end - l.from) s;
     }
 
 abbrev pub decreases-runs : goal.decreases-runs

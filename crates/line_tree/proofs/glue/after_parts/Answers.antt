@@ -17,11 +17,11 @@ join_copies-requires-clause-fits c =
 pub append_lines-requires : goal.append_lines-requires
 append_lines-requires c =
     let parts = take c.args.count c.args.parts.now in
-    rw c.in_ok-front.ensures (omega (arith, length-before_break parts (omega (arith, length-take c.args.count c.args.parts.now))))
+    rw c.in_ok-prefix.ensures (omega (arith, length-before_break parts (omega (arith, length-take c.args.count c.args.parts.now))))
 
 pub returns : goal.returns
 returns c =
     let parts = take c.args.count c.args.parts.now in
     IfOk-weaker c.append_lines.result _ _
-    (λ t e. lead_lines parts c.in_ok-front.front.characters c.args.text.characters t.characters (omega (arith, length-take c.args.count c.args.parts.now)) c.in_ok-front.ensures e)
+    (λ t e. lead_lines parts c.in_ok-prefix.prefix.characters c.args.text.characters t.characters (omega (arith, length-take c.args.count c.args.parts.now)) c.in_ok-prefix.ensures e)
     c.append_lines.ensures

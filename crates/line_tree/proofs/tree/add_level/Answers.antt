@@ -24,8 +24,8 @@ returns c =
     let half = c.len-half.result / 2 in
     let f = c.in_ok-make_branch-2.ensures in
     let b = c.in_ok-make_branch-3.ensures in
-    let front : c.in_ok-make_branch-2.field-0.characters ≡ joined (take half c.args.parts.items) = f.0 ∙ ap joined c.in_ok-rest.ensures.items in
-    let back : c.in_ok-make_branch-3.field-0.characters ≡ joined (drop half c.args.parts.items) = b.0 ∙ ap joined c.in_ok-rest.ensures.tail in
+    let prefix : c.in_ok-make_branch-2.field-0.characters ≡ joined (take half c.args.parts.items) = f.0 ∙ ap joined c.in_ok-rest.ensures.items in
+    let suffix : c.in_ok-make_branch-3.field-0.characters ≡ joined (drop half c.args.parts.items) = b.0 ∙ ap joined c.in_ok-rest.ensures.tail in
     adds_two _ _ _ _ _ c.in_ok-make_branch-2.field-0 c.in_ok-make_branch-3.field-0 f.1 b.1
-    (split_parts c.args.parts.items half (omega arith) (omega arith) ∙ rw (← front, ← back))
+    (split_parts c.args.parts.items half (omega arith) (omega arith) ∙ rw (← prefix, ← suffix))
     c.in_ok-push-2.ensures.items c.in_ok-push-3.ensures.items

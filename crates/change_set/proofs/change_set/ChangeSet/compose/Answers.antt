@@ -5,7 +5,9 @@ use Rattle.change_desc.proofs.Lengths.{spelled_sizes, compose-lengths}
 use Rattle.change_desc.specs.Sections.{apply, spelled, counted, lengths, old_size, new_size, IsSet}
 use Rattle.change_desc.specs.Compose.{compose}
 use Rattle.change_set.proofs.Sizes.{old_size-compose, new_size-compose}
+use Rattle.change_desc.specs.Laws.{CutsAreShared}
 use Rattle.change_set.specs.Texts.{written}
+use Rattle.change_set.proofs.SharedCuts.{cuts_are_shared}
 use Rattle.change_set.proofs.Composed.{filled-is, filled-total, filled-is_set}
 use Rattle.change_set.proofs.change_set.ChangeSet.compose.Goals as goal
 
@@ -38,5 +40,6 @@ returns c =
       starts = ap old_size w ∙ old_size-compose c.args.self.now c.args.next.now c.requires;
       ends = ap (new_size spelled) w ∙ new_size-compose c.args.self.now c.args.next.now c.requires;
       in_turn = λ doc l. ap (λ r. apply r doc) w ∙ apply-compose c.args.self.now c.args.next.now doc l c.requires;
+      shared = subst (CutsAreShared c.args.self.now c.args.next.now) (sym w) (cuts_are_shared c.args.self.now c.args.next.now c.requires);
       described = ap (lengths spelled) w ∙ compose-lengths spelled spelled_sizes c.args.self.now c.args.next.now;
     }

@@ -2,9 +2,9 @@ use Rattle.std.proofs.Common.{◌≡◌, ◌++◌, ◌+◌, ◌<◌, ◌≤◌, 
 use Rattle.std.specs.List.{concat}
 use Rattle.line_tree.proofs.leaf_builder.LeafBuilder.push_leaf.Given as goal
 
-abbrev pub invariant-loop-piece : goal.invariant-loop-piece
-invariant-loop-piece l = record {
-  value : l.self ++ take l.left (drop l.skip (concat (drop l.piece-index l.piece-items))) ≡ l.fn.self ++ take l.fn.count (drop l.fn.from l.fn.leaf);
-  within : l.skip + l.left ≤ length (concat (drop l.piece-index l.piece-items));
+abbrev pub invariant-loop-chunk : goal.invariant-loop-chunk
+invariant-loop-chunk l = record {
+  value : l.self ++ take l.left (drop l.skip (concat (drop l.chunk-index l.chunk-items))) ≡ l.fn.self ++ take l.fn.count (drop l.fn.from l.fn.leaf);
+  within : l.skip + l.left ≤ length (concat (drop l.chunk-index l.chunk-items));
   fits : length l.self + l.left < 2 ^ 32;
 }

@@ -3,7 +3,7 @@ use Rattle.std.proofs.lemmas.Result.{IfOk-weaker}
 use Rattle.line_tree.specs.Places.{PartHoldsPlace, before_break}
 use Rattle.line_tree.proofs.Nodes.{at_branch}
 use Rattle.line_tree.proofs.PartPlaces.{split_there}
-use Rattle.line_tree.proofs.text.Text.+front.Goals as goal
+use Rattle.line_tree.proofs.text.Text.+prefix.Goals as goal
 
 pub returns-in_ok-part-in-Branch : goal.returns-in_ok-part-in-Branch
 returns-in_ok-part-in-Branch t c =

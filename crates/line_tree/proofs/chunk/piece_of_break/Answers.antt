@@ -1,6 +1,6 @@
 use Rattle.std.proofs.Common.{arith}
 use Rattle.line_tree.proofs.Concats.{length_more, count_more, length_part}
-use Rattle.line_tree.proofs.leaf.piece_of_break.Goals as goal
+use Rattle.line_tree.proofs.chunk.piece_of_break.Goals as goal
 
 pub overflow_add-from : goal.overflow_add-from
 overflow_add-from c =

@@ -1,7 +1,7 @@
 use Rattle.std.proofs.Common.{◌≡◌, ◌≤◌, length, take}
 use Rattle.std.specs.List.{concat}
 use Rattle.line_tree.specs.Breaks.{count_breaks}
-use Rattle.line_tree.proofs.leaf.piece_at.Given as goal
+use Rattle.line_tree.proofs.chunk.piece_at.Given as goal
 
 abbrev pub invariant-loop-index : goal.invariant-loop-index
 invariant-loop-index l = record {

@@ -1,7 +1,7 @@
 use Rattle.std.proofs.Common.{◌++◌, ◌∙◌, ap}
 use Rattle.std.specs.List.{concat}
 use Rattle.line_tree.proofs.Concats.{concat_push}
-use Rattle.line_tree.proofs.leaf_builder.push_piece.Goals as goal
+use Rattle.line_tree.proofs.chunk.push_piece.Goals as goal
 
 pub returns-clause-value : goal.returns-clause-value
 returns-clause-value c =

@@ -6,7 +6,7 @@ use Rattle.line_tree.specs.Places.{PartHoldsPlace}
 use Rattle.line_tree.proofs.Nodes.{at_branch, at_leaf}
 use Rattle.line_tree.proofs.Counts.{count_take, count_drop}
 use Rattle.line_tree.proofs.PartPlaces.{split_there}
-use Rattle.line_tree.proofs.text.Text.+back.Goals as goal
+use Rattle.line_tree.proofs.text.Text.+suffix.Goals as goal
 
 pub make_leaf-requires-clause-few : goal.make_leaf-requires-clause-few
 make_leaf-requires-clause-few t c =
