@@ -1,5 +1,9 @@
 pub mod Datum
+pub mod Form
+pub mod Fitting
 pub mod KeptMaps
 pub mod Plain
 pub mod PlainFalls
+pub mod Shape
+pub mod ShapeFalls
 pub mod UserEvents
