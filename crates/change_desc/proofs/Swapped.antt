@@ -2,7 +2,8 @@
 use Rattle.std.proofs.Common.{◌≡◌, ℕ, false, refl, arith}
 use Rattle.change_desc.specs.Sections.{counted}
 use Rattle.change_desc.specs.Columns.{Row, last, next, Fate, stays, leaves, follows}
-use Rattle.change_desc.specs.Algebra.{character, text_of, text_size}
+use Rattle.change_desc.specs.Compose.{text_of}
+use Rattle.change_desc.specs.Map.{character, text_size}
 use Rattle.change_desc.specs.MapSteps.{merged_len, pieces_new}
 use Rattle.change_desc.proofs.MapLengths.{column_new, ends_new}
 

@@ -9,7 +9,6 @@ pub mod Compose
 pub mod Map
 pub mod Of
 pub mod Filter
-pub mod Algebra
 pub mod Examples
 pub mod Steps
 pub mod Tails

@@ -7,7 +7,6 @@ pub use Rattle.change_desc.specs.Compose
 pub use Rattle.change_desc.specs.Map
 pub use Rattle.change_desc.specs.Of
 pub use Rattle.change_desc.specs.Filter
-pub use Rattle.change_desc.specs.Algebra
 pub use Rattle.change_desc.specs.Laws
 pub use Rattle.change_desc.specs.Ranges
 pub mod Changes

@@ -6,7 +6,7 @@ use Rattle.line_tree.specs.Text.{max_len}
 use Rattle.change_desc.specs.declared.section.Section.{Section}
 use Rattle.change_desc.specs.declared.section.Section.TheVariants.{Keep, Replace}
 use Rattle.change_desc.specs.Sections.{spelled, old_size, new_size, invert}
-use Rattle.change_desc.specs.Algebra.{compose}
+use Rattle.change_desc.specs.Compose.{compose}
 use Rattle.change_set.proofs.Sizes.{old_size-compose, new_size-compose}
 use Rattle.change_set.proofs.Sameness.{sections-equal}
 use Rattle.selection.specs.declared.range.Range.{Range}

@@ -8,7 +8,7 @@ use Rattle.change_desc.specs.declared.section.Section.{Section}
 use Rattle.change_desc.specs.declared.section.Section.TheVariants.{Keep, Replace}
 use Rattle.change_desc.specs.Sections.{spelled, counted, lengths, old_size, new_size}
 use Rattle.change_desc.specs.Columns.{along_old}
-use Rattle.change_desc.specs.Algebra.{map_over}
+use Rattle.change_desc.specs.Map.{map_over}
 use Rattle.change_desc.specs.Ranges.{changes_nothing}
 use Rattle.change_desc.proofs.Lengths.{map_over-lengths, spelled_sizes}
 use Rattle.change_desc.proofs.Measures.{new_size-map_over}

@@ -2,7 +2,7 @@
 use Rattle.std.specs.Prelude.{◌≡◌, ℕ, true, false, ℤ, pos, List, [], ◌∷◌, length, Some, None, option_map, refl}
 use Rattle.change_desc.specs.declared.section.Section.{Section}
 use Rattle.change_desc.specs.Sections.{spelled}
-use Rattle.change_desc.specs.Algebra.{span}
+use Rattle.change_desc.specs.Of.{span}
 use Rattle.selection.specs.Selections.{SelectionView}
 use Rattle.history.specs.declared.isolation.Isolation.{Isolation}
 use Rattle.history.specs.declared.isolation.Isolation.TheVariants.{Before, After, Full}

@@ -3,7 +3,7 @@ use Rattle.std.specs.Prelude.{ℕ, Bool, true, false, cond, not, ◌&&◌, ◌==
 use Rattle.line_tree.specs.Text.{max_len}
 use Rattle.change_desc.specs.declared.section.Section.{Section}
 use Rattle.change_desc.specs.Sections.{spelled, counted, lengths, new_size}
-use Rattle.change_desc.specs.Algebra.{map_over}
+use Rattle.change_desc.specs.Map.{map_over}
 use Rattle.change_desc.specs.Ranges.{changes_nothing}
 use Rattle.kept_effects.specs.MappedValues.{moved_effects}
 use Rattle.selection.specs.Selections.{moved_selection}

@@ -5,7 +5,7 @@ use Rattle.std.specs.Ordering.{int_eq}
 use Rattle.line_tree.specs.Text.{max_len}
 use Rattle.change_desc.specs.declared.section.Section.{Section}
 use Rattle.change_desc.specs.Sections.{spelled, lengths, old_size, new_size, invert}
-use Rattle.change_desc.specs.Algebra.{compose}
+use Rattle.change_desc.specs.Compose.{compose}
 use Rattle.change_desc.specs.Ranges.{changes_nothing}
 use Rattle.change_set.specs.Same.{same_sections}
 use Rattle.kept_effects.specs.MappedValues.{moved_effects}

@@ -148,7 +148,8 @@ impl History {
         ensures leads { IfOk result (λ next. IsTrue (leads_from (new_size spelled input.now.changes) next)) }
         ensures restores { IfOk result (λ next. Restores (start_of self.now input.now) input.now next) }
     {
-        let _ = &self.lists;
+        // The proof takes from this line what the type keeps of its lists.
+        let _lists = &self.lists;
         if self.leads_from(input.document.len()) {
             return self.next(input);
         }

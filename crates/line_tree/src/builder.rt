@@ -202,6 +202,7 @@ impl TextBuilder {
         requires fits { length self.old + count < 2 ^ 32 }
         ensures { OnOk result (self.new ≡ self.old ++ take count (drop from leaf.now)) }
     {
+        // The proof takes from this line that the length of the leaf fits u32.
         let _fits = leaf.len();
         let breaks = leaf.breaks_before(from + count) - leaf.breaks_before(from);
         if self.last.breaks() + breaks > 63 {
@@ -268,6 +269,7 @@ impl TextBuilder {
         match &*text.node {
             Node::Leaf(leaf) => self.push_lines(leaf, from, count),
             Node::Branch(_) => {
+                // The proof takes from this line that the length of the text fits u32.
                 let _fits = text.len();
                 self.push_tree(&text.slice(from, from + count)?)
             }

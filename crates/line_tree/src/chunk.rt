@@ -235,6 +235,7 @@ impl Chunk {
         requires { before < count_breaks self.now }
         ensures { IsBreakAt self.now before result }
     {
+        // The proof takes from this line that the length fits u32.
         let _fits = self.len();
         place_of_break(self.pieces(), before)
     }
@@ -246,6 +247,7 @@ impl Chunk {
         ensures run { result.now ≡ take (length result.now) (drop pos self.now) }
         ensures short { pos + length result.now ≤ length self.now }
     {
+        // The proof takes from this line that the length fits u32.
         let _fits = self.len();
         run_in(self.pieces(), pos)
     }

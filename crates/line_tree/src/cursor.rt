@@ -19,6 +19,7 @@ fn copy_characters(
     requires fits { length builder.old + count < 2 ^ 32 }
     ensures { OnOk result (builder.new ≡ builder.old ++ take count (drop from text.now.characters)) }
 {
+    // The proof takes from this line that the length of the text fits u32.
     let _fits = text.len();
     let mut pos = from;
     let mut left = count;

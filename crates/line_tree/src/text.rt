@@ -183,6 +183,7 @@ impl Text {
         ensures value { result ≡ self.now.height }
         ensures tall { 2 ^ result ≤ length (lines_of self.now.characters) }
     {
+        // The proof takes from this line that the count of breaks fits u32.
         let _breaks = self.breaks();
         self.levels()
     }
@@ -250,6 +251,7 @@ impl Text {
         if breaks == 0 {
             0
         } else {
+            // The proof takes from this line that the length fits u32.
             let _fits = self.len();
             self.break_place(breaks - 1) + 1
         }
@@ -276,6 +278,7 @@ impl Text {
         ensures order { result.from ≤ result.to }
         ensures within { result.to ≤ length self.now.characters }
     {
+        // The proof takes from this line that the count of breaks fits u32.
         let _breaks = self.breaks();
         let breaks = (number - 1) as u32;
         Line {

@@ -3,7 +3,7 @@ use Rattle.std.proofs.Common.{◌≡◌, ◌≢◌, ℕ, List, Some, None, Ok, s
 use Rattle.std.specs.Prelude.{option_and_then}
 use Rattle.change_desc.specs.declared.section.Section.{Section}
 use Rattle.change_desc.specs.Sections.{spelled}
-use Rattle.change_desc.specs.Algebra.{of}
+use Rattle.change_desc.specs.Of.{of}
 use Rattle.line_tree.specs.Text.{max_len}
 use Rattle.change_set.specs.declared.change.Change.{Change}
 use Rattle.change_set.specs.declared.error.ChangesError.{ChangesError}

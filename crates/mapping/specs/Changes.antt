@@ -3,7 +3,7 @@ use Rattle.std.specs.Prelude.{ℕ, List, option_and_then, Result}
 use Rattle.line_tree.specs.Text.{max_len}
 use Rattle.change_desc.specs.declared.section.Section.{Section}
 use Rattle.change_desc.specs.Sections.{spelled}
-use Rattle.change_desc.specs.Algebra.{of}
+use Rattle.change_desc.specs.Of.{of}
 use Rattle.change_set.specs.declared.change.Change.{Change}
 use Rattle.change_set.specs.Changes.{as_sets}
 use Rattle.change_set.specs.Refusals.{refusal}

@@ -4,7 +4,9 @@ use Rattle.line_tree.specs.Text.{cut}
 use Rattle.change_desc.specs.declared.section.Section.{Section}
 use Rattle.change_desc.specs.Sections.{spelled, counted, old_size, new_size, lengths, apply, invert}
 use Rattle.change_desc.specs.Positions.{map_pos, is_negative}
-use Rattle.change_desc.specs.Algebra.{compose, map_over, filter_kept}
+use Rattle.change_desc.specs.Compose.{compose}
+use Rattle.change_desc.specs.Map.{map_over}
+use Rattle.change_desc.specs.Filter.{filter_kept}
 use Rattle.script.specs.declared.refusal.Refusal.{Refusal}
 use Rattle.script.specs.declared.map_request.MapOp.{MapOp}
 use Rattle.script.specs.declared.map_request.MapOp.TheVariants.{Of, Compose, Map, MapBefore, Invert, Filter}

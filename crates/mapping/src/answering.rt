@@ -2,7 +2,9 @@ ghost use Rattle.std.specs.Prelude.{◌≡◌, ◌≤◌, ◌+◌, ◌^◌, ◌<
 ghost use Rattle.line_tree.specs.Text.{cut, max_len};
 ghost use Rattle.change_desc.specs.Sections.{old_size, new_size, spelled, counted, lengths, apply, invert};
 ghost use Rattle.change_desc.specs.Positions.{map_pos, is_negative};
-ghost use Rattle.change_desc.specs.Algebra.{compose, map_over, filter_kept};
+ghost use Rattle.change_desc.specs.Compose.{compose};
+ghost use Rattle.change_desc.specs.Map.{map_over};
+ghost use Rattle.change_desc.specs.Filter.{filter_kept};
 ghost use Rattle.script.specs.Reading.{Gives};
 ghost use Rattle.mapping.specs.Mapping.{second_len, answered_set, answered_text, place_at, mapped_place, both_sets, mapped, answer_of, parts_of};
 

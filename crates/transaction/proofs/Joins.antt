@@ -2,7 +2,8 @@
 use Rattle.std.proofs.Common.{◌≡◌, ℕ, ◌≤◌, ◌<◌, ◌^◌, List, refl, sym, ap, subst, ◌∙◌}
 use Rattle.change_desc.specs.declared.section.Section.{Section}
 use Rattle.change_desc.specs.Sections.{spelled, counted, lengths, new_size, old_size}
-use Rattle.change_desc.specs.Algebra.{compose, then_also}
+use Rattle.change_desc.specs.Compose.{compose}
+use Rattle.change_desc.specs.Of.{then_also}
 use Rattle.change_desc.proofs.Merges.{old_size-lengths, new_size-lengths}
 use Rattle.transaction.specs.declared.draft.Draft.{Draft}
 use Rattle.transaction.specs.declared.effect_kinds.EffectKinds.{EffectKinds}

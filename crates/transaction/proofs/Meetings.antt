@@ -4,7 +4,9 @@ use Rattle.std.proofs.lemmas.Bool.Decides.{nat_tests}
 use Rattle.change_desc.specs.declared.section.Section.{Section}
 use Rattle.change_desc.specs.Sections.{spelled, counted, lengths, new_size, old_size}
 use Rattle.change_desc.specs.Columns.{along_old}
-use Rattle.change_desc.specs.Algebra.{compose, map_over, then_also}
+use Rattle.change_desc.specs.Compose.{compose}
+use Rattle.change_desc.specs.Map.{map_over}
+use Rattle.change_desc.specs.Of.{then_also}
 use Rattle.change_desc.proofs.Swapped.{merged_len-swap}
 use Rattle.change_desc.proofs.Measures.{new_size-map_over}
 use Rattle.change_desc.proofs.Merges.{old_size-lengths, new_size-lengths, old_size-map_over}

@@ -3,7 +3,7 @@ use Rattle.std.proofs.Common.{◌≡◌, ℕ, ◌≤◌, Bool, true, false, List
 use Rattle.std.specs.Prelude.{option_map}
 use Rattle.std.specs.Option.{option_or, unwrap_or}
 use Rattle.change_desc.specs.Sections.{spelled, new_size, old_size}
-use Rattle.change_desc.specs.Algebra.{of}
+use Rattle.change_desc.specs.Of.{of}
 use Rattle.change_set.specs.Changes.{as_sets}
 use Rattle.change_set.specs.Refusals.{refusal}
 use Rattle.change_set.proofs.Sizes.{new_size-compose}

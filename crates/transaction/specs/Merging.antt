@@ -4,7 +4,9 @@ use Rattle.std.specs.Option.{option_or, unwrap_or}
 use Rattle.change_desc.specs.declared.section.Section.{Section}
 use Rattle.change_desc.specs.declared.section.Section.TheVariants.{Keep}
 use Rattle.change_desc.specs.Sections.{spelled, counted, lengths, new_size, old_size, normal}
-use Rattle.change_desc.specs.Algebra.{compose, map_over, of, then_also}
+use Rattle.change_desc.specs.Compose.{compose}
+use Rattle.change_desc.specs.Map.{map_over}
+use Rattle.change_desc.specs.Of.{of, then_also}
 use Rattle.change_set.specs.Changes.{as_sets}
 use Rattle.selection.specs.Selections.{LieIn, SelectionView, moved_selection, normal_form}
 use Rattle.transaction.specs.declared.draft.Draft.{Draft}

@@ -1,7 +1,7 @@
 -- A spec that was made into a draft by itself. Private.
 use Rattle.std.specs.Prelude.{◌≡◌, ℕ, ◌≤◌, Option, None}
 use Rattle.change_desc.specs.Sections.{spelled, new_size, old_size}
-use Rattle.change_desc.specs.Algebra.{of}
+use Rattle.change_desc.specs.Of.{of}
 use Rattle.change_set.specs.Changes.{as_sets}
 use Rattle.change_set.specs.Refusals.{refusal}
 use Rattle.transaction.specs.declared.spec.Made.{Made}

@@ -2,7 +2,9 @@
 use Rattle.std.specs.Prelude.{◌≡◌, ℕ, List, true, false, None}
 use Rattle.change_desc.specs.Sections.{spelled, counted, lengths, new_size, old_size}
 use Rattle.change_desc.specs.declared.section.Section.{Section}
-use Rattle.change_desc.specs.Algebra.{compose, map_over, then_also}
+use Rattle.change_desc.specs.Compose.{compose}
+use Rattle.change_desc.specs.Map.{map_over}
+use Rattle.change_desc.specs.Of.{then_also}
 use Rattle.transaction.specs.declared.meeting.Meeting.{Meeting}
 use Rattle.transaction.specs.Merging.{Changes}
 use Rattle.transaction.specs.Refusals.{too_long}

@@ -1,5 +1,5 @@
 ghost use Rattle.std.specs.Prelude.{IfErr, IfOk, None, Some, ◌≡◌, ◌≢◌, ◌≤◌};
-ghost use Rattle.change_desc.specs.Algebra.{then_also};
+ghost use Rattle.change_desc.specs.Of.{then_also};
 ghost use Rattle.change_desc.specs.Sections.{new_size, old_size, spelled};
 ghost use Rattle.transaction.specs.PrivateExtras.{draft_of, extras_of};
 ghost use Rattle.transaction.specs.Frames.{IsFrame};

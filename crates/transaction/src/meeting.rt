@@ -1,6 +1,7 @@
 ghost use Rattle.std.specs.Prelude.{IfErr, IfOk, false, ◌<◌, ◌^◌, ◌≡◌, ◌≢◌};
 ghost use Rattle.change_desc.specs.Sections.{lengths, new_size, old_size, spelled};
-ghost use Rattle.change_desc.specs.Algebra.{map_over, then_also};
+ghost use Rattle.change_desc.specs.Map.{map_over};
+ghost use Rattle.change_desc.specs.Of.{then_also};
 ghost use Rattle.transaction.specs.PrivateMeetings.{IsMeeting, IsMet};
 ghost use Rattle.transaction.specs.Refusals.{too_long};
 

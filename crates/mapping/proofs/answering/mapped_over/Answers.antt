@@ -1,6 +1,6 @@
 use Rattle.std.proofs.Common.{sym, ap, ◌∙◌, length, arith}
 use Rattle.change_desc.specs.Sections.{spelled, counted, new_size}
-use Rattle.change_desc.specs.Algebra.{map_over}
+use Rattle.change_desc.specs.Map.{map_over}
 use Rattle.mapping.proofs.SetLengths.{mapped_new, lengths_new, applied_len}
 use Rattle.mapping.proofs.answering.mapped_over.Goals as goal
 

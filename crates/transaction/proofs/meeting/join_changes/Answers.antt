@@ -1,7 +1,7 @@
 use Rattle.std.proofs.Common.{◌≤◌, ◌<◌, ◌^◌, refl, arith}
 use Rattle.transaction.proofs.Meetings.{described, merged-size, moved-size, is_long, is_meeting, fits_by}
 use Rattle.change_desc.specs.Sections.{spelled}
-use Rattle.change_desc.specs.Algebra.{then_also}
+use Rattle.change_desc.specs.Of.{then_also}
 use Rattle.transaction.proofs.meeting.join_changes.Goals as goal
 
 pub mapped_len-len-requires : goal.mapped_len-len-requires
