@@ -1,0 +1,10 @@
+pub use Rattle.line_tree.specs.Text
+pub use Rattle.change_desc.specs.Sections
+pub use Rattle.cm_plain.specs.Form
+pub use Rattle.cm_plain.specs.Shape
+pub use Rattle.selection.specs.Selections
+pub use Rattle.transaction.specs.Numbers
+pub mod Rules
+pub mod Transactions
+pub mod Vals
+pub mod Views
