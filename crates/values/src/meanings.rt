@@ -2,6 +2,7 @@ ghost use Rattle.std.specs.Prelude.{◌≡◌, IfOk};
 ghost use Rattle.cm_plain.specs.Shape.{form_of};
 ghost use Rattle.transaction.specs.Numbers.{IsNumber};
 ghost use Rattle.values.specs.Rules.{AreLawful, Rules};
+ghost use Rattle.values.specs.Shipped.{KeepsShipped};
 
 use cm_plain::Shape;
 use std::alloc::{AllocError, Global};
@@ -84,4 +85,7 @@ pub trait Meanings {
 
     /// Each answer is of its output shape, and comparers are sound.
     ghost lawful: { AreLawful rules };
+
+    /// The numbers of the shipped rules keep their meanings.
+    ghost keeps: { KeepsShipped rules };
 }

@@ -1,5 +1,6 @@
 ghost use Rattle.std.specs.Prelude.{◌≡◌, ◌↔◌, IfOk, IsTrue};
 ghost use Rattle.cm_plain.specs.Shape.{form_of};
+ghost use Rattle.values.specs.Equality.{equal};
 ghost use Rattle.values.specs.Vals.{is_of, plain_of};
 
 use cm_plain::{Plain, Shape};
@@ -20,15 +21,10 @@ pub enum Val {
 impl Val {
     /// Whether both are equal.
     pub fn same(&self, other: &Val) -> bool
-        ensures { IsTrue result ↔ (self.now ≡ other.now) }
+        ensures equal { IsTrue result ↔ (self.now ≡ other.now) }
+        ensures value { result ≡ equal self.now other.now }
     {
-        match (self, other) {
-            (Val::Plain(a), Val::Plain(b)) => a.same(b),
-            (Val::Ranges(a), Val::Ranges(b)) => a.same(b),
-            (Val::Layers(a), Val::Layers(b)) => a.same(b),
-            (Val::History(a), Val::History(b)) => a.same(b),
-            _ => false,
-        }
+        same_parts(self, other)
     }
 
     /// The same value once more. Sets, and the items of a history, are shared. `Err`: out of memory.
@@ -54,6 +50,19 @@ impl Val {
             (Val::History(_), Shape::History) => true,
             _ => false,
         }
+    }
+}
+
+/// Whether both are of one kind and have equal parts.
+fn same_parts(left: &Val, right: &Val) -> bool
+    ensures { IsTrue result ↔ (left.now ≡ right.now) }
+{
+    match (left, right) {
+        (Val::Plain(a), Val::Plain(b)) => a.same(b),
+        (Val::Ranges(a), Val::Ranges(b)) => a.same(b),
+        (Val::Layers(a), Val::Layers(b)) => a.same(b),
+        (Val::History(a), Val::History(b)) => a.same(b),
+        _ => false,
     }
 }
 
