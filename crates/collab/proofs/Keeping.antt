@@ -1,5 +1,5 @@
 -- A client that keeps to an authority goes on to, through its own changes and through updates that it takes and the authority takes.
-use Rattle.std.proofs.Common.{◌≡◌, ◌≢◌, ℕ, zero, suc, ◌+◌, ◌-◌, ◌≤◌, ◌<◌, ◌^◌, Bool, true, false, cond, List, [], ◌∷◌, ◌++◌, length, drop, take, map, Option, Some, None, bytes_eq, refl, sym, ap, subst, ◌∙◌, arith, length-append, append_assoc, length-drop}
+use Rattle.std.proofs.Common.{◌≡◌, ◌≢◌, ℕ, zero, suc, ◌+◌, ◌-◌, ◌≤◌, Bool, true, false, cond, List, [], ◌∷◌, ◌++◌, length, drop, take, Option, Some, None, bytes_eq, refl, sym, ap, subst, ◌∙◌, arith, length-append, append_assoc, length-drop}
 use Rattle.std.proofs.lemmas.List.{append-nil, take-append-drop}
 use Rattle.std.proofs.Math.Seq.{take-append-le, drop-append-le, take_all, drop-length, length-take-le, drop-drop, drop-nil, take-nil}
 use Rattle.std.specs.Option.{option_or}
@@ -8,10 +8,10 @@ use Rattle.change_desc.specs.Sections.{Sections, spelled, apply, old_size, new_s
 use Rattle.collab.specs.declared.update.Update.{Update}
 use Rattle.collab.specs.Updates.{applied, LeadOn, AllBear, numbers_of, CountOn}
 use Rattle.collab.specs.Lengths.{too_long}
-use Rattle.collab.specs.Authorities.{AuthorityView, CanTake, IsAuthority, latest, pushed, slice_of, text_at, update_count}
-use Rattle.collab.specs.Clients.{ClientView, CanReceive, Confirms, IsClient, IsFirst, all_mapped, all_taken, client_lengths, document, gone_on, joined, local_update, pending_after, received, receive_refusal, taken, taking_refusal, unseen, with_local}
+use Rattle.collab.specs.Authorities.{AuthorityView, CanTake, IsAuthority, latest, pushed, slice_of, update_count}
+use Rattle.collab.specs.Clients.{ClientView, CanReceive, Confirms, IsFirst, all_mapped, all_taken, client_lengths, document, gone_on, joined, local_update, pending_after, received, taken, taking_refusal, unseen, with_local}
 use Rattle.collab.specs.Invariants.{IsPart, KeepsTo, Sent}
-use Rattle.collab.proofs.Names.{same_name, name_test, other_test, numbers, numbers-append, numbers_of-append, own_numbers, bear-left, count-left}
+use Rattle.collab.proofs.Names.{same_name, name_test, numbers, numbers-append, numbers_of-append, bear-left, count-left}
 use Rattle.collab.proofs.Texts.{applied-append, leads-left, leads-right}
 use Rattle.collab.proofs.Crossings.{mapped-append, mapped-length}
 use Rattle.collab.proofs.Taking.{own_pending, other_pending, local-client, taken-client, joined-client}

@@ -7,3 +7,4 @@ pub mod Crossed
 pub mod Keeping
 pub mod Worlds
 pub mod Outcomes
+pub mod Distinct

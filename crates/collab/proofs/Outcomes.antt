@@ -1,19 +1,18 @@
 -- What each world keeps, whether an event is refused or not, and what is answered of it.
-use Rattle.std.proofs.Common.{◌≡◌, ℕ, zero, suc, ◌+◌, ◌≤◌, ◌<◌, ◌^◌, Bool, true, false, cond, ltb, eqb, List, [], ◌∷◌, ◌++◌, length, Option, Some, None, Result, Ok, Err, OnOk, OnErr, slice_get, slice_set, slice_index_or, option_and_then, refl, sym, ap, subst, ◌∙◌, arith}
+use Rattle.std.proofs.Common.{◌≡◌, ℕ, zero, suc, ◌+◌, ◌≤◌, ◌<◌, ◌^◌, Bool, true, false, cond, ltb, eqb, List, [], ◌∷◌, length, Option, Some, None, Result, Ok, Err, OnOk, OnErr, slice_get, slice_set, slice_index_or, option_and_then, refl, sym, ap, subst, ◌∙◌}
 use Rattle.std.specs.Bool.{⊤}
 use Rattle.std.proofs.lemmas.Bool.{eqb-true, ltb-false}
 use Rattle.std.proofs.lemmas.Option.{slice_get_read}
 use Rattle.change_set.specs.declared.change.Change.{Change}
 use Rattle.collab.specs.declared.error.CollabError.{CollabError}
 use Rattle.collab.specs.declared.error.CollabError.TheVariants.{Ahead, Stale}
-use Rattle.collab.specs.declared.message.Message.{Message}
 use Rattle.collab.specs.declared.message.Message.TheVariants.{Push, Updates}
 use Rattle.collab.specs.declared.update.Update.{Update}
 use Rattle.collab.specs.Lengths.{lengths_after, too_long}
 use Rattle.collab.specs.Authorities.{AuthorityView, CanTake, latest, push_refusal, pushed, update_count}
 use Rattle.collab.specs.Clients.{CanReceive, ClientView, IsLocal, receive_refusal, received, taking_refusal, unseen}
 use Rattle.collab.specs.Worlds.{WorldView, changed_at, with_authority, with_clients}
-use Rattle.collab.specs.Stepping.{after_local, delivered, delivery_refusal, local_refusal, local_set, received_by, receiving_refusal}
+use Rattle.collab.specs.Stepping.{after_local, delivered, delivery_refusal, local_set, received_by, receiving_refusal}
 use Rattle.collab.specs.Invariants.{HasSender, IsPart, IsWorld}
 use Rattle.collab.proofs.Keeping.{can-receive, can-take, received-name}
 use Rattle.collab.proofs.Worlds.{client-kept, follows-local, follows-received, push-kept}

@@ -1,5 +1,5 @@
 -- A client after one of the authority's updates.
-use Rattle.std.proofs.Common.{◌≡◌, ◌≢◌, ℕ, zero, suc, ◌+◌, ◌≤◌, ◌<◌, Bool, true, false, cond, List, [], ◌∷◌, ◌++◌, length, drop, take, map, fold, Option, Some, None, bytes_eq, refl, sym, ap, subst, ◌∙◌, arith, length-append, append_assoc}
+use Rattle.std.proofs.Common.{◌≡◌, ℕ, suc, ◌+◌, ◌≤◌, Bool, true, false, cond, List, [], ◌∷◌, ◌++◌, length, drop, None, bytes_eq, refl, sym, ap, subst, ◌∙◌, arith, length-append}
 use Rattle.std.specs.Option.{option_or}
 use Rattle.line_tree.specs.Text.{max_len}
 use Rattle.change_desc.specs.Sections.{Sections, spelled, apply, old_size, new_size}
@@ -7,11 +7,11 @@ use Rattle.change_set.proofs.Sizes.{length-apply}
 use Rattle.collab.specs.declared.update.Update.{Update}
 use Rattle.collab.specs.Updates.{applied, LeadOn, AllBear, CountOn}
 use Rattle.collab.specs.Lengths.{lengths_after, lengths_with, too_long}
-use Rattle.collab.specs.Clients.{ClientView, CanReceive, Confirms, IsClient, IsFirst, all_mapped, client_lengths, document, gone_on, joined, local_update, pending_after, taken, taking_refusal, with_local}
+use Rattle.collab.specs.Clients.{ClientView, CanReceive, IsClient, IsFirst, all_mapped, client_lengths, document, joined, local_update, pending_after, taken, taking_refusal, with_local}
 use Rattle.collab.specs.Views.{at_version}
-use Rattle.collab.proofs.Names.{same_name, name_test, numbers, numbers-append, numbers-length, bear-append, count-append}
+use Rattle.collab.proofs.Names.{same_name, numbers, numbers-append, numbers-length, bear-append, count-append}
 use Rattle.collab.proofs.Texts.{sizes, applied-append, leads-append, lengths-append, lengths-sizes, none-append, rest-within, within}
-use Rattle.collab.proofs.Crossings.{crossed-leads, crossed-texts, mapped-bear, mapped-length, mapped-numbers}
+use Rattle.collab.proofs.Crossings.{crossed-leads, mapped-bear, mapped-length, mapped-numbers}
 
 -- the client with an update of the authority applied to its confirmed text, and these updates unconfirmed
 abbrev pub with_pending : ClientView → Update → List Update → ClientView

@@ -1,5 +1,5 @@
 -- Texts with updates applied in turn, and their lengths.
-use Rattle.std.proofs.Common.{◌≡◌, ◌≢◌, ℕ, suc, ◌+◌, ◌≤◌, ◌<◌, ◌^◌, Bool, true, false, cond, ltb, List, [], ◌∷◌, ◌++◌, length, map, Option, Some, None, bytes_eq, refl, sym, ap, subst, ◌∙◌, arith, length-append}
+use Rattle.std.proofs.Common.{◌≡◌, ℕ, ◌+◌, ◌≤◌, ◌<◌, ◌^◌, Bool, true, false, cond, ltb, List, [], ◌∷◌, ◌++◌, length, map, Some, None, bytes_eq, refl, sym, ap, subst, ◌∙◌, arith, length-append}
 use Rattle.std.proofs.lemmas.List.{append-nil}
 use Rattle.std.proofs.lemmas.Bool.{ltb-false, le-ltb}
 use Rattle.line_tree.specs.Text.{max_len}
@@ -8,7 +8,7 @@ use Rattle.change_set.proofs.Sizes.{length-apply}
 use Rattle.collab.specs.declared.error.CollabError.{CollabError}
 use Rattle.collab.specs.declared.error.CollabError.TheVariants.{TooLong}
 use Rattle.collab.specs.declared.update.Update.{Update}
-use Rattle.collab.specs.Updates.{applied, LeadOn, AllBear, numbers_of, CountOn}
+use Rattle.collab.specs.Updates.{applied, LeadOn, numbers_of, CountOn}
 use Rattle.collab.specs.Lengths.{lengths_after, lengths_with, too_long}
 use Rattle.collab.specs.Authorities.{AuthorityView, CanTake, IsAuthority, latest, pushed, update_count}
 use Rattle.collab.proofs.Names.{same_name, other_name, own_numbers, other_numbers, numbers_of-append, count-append}

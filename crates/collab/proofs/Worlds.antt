@@ -1,14 +1,14 @@
 -- What each world keeps, through each event.
-use Rattle.std.proofs.Common.{◌≡◌, ◌≢◌, ℕ, zero, suc, ◌+◌, ◌≤◌, ◌<◌, ◌^◌, Bool, true, false, cond, List, [], ◌∷◌, ◌++◌, length, drop, take, map, Option, Some, None, slice_get, bytes_eq, refl, sym, ap, subst, ◌∙◌, arith, length-append}
+use Rattle.std.proofs.Common.{◌≡◌, ℕ, zero, suc, ◌+◌, ◌≤◌, ◌<◌, ◌^◌, Bool, true, false, List, [], ◌∷◌, ◌++◌, length, map, Some, None, slice_get, bytes_eq, refl, sym, ap, subst, ◌∙◌, arith, length-append}
 use Rattle.line_tree.specs.Text.{max_len}
-use Rattle.change_desc.specs.Sections.{Sections, spelled, old_size, new_size}
+use Rattle.change_desc.specs.Sections.{Sections}
 use Rattle.collab.specs.declared.message.Message.{Message}
 use Rattle.collab.specs.declared.message.Message.TheVariants.{Push, Updates}
 use Rattle.collab.specs.declared.update.Update.{Update}
 use Rattle.collab.specs.Updates.{applied}
 use Rattle.collab.specs.Lengths.{lengths_after, too_long}
-use Rattle.collab.specs.Authorities.{AuthorityView, CanTake, IsAuthority, latest, opened, pushed, slice_of, text_at, update_count}
-use Rattle.collab.specs.Clients.{ClientView, IsLocal, document, joined, received, taking_refusal, unseen, with_local}
+use Rattle.collab.specs.Authorities.{AuthorityView, CanTake, IsAuthority, latest, opened, pushed, text_at, update_count}
+use Rattle.collab.specs.Clients.{ClientView, IsLocal, joined, received, taking_refusal, unseen, with_local}
 use Rattle.collab.specs.Worlds.{AreDistinct, WorldView, begun, changed_at, with_authority, with_clients, with_message}
 use Rattle.collab.specs.Invariants.{HasSender, IsPart, IsWorld, KeepsTo, Sent, WasSent}
 use Rattle.collab.specs.Converging.{Converges}

@@ -1,5 +1,5 @@
 -- An authority (package @codemirror/collab, the central authority): a start text, and updates each over the text of those before.
-use Rattle.std.specs.Prelude.{◌≡◌, ℕ, ◌+◌, ◌-◌, ◌<◌, ◌^◌, cond, eqb, List, [], ◌++◌, length, take, drop, map, Option, Some, None}
+use Rattle.std.specs.Prelude.{◌≡◌, ℕ, ◌-◌, ◌<◌, ◌^◌, cond, eqb, List, [], ◌++◌, length, take, drop, map, Option, Some, None}
 use Rattle.collab.specs.declared.error.CollabError.{CollabError}
 use Rattle.collab.specs.declared.error.CollabError.TheVariants.{Stale}
 use Rattle.collab.specs.declared.update.Update.{Update}

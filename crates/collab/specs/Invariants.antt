@@ -1,5 +1,5 @@
 -- What holds between the authority, the clients and the messages of a world.
-use Rattle.std.specs.Prelude.{◌≡◌, ℕ, ◌+◌, ◌<◌, ◌≤◌, ◌^◌, List, [], ◌++◌, length, take, drop, map, Some, slice_get}
+use Rattle.std.specs.Prelude.{◌≡◌, ℕ, ◌+◌, ◌<◌, ◌≤◌, ◌^◌, List, ◌++◌, length, take, drop, map, Some, slice_get}
 use Rattle.collab.specs.declared.message.Message.{Message}
 use Rattle.collab.specs.declared.message.Message.TheVariants.{Push, Updates}
 use Rattle.collab.specs.declared.update.Update.{Update}

@@ -1,5 +1,7 @@
 -- A world: an authority, clients, and all messages that were ever sent.
-use Rattle.std.specs.Prelude.{◌≡◌, ℕ, zero, suc, List, [], ◌∷◌, ◌++◌, length, map, Option, Some, slice_get}
+use Rattle.std.specs.Prelude.{◌≡◌, ℕ, zero, suc, cond, List, [], ◌∷◌, ◌++◌, map, Option, Some, None, slice_get}
+use Rattle.std.specs.List.{list_any}
+use Rattle.std.specs.Str.{bytes_eq}
 use Rattle.collab.specs.declared.message.Message.{Message}
 use Rattle.collab.specs.Authorities.{AuthorityView, opened}
 use Rattle.collab.specs.Clients.{ClientView, joined}
@@ -16,6 +18,11 @@ begun text names = record { authority = opened text; clients = map (λ name. joi
 -- no name stands twice
 abbrev pub AreDistinct : List (List ℕ) → Type 0
 AreDistinct names = (i j : ℕ) (name : List ℕ) → slice_get names i ≡ Some name → slice_get names j ≡ Some name → i ≡ j
+
+-- of names after others, the first that stands among those before it
+abbrev pub taken_name : (others : List (List ℕ)) → List (List ℕ) → Option (List ℕ)
+taken_name others [] = None
+taken_name others (name ∷ names) = cond (list_any (bytes_eq name) others) (Some name) (taken_name (others ++ name ∷ []) names)
 
 -- a list with one item changed
 abbrev pub changed_at : {A : Type 0} → ℕ → (A → A) → List A → List A

@@ -14,6 +14,7 @@ mod error;
 mod event;
 mod lengths;
 mod message;
+mod name_list;
 mod update;
 mod world;
 
@@ -22,5 +23,6 @@ pub use crate::client::Client;
 pub use crate::error::CollabError;
 pub use crate::event::Event;
 pub use crate::message::Message;
+pub use crate::name_list::first_taken;
 pub use crate::update::Update;
 pub use crate::world::World;

@@ -1,4 +1,4 @@
-use Rattle.std.proofs.Common.{◌≡◌, Some, slice_get, option_and_then, option_map, ap, ◌∙◌}
+use Rattle.std.proofs.Common.{option_and_then, option_map, ap, ◌∙◌}
 use Rattle.collab.specs.Errors.{of_changes_error}
 use Rattle.collab.specs.Stepping.{after_local, local_refusal}
 use Rattle.collab.proofs.Outcomes.{read_item, set-changed}

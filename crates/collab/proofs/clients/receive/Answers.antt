@@ -1,4 +1,4 @@
-use Rattle.std.proofs.Common.{◌≡◌, Some, slice_get, option_and_then, ap, ◌∙◌}
+use Rattle.std.proofs.Common.{option_and_then, ap, ◌∙◌}
 use Rattle.std.proofs.lemmas.Result.{on_ok_weaker, MatchResult-weaker}
 use Rattle.collab.specs.Clients.{receive_refusal, received}
 use Rattle.collab.proofs.Outcomes.{read_item, set-changed}

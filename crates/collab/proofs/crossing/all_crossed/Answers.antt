@@ -1,11 +1,11 @@
-use Rattle.std.proofs.Common.{◌≡◌, ◌+◌, ◌++◌, ◌∷◌, [], List, drop, map, sym, ap, subst, ◌∙◌, arith, append_assoc}
+use Rattle.std.proofs.Common.{◌≡◌, ◌+◌, ◌++◌, ◌∷◌, [], List, drop, sym, ap, subst, ◌∙◌, arith, append_assoc}
 use Rattle.change_desc.specs.Sections.{spelled, new_size, old_size}
 use Rattle.collab.specs.declared.update.Update.{Update}
 use Rattle.collab.specs.Updates.{LeadOn}
 use Rattle.collab.specs.Lengths.{too_long}
 use Rattle.collab.specs.Clients.{all_mapped, gone_on, going_on, mapped_over}
 use Rattle.collab.proofs.Crossings.{going-old}
-use Rattle.collab.proofs.Texts.{sizes, past, none-first}
+use Rattle.collab.proofs.Texts.{sizes, none-first}
 use Rattle.collab.proofs.Items.{next-item}
 use Rattle.collab.proofs.crossing.all_crossed.Goals as goal
 

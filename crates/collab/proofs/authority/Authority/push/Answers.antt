@@ -1,8 +1,8 @@
-use Rattle.std.proofs.Common.{◌≡◌, ◌+◌, ◌<◌, ◌^◌, Bool, Some, None, List, cond, eqb, length, sym, ap, ◌∙◌}
+use Rattle.std.proofs.Common.{◌≡◌, Some, cond, sym, ap, ◌∙◌}
 use Rattle.std.proofs.lemmas.Bool.{eq-eqb}
 use Rattle.collab.specs.declared.error.CollabError.TheVariants.{Stale}
 use Rattle.collab.specs.Lengths.{lengths_after, too_long}
-use Rattle.collab.specs.Authorities.{CanTake, latest, push_refusal, update_count}
+use Rattle.collab.specs.Authorities.{CanTake, latest, update_count}
 use Rattle.collab.proofs.Texts.{lengths-sizes}
 use Rattle.collab.proofs.authority.Authority.push.Goals as goal
 

@@ -1,7 +1,7 @@
-use Rattle.std.proofs.Common.{◌≡◌, ◌++◌, List, None, sym, ap, subst, ◌∙◌}
+use Rattle.std.proofs.Common.{◌≡◌, ◌++◌, List, sym, ap, subst, ◌∙◌}
 use Rattle.collab.specs.declared.update.Update.{Update}
 use Rattle.collab.specs.Updates.{applied}
-use Rattle.collab.specs.Authorities.{AuthorityView, IsAuthority, latest, pushed}
+use Rattle.collab.specs.Authorities.{AuthorityView, IsAuthority, pushed}
 use Rattle.collab.proofs.Texts.{applied-append, pushed-authority}
 use Rattle.collab.proofs.authority.Authority.take.Goals as goal
 

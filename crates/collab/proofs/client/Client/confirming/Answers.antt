@@ -1,4 +1,4 @@
-use Rattle.std.proofs.Common.{◌≡◌, ◌+◌, suc, drop, sym, ap, subst, ◌∙◌, arith}
+use Rattle.std.proofs.Common.{◌≡◌, ◌+◌, suc, drop, ap, subst, ◌∙◌, arith}
 use Rattle.change_desc.specs.Sections.{apply}
 use Rattle.collab.specs.Clients.{IsClient}
 use Rattle.collab.proofs.Taking.{confirmed_is}

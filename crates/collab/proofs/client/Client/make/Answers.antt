@@ -1,7 +1,7 @@
-use Rattle.std.proofs.Common.{◌≡◌, ℕ, List, ◌+◌, ◌++◌, ◌∷◌, [], suc, length, sym, ap, subst, ◌∙◌, arith}
+use Rattle.std.proofs.Common.{◌≡◌, ℕ, List, ◌+◌, ◌++◌, ◌∷◌, [], length, sym, ap, ◌∙◌, arith}
 use Rattle.change_desc.specs.Sections.{apply, old_size}
 use Rattle.collab.specs.Updates.{applied}
-use Rattle.collab.specs.Clients.{ClientView, IsClient, document, local_update}
+use Rattle.collab.specs.Clients.{ClientView, document, local_update}
 use Rattle.collab.specs.Views.{client_view}
 use Rattle.collab.proofs.Taking.{local-text, made_is}
 use Rattle.collab.proofs.client.Client.make.Goals as goal

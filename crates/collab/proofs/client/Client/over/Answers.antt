@@ -1,7 +1,7 @@
 use Rattle.std.proofs.Common.{◌≡◌, ◌+◌, suc, length, sym, ap, subst, ◌∙◌, arith}
 use Rattle.change_desc.specs.Sections.{apply, old_size}
 use Rattle.collab.specs.Updates.{applied}
-use Rattle.collab.specs.Clients.{IsClient, all_mapped, document, gone_on}
+use Rattle.collab.specs.Clients.{IsClient, document, gone_on}
 use Rattle.collab.proofs.Crossings.{crossed-texts, gone-old}
 use Rattle.collab.proofs.Taking.{crossed_is}
 use Rattle.collab.proofs.client.Client.over.Goals as goal

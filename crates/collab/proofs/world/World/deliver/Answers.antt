@@ -1,7 +1,6 @@
-use Rattle.std.proofs.Common.{◌≡◌, ◌+◌, ◌<◌, ◌^◌, Some, length, slice_get, sym, ap, subst, ◌∙◌}
+use Rattle.std.proofs.Common.{◌≡◌, ◌<◌, Some, length, slice_get, sym, ap, subst, ◌∙◌}
 use Rattle.std.proofs.lemmas.Result.{on_ok_weaker, MatchResult-weaker}
 use Rattle.collab.specs.declared.message.Message.TheVariants.{Push, Updates}
-use Rattle.collab.specs.Authorities.{update_count}
 use Rattle.collab.specs.Worlds.{WorldView}
 use Rattle.collab.specs.Stepping.{HasPlaces}
 use Rattle.collab.specs.Invariants.{HasSender, IsPart}
