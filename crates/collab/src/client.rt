@@ -133,6 +133,31 @@ impl Client {
         Ok(())
     }
 
+    /// This client as local changes would leave it; it stays as it is. `Err`: as for `local`.
+    pub fn changed(&self, changes: &[Change]) -> Result<Client, ChangesError>
+        requires { self.now.made + 1 < 2 ^ 32 }
+        ensures value { IfOk result (λ c. c ≡ after_local changes.now self.now) }
+        ensures accepted { OnOk result (refusal (length (document self.now)) max_len changes.now ≡ None) }
+        ensures refused { IfErr result (λ e. e ≢ changes_error.NoMemory → refusal (length (document self.now)) max_len changes.now ≡ Some e) }
+    {
+        let mut next = self.try_copy()?;
+        next.local(changes)?;
+        Ok(next)
+    }
+
+    /// This client as the authority's updates from a position of its list on would leave it; it stays as it is. `Err`: as for
+    /// `receive`.
+    pub fn received(&self, from: u32, updates: &[Update]) -> Result<Client, CollabError>
+        requires { from ≤ self.now.version → CanReceive self.now (unseen self.now from updates.now) }
+        ensures value { IfOk result (λ c. c ≡ received self.now from updates.now) }
+        ensures accepted { OnOk result (receive_refusal self.now from updates.now ≡ None) }
+        ensures refused { IfErr result (λ e. e ≢ NoMemory → receive_refusal self.now from updates.now ≡ Some e) }
+    {
+        let mut next = self.try_copy()?;
+        next.receive(from, updates)?;
+        Ok(next)
+    }
+
     /// Receives the authority's updates from a position of its list on; those that it has seen are passed over. `Err`: they begin
     /// past its version; or else a text would be too long, with the first such length; or out of memory. After an error nothing
     /// has changed.
@@ -179,7 +204,7 @@ impl Client {
     }
 
     /// The same client once more. `Err`: out of memory.
-    fn try_copy(&self) -> Result<Client, AllocError>
+    pub fn try_copy(&self) -> Result<Client, AllocError>
         ensures { IfOk result (λ copy. copy ≡ self.now) }
     {
         let pending = copies(*self.pending.allocator(), self.pending.as_slice())?;

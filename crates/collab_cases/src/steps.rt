@@ -1,5 +1,5 @@
 use change_set::{Change, InsertedText};
-use collab::{CollabError, Event, World};
+use collab::{Client, CollabError, Event, World};
 use line_tree::{Text, cut_len};
 use listed::Listed;
 use std::alloc::{AllocError, Global};
@@ -19,6 +19,10 @@ pub(crate) enum Step {
     Take(u32, u32),
     /// A client has a text, so many unconfirmed updates, and a version.
     Has(u32, &'static [char], usize, u32),
+    /// A client would have a text if it put one in.
+    WouldHave(u32, u32, &'static [char], &'static [char]),
+    /// A client would have a text if a message came to it.
+    WouldTake(u32, u32, &'static [char]),
     /// The authority has a text and a version.
     Latest(&'static [char], u32),
 }
@@ -151,6 +155,47 @@ fn has(
     ))
 }
 
+fn reads(client: &Client, characters: &[char]) -> Result<Seen, AllocError> {
+    let found = client.doc().chars()?;
+    Ok(holds(found.as_slice() == characters))
+}
+
+fn would_have(
+    alloc: Global,
+    world: &World,
+    client: u32,
+    at: u32,
+    insert: &[char],
+    characters: &[char],
+) -> Result<Seen, AllocError> {
+    if client as usize >= world.clients() || world.client(client).made() >= 100 {
+        return Ok(Seen::Other);
+    }
+    let changes = insertion(alloc, at, insert)?;
+    match world.changed(client, changes.as_slice()) {
+        Ok(next) => reads(&next, characters),
+        Err(_) => Ok(Seen::Other),
+    }
+}
+
+fn would_take(
+    world: &World,
+    message: u32,
+    client: u32,
+    characters: &[char],
+) -> Result<Seen, AllocError> {
+    if message as usize >= world.messages() || client as usize >= world.clients() {
+        return Ok(Seen::Other);
+    }
+    if world.is_push(message) {
+        return Ok(Seen::Other);
+    }
+    match world.received(client, message) {
+        Ok(next) => reads(&next, characters),
+        Err(_) => Ok(Seen::Other),
+    }
+}
+
 fn latest(world: &World, characters: &[char], version: u32) -> Result<Seen, AllocError> {
     let found = world.authority().doc().chars()?;
     Ok(holds(found.as_slice() == characters && world.authority().version() == version))
@@ -166,6 +211,12 @@ pub(crate) fn does(alloc: Global, world: &mut World, step: Step) -> Result<Seen,
         Step::Take(message, client) => take(world, message, client),
         Step::Has(client, characters, pending, version) => {
             has(world, client, characters, pending, version)
+        }
+        Step::WouldHave(client, at, insert, characters) => {
+            would_have(alloc, world, client, at, insert, characters)
+        }
+        Step::WouldTake(message, client, characters) => {
+            would_take(world, message, client, characters)
         }
         Step::Latest(characters, version) => latest(world, characters, version),
     }

@@ -30,6 +30,8 @@ fn go(alloc: Global, steps: &[(Step, Seen)]) -> Result<bool, AllocError> {
 #[test]
 fn two_clients_type_at_one_place(rt: HostRuntime) -> Result<(), Fail> {
     let steps = [
+        (Step::WouldHave(0, 1, &['x'], &['a', 'x', 'b']), Seen::Done),
+        (Step::WouldHave(0, 3, &['x'], &['a', 'b', 'x']), Seen::Other),
         (Step::Local(0, 1, &['x']), Seen::Done),
         (Step::Local(1, 1, &['y']), Seen::Done),
         (Step::Send(0), Seen::Done),
@@ -38,6 +40,7 @@ fn two_clients_type_at_one_place(rt: HostRuntime) -> Result<(), Fail> {
         (Step::Push(1), Seen::Stale(1)),
         (Step::Push(0), Seen::Stale(1)),
         (Step::Publish(0, 1), Seen::Done),
+        (Step::WouldTake(2, 1, &['a', 'x', 'y', 'b']), Seen::Done),
         (Step::Take(2, 1), Seen::Done),
         (Step::Has(1, &['a', 'x', 'y', 'b'], 1, 1), Seen::Done),
         (Step::Send(1), Seen::Done),
