@@ -1,0 +1,4 @@
+-- What `crossing` cites.
+use Rattle.collab.proofs.Crossings.{over-is, before-is}
+
+pub ruleset crossed = (over-is, before-is)

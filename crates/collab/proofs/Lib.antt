@@ -1,0 +1,10 @@
+pub mod Names
+pub mod Texts
+pub mod Crossings
+pub mod Taking
+pub mod Items
+pub mod Crossed
+pub mod Keeping
+pub mod Worlds
+pub mod Outcomes
+pub mod Distinct

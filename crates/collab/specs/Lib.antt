@@ -1,0 +1,15 @@
+pub use Rattle.line_tree.specs.Text
+pub use Rattle.change_desc.specs.Sections
+pub use Rattle.change_desc.specs.Algebra
+pub use Rattle.change_set.specs.Changes
+pub use Rattle.change_set.specs.Refusals
+pub mod Updates
+pub mod Errors
+pub mod Lengths
+pub mod Authorities
+pub mod Clients
+pub mod Views
+pub mod Worlds
+pub mod Stepping
+pub mod Invariants
+pub mod Converging
