@@ -1,1 +1,3 @@
+pub mod ColumnSteps
+pub mod RunSteps
 pub mod Windows

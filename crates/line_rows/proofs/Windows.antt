@@ -55,11 +55,11 @@ room left cols at = left + cols - max at left
 shown_room : (left cols : ℕ) (style : Style) (at : ℕ) (cell : Shown) → length (shown_cell left cols style at cell) + room left cols (at + 1) ≤ room left cols at
 shown_room left cols style at cell = by (nat_le left at && nat_lt (at - left) cols) refl where
   shows : (left cols at : ℕ) → (nat_le left at && nat_lt (at - left) cols) ≡ true → (left ≤ at) × (at < left + cols)
-  shows left cols at yes = (grind (arith, nat_tests), grind (arith, nat_tests))
+  shows left cols at holds = (grind (arith, nat_tests), grind (arith, nat_tests))
 
-  by : (b : Bool) → (nat_le left at && nat_lt (at - left) cols) ≡ b → length (if b then (record { cell = whole_or_blank cols (at - left) cell; style = style }) ∷ [] else []) + room left cols (at + 1) ≤ room left cols at
-  by true yes = let inside = shows left cols at yes in omega (arith, inside.0, inside.1)
-  by false no = omega arith
+  by : (b : Bool) → (nat_le left at && nat_lt (at - left) cols) ≡ b → length {A = StyledCell} (if b then (record { cell = whole_or_blank cols (at - left) cell; style = style }) ∷ [] else []) + room left cols (at + 1) ≤ room left cols at
+  by true holds = let inside = shows left cols at holds in omega (arith, inside.0, inside.1)
+  by false other = omega arith
 
 cells_room : (left cols : ℕ) (style : Style) (at : ℕ) (cells : List Shown) → length (in_window left cols style at cells) + room left cols (at + length cells) ≤ room left cols at
 unfolding in_window
@@ -85,3 +85,7 @@ length-row tab cols left p =
     let shown = pieces_in_window tab left cols 0 p.pieces in
     let bare : StyledCell = record { cell = blank; style = p.style } in
     omega (arith, pieces_room tab left cols 0 p.pieces, length-append shown (replicate (cols - length shown) bare), length-replicate (cols - length shown) bare)
+
+-- the next of a list's items, and those after it
+pub drop_item : {X : Type 0} (xs : List X) (i : ℕ) (x : X) → i < length xs → x ≡ get_or xs i x → drop i xs ≡ x ∷ drop (i + 1) xs
+drop_item {X} xs i x inside is = drop_more xs i x inside ∙ ap (λ (y : X). y ∷ drop (i + 1) xs) (sym is)

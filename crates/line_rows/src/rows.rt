@@ -35,6 +35,23 @@ pub fn row<L: Ledger>(
     ensures counted { laid.new ≡ laid.old + 1 }
 {
     laid.tick();
+    let row = cells_of_row(alloc, pieces, tab, cols, left)?;
+    Ok(row)
+}
+
+/// The cells of a row.
+fn cells_of_row(
+    alloc: Global,
+    pieces: &Pieces,
+    tab: u8,
+    cols: u32,
+    left: u128,
+) -> Result<Vec<StyledCell>, AllocError>
+    requires positive { 0 < tab }
+    requires small { tab ≤ 16 }
+    requires few { cols ≤ 500 }
+    ensures { IfOk result (λ cells. cells.items ≡ row_of tab cols left pieces.now) }
+{
     let mut row = Vec::new(alloc);
     push_pieces(alloc, &mut row, pieces.list(), tab, cols, left)?;
     fill(&mut row, pieces.style(), cols)?;

@@ -57,12 +57,13 @@ impl Run {
     fn push(&mut self, cell: &StyledCell) -> Result<(), AllocError>
         ensures { OnOk result (self.new ≡ record { text = self.old.text ++ cell_text cell.now.cell; style = self.old.style }) }
     {
-        push_cell(&mut self.text, cell)
+        push_cell(&mut self.text, cell)?;
+        Ok(())
     }
 }
 
 fn push_cell(text: &mut String, cell: &StyledCell) -> Result<(), AllocError>
-    ensures { OnOk result (chars (string_bytes text.new) ≡ chars (string_bytes text.old) ++ cell_text cell.now.cell) }
+    ensures { OnOk result (string_bytes text.new ≡ string_bytes text.old ++ encode_utf8_all (cell_text cell.now.cell)) }
 {
     if cell.cell.is_blank() {
         text.push(' ')?;
@@ -75,7 +76,7 @@ fn push_cell(text: &mut String, cell: &StyledCell) -> Result<(), AllocError>
 }
 
 fn push_characters(text: &mut String, characters: &[char]) -> Result<(), AllocError>
-    ensures { OnOk result (chars (string_bytes text.new) ≡ chars (string_bytes text.old) ++ characters.now) }
+    ensures { OnOk result (string_bytes text.new ≡ string_bytes text.old ++ encode_utf8_all characters.now) }
 {
     for character in characters {
         text.push(*character)?;
@@ -154,13 +155,13 @@ fn push_cell_run(
 ) -> Result<(), AllocError>
     ensures { OnOk result ((cells : List StyledCell) → runs.new.items ++ joined_from run.new cells ≡ runs.old.items ++ joined_from run.old (cell.now ∷ cells)) }
 {
-    if same_style(cell.style, run.style) {
-        run.push(cell)
+    if same_style(cell.style, run.style()) {
+        run.push(cell)?;
     } else {
         let next = one_cell(alloc, cell)?;
         runs.push(mem::replace(run, next))?;
-        Ok(())
     }
+    Ok(())
 }
 
 /// The run of one cell.

@@ -1,6 +1,6 @@
 use Rattle.std.proofs.Common.{◌≡◌, ◌+◌, ◌<◌, ◌≤◌, arith, ap, ◌∙◌, length}
 use Rattle.cells.specs.Layout.{cells_of}
-use Rattle.line_rows.proofs.Windows.{pieces_step, pieces_end}
+use Rattle.line_rows.proofs.Windows.{edge_end, pieces_step, pieces_end}
 use Rattle.line_rows.proofs.rows.push_pieces.Goals as goal
 
 pub loop-piece-preserved : goal.loop-piece-preserved
@@ -18,3 +18,7 @@ pub returns : goal.returns
 returns c =
     let past : length c.args.pieces.now ≤ c.loop-piece.piece-index = omega arith in
     pieces_end c.args.tab c.args.left c.args.cols c.loop-piece.at c.args.pieces.now c.loop-piece.piece-index _ _ past c.loop-piece.invariant.rest
+
+pub returns-then-at-left-2 : goal.returns-then-at-left-2
+returns-then-at-left-2 c =
+    edge_end c.args.tab c.args.left c.args.cols c.loop-piece.at _ _ _ (omega (arith, c.if-at-left.true, c.if-at-left-2.true)) c.loop-piece.invariant.rest
