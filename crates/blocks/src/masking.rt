@@ -38,11 +38,7 @@ fn mask_set(alloc: Global, text: &mut Text, set: &DecoSet) -> Result<(), AllocEr
 }
 
 /// Puts spaces for what a decoration hides.
-fn mask_range(
-    alloc: Global,
-    text: &mut Text,
-    range: &RangeRef<'_, Deco>,
-) -> Result<(), AllocError>
+fn mask_range(alloc: Global, text: &mut Text, range: &RangeRef<'_, Deco>) -> Result<(), AllocError>
     ensures { OnOk result (text.new.characters ≡ masked (λ p. hides p (seen range.now)) 0 text.old.characters) }
 {
     if is_replacement(range.value) {

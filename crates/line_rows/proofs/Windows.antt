@@ -76,8 +76,12 @@ unfolding pieces_in_window
 pieces_room tab left cols at [] = omega arith
 pieces_room tab left cols at (piece ∷ pieces) =
     let cells = cells_of tab at piece.text in
-    omega (arith, cells_room left cols piece.style at cells, pieces_room tab left cols (at + length cells) pieces,
-      length-append (in_window left cols piece.style at cells) (pieces_in_window tab left cols (at + length cells) pieces))
+    omega (
+      arith,
+      cells_room left cols piece.style at cells,
+      pieces_room tab left cols (at + length cells) pieces,
+      length-append (in_window left cols piece.style at cells) (pieces_in_window tab left cols (at + length cells) pieces),
+    )
 
 -- a row has exactly as many cells as the window has columns
 pub length-row : (tab cols left : ℕ) (p : PiecesView) → length (row_of tab cols left p) ≡ cols

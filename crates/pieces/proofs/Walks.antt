@@ -130,6 +130,6 @@ styles_placed style_fn from at end text cs styles started order within is placed
     let long = total-clusters (slice at end text) in
     let count = length-slice at end text within in
     rw is (by_clusters-same (style_in styles (at - from)) (λ p. style_fn (from + p)) (at - from) (clusters (slice at end text)) (some-clusters (slice at end text))
-      (λ q after before.
-        let same : at + (q - (at - from)) ≡ from + q = omega arith in
-        placed (q - (at - from)) (omega (arith, long, count)) ∙ ap style_fn same))
+    (λ q after before.
+    let same : at + (q - (at - from)) ≡ from + q = omega arith in
+    placed (q - (at - from)) (omega (arith, long, count)) ∙ ap style_fn same))

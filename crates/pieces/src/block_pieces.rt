@@ -137,7 +137,13 @@ fn push_some(
 {
     let text = slice_text(block.text, at, end)?;
     let styles = styles_of(alloc, at, end - at, block.style, block.ranges.as_slice())?;
-    push_clusters(alloc, pieces, text.as_str(), styles.as_slice(), at - block.from)
+    push_clusters(
+        alloc,
+        pieces,
+        text.as_str(),
+        styles.as_slice(),
+        at - block.from,
+    )
 }
 
 /// The characters from one place to another, as a text of their own.

@@ -27,12 +27,7 @@ pub(crate) fn items_of(
 }
 
 /// The same in the order of the layers.
-fn layer_items(
-    alloc: Global,
-    layers: &Layers,
-    from: u32,
-    to: u32,
-) -> Result<Vec<Item>, AllocError>
+fn layer_items(alloc: Global, layers: &Layers, from: u32, to: u32) -> Result<Vec<Item>, AllocError>
     ensures { IfOk result (λ items. items.items ≡ flat_map (set_items from to) layers.now) }
 {
     let mut items = Vec::new(alloc);

@@ -9,7 +9,6 @@
 mod block_pieces;
 mod item;
 mod items;
-
 mod piece;
 mod shading;
 mod style_range;

@@ -147,7 +147,8 @@ impl Pieces {
     pub fn same(&self, other: &Pieces) -> bool
         ensures { result ≡ same_pieces self.now other.now }
     {
-        same_style(self.style, other.style) && same_list(self.list.as_slice(), other.list.as_slice())
+        same_style(self.style, other.style)
+            && same_list(self.list.as_slice(), other.list.as_slice())
     }
 }
 

@@ -91,10 +91,7 @@ fn push_marks(
 }
 
 /// Adds the decoration, if it is a mark.
-fn push_mark(
-    ranges: &mut Vec<StyleRange>,
-    range: &RangeRef<'_, Deco>,
-) -> Result<(), AllocError>
+fn push_mark(ranges: &mut Vec<StyleRange>, range: &RangeRef<'_, Deco>) -> Result<(), AllocError>
     ensures { OnOk result (ranges.new.items ≡ ranges.old.items ++ mark_of (seen range.now)) }
 {
     if let Deco::Mark(mark) = range.value {

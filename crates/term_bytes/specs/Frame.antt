@@ -1,9 +1,11 @@
--- The bytes that draw rows of runs.
+-- The bytes that draw rows of runs (ECMA-48: cursor position, erase in line, select graphic rendition).
 use Rattle.std.specs.Prelude.{ℕ, ◌+◌, Bool, List, [], ◌∷◌, ◌++◌, codes, encode_utf8_all, Option, Some, None, if◌then◌else◌}
 use Rattle.std.specs.Fmt.{decimal}
 use Rattle.line_rows.specs.Run.{RunView}
 use Rattle.pieces.specs.Styles.{is_plain, same_style, plain}
 use Rattle.decoration.specs.declared.style.Style.{Style}
+use Rattle.decoration.specs.declared.color.Color.{Color}
+use Rattle.decoration.specs.Colors.{number_of}
 use Rattle.std.specs.Global.{Vec}
 
 -- ESC and [
@@ -17,15 +19,15 @@ place row column = start ++ decimal row ++ codes ";" ++ decimal column ++ codes 
 abbrev pub flag_code : Bool → List ℕ → List ℕ
 flag_code wanted code = if wanted then code else []
 
-abbrev pub colour_code : List ℕ → Option ℕ → List ℕ
-colour_code code None = []
-colour_code code (Some colour) = code ++ decimal colour
+abbrev pub color_code : List ℕ → Option Color → List ℕ
+color_code code None = []
+color_code code (Some color) = code ++ decimal (number_of color)
 
 -- bold, underline, reverse, foreground and background
 abbrev pub style_codes : Style → List ℕ
 style_codes s =
     flag_code s.bold (codes ";1") ++ flag_code s.underline (codes ";4") ++ flag_code s.reverse (codes ";7")
-    ++ colour_code (codes ";3") s.fg ++ colour_code (codes ";4") s.bg
+    ++ color_code (codes ";3") s.fg ++ color_code (codes ";4") s.bg
 
 -- ESC [ 0, the codes of the style, and m
 abbrev pub style_bytes : Style → List ℕ

@@ -19,5 +19,5 @@ pub returns : goal.returns
 returns c =
     let list =
     walk_end (shown_block c.args.block.now) c.loop-item.at _ _ _ _
-        (nil_from_length _ (omega (arith, c.loop-item.item-iterator.rest.ok.0, c.in-None.ensures.steps.0))) refl c.loop-item.invariant.pieces in
+    (nil_from_length _ (omega (arith, c.loop-item.item-iterator.rest.ok.0, c.in-None.ensures.steps.0))) refl c.loop-item.invariant.pieces in
     c.in_ok-push_run.ensures ∙ (λ i. record { style = c.loop-item.invariant.style i; pieces = list i })
