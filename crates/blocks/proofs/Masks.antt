@@ -1,11 +1,11 @@
 -- Characters in which some are spaces.
-use Rattle.std.proofs.Common.{◌≡◌, ℕ, zero, suc, ◌+◌, ◌-◌, ◌<◌, ◌≤◌, min, Bool, true, false, ◌&&◌, ◌||◌, nat_le, nat_lt, ltb, List, [], ◌∷◌, ◌++◌, length, take, drop, replicate, refl, sym, ap, ◌∙◌, arith, length-drop, get_or, if◌then◌else◌}
+use Rattle.std.proofs.Common.{◌≡◌, ℕ, zero, suc, ◌+◌, ◌-◌, ◌<◌, ◌≤◌, min, Bool, true, false, ◌||◌, List, [], ◌∷◌, ◌++◌, length, take, drop, replicate, refl, sym, ap, ◌∙◌, arith, length-drop, get_or}
 use Rattle.std.proofs.lemmas.List.{drop-drop, drop_more, length-replicate}
 use Rattle.range_set.specs.declared.ranged.Ranged.{Ranged}
 use Rattle.decoration.specs.declared.deco.Deco.{Deco}
 use Rattle.std.proofs.lemmas.Bool.Decides.{nat_tests}
 use Rattle.std.specs.List.{list_any}
-use Rattle.line_tree.specs.Text.{cut, cut_after, replaced}
+use Rattle.line_tree.specs.Text.{cut, replaced}
 use Rattle.blocks.specs.Hiding.{hides, is_between, is_replacement, masked, shown_as}
 
 -- equal tests mask alike

@@ -3,7 +3,7 @@ use Rattle.std.specs.Prelude.{◌≡◌, ℕ, ◌+◌, ◌≤◌, Bool, true, fa
 use Rattle.std.specs.List.{list_any}
 use Rattle.range_set.specs.declared.ranged.Ranged.{Ranged}
 use Rattle.decoration.specs.declared.deco.Deco.{Deco}
-use Rattle.decoration.specs.declared.deco.Deco.TheVariants.{Mark, Widget, Replace, Line}
+use Rattle.decoration.specs.declared.deco.Deco.TheVariants.{Replace}
 use Rattle.line_tree.specs.declared.line.Line as lines
 use Rattle.line_tree.specs.Lines.{lines_of, IsLineOf}
 

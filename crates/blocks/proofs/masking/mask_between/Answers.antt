@@ -1,4 +1,4 @@
-use Rattle.std.proofs.Common.{◌≡◌, ℕ, min, length, ap, ◌∙◌}
+use Rattle.std.proofs.Common.{ℕ, min, ap, ◌∙◌}
 use Rattle.blocks.proofs.Masks.{masked-cut, masked-past}
 use Rattle.blocks.proofs.masking.mask_between.Goals as goal
 

@@ -1,6 +1,6 @@
-use Rattle.std.proofs.Common.{◌≡◌, sym, ◌∙◌}
+use Rattle.std.proofs.Common.{sym, ◌∙◌}
 use Rattle.range_set.specs.Seen.{seen}
-use Rattle.blocks.proofs.Masks.{hides_is, hides_not}
+use Rattle.blocks.proofs.Masks.{hides_not}
 use Rattle.blocks.proofs.masking.mask_range.Goals as goal
 
 pub returns-else-is_replacement : goal.returns-else-is_replacement

@@ -1,4 +1,4 @@
-use Rattle.std.proofs.Common.{arith, ◌≤◌, length}
+use Rattle.std.proofs.Common.{arith}
 use Rattle.std.proofs.lemmas.List.{drop_all}
 use Rattle.blocks.specs.Hiding.{set_hides}
 use Rattle.blocks.proofs.Masks.{drop_item, mask_step, mask_end}

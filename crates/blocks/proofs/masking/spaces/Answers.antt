@@ -1,4 +1,4 @@
-use Rattle.std.proofs.Common.{◌≡◌, replicate, ◌∙◌, arith}
+use Rattle.std.proofs.Common.{◌∙◌, arith}
 use Rattle.blocks.proofs.Masks.{spaces_cut, spaces_fit}
 use Rattle.blocks.proofs.masking.spaces.Goals as goal
 

@@ -1,4 +1,4 @@
-use Rattle.std.proofs.Common.{◌≡◌, refl, arith}
+use Rattle.std.proofs.Common.{refl, arith}
 use Rattle.blocks.proofs.Masks.{replaced-masked, spaces_put}
 use Rattle.blocks.proofs.masking.with_spaces.Goals as goal
 

@@ -1,4 +1,4 @@
-use Rattle.std.proofs.Common.{◌≡◌, ℕ, List, length, sym, ap, ◌∙◌}
+use Rattle.std.proofs.Common.{length, sym, ap, ◌∙◌}
 use Rattle.line_tree.specs.Text.{TextView}
 use Rattle.blocks.specs.Hiding.{is_hidden}
 use Rattle.blocks.proofs.Masks.{length-masked}
