@@ -1,0 +1,15 @@
+//! The cells that a text takes in a row of the window: a group of cells for each grapheme cluster.
+//!
+//! `cells_of` lays out a text from a column on, and `columns_of` tells how many cells that are without memory. A layer
+//! above may rely on their exact results (`cells_of` of specs/Layout), and on `Cell` having private fields: no other
+//! function makes a cell that isn't blank.
+#![tactic(auto)]
+
+mod cell;
+mod cluster;
+mod columns;
+mod layout;
+
+pub use cell::Cell;
+pub use columns::columns_of;
+pub use layout::{cells_of, text_of};

@@ -1,0 +1,3 @@
+pub mod ColumnSteps
+pub mod RunSteps
+pub mod Windows

@@ -1,0 +1,6 @@
+use Rattle.std.proofs.Common.{length, ap, ◌∙◌}
+use Rattle.line_rows.proofs.Windows.{length-row}
+use Rattle.line_rows.proofs.rows.row.Goals as goal
+
+pub returns-clause-length : goal.returns-clause-length
+returns-clause-length g c = ap length c.in_ok-row.ensures ∙ length-row c.args.tab c.args.cols c.args.left c.args.pieces.now

@@ -1,0 +1,6 @@
+pub mod Row
+pub mod Column
+pub mod Run
+pub use Rattle.pieces.specs.Piece
+pub use Rattle.pieces.specs.Styles
+pub use Rattle.blocks.specs.Hiding

@@ -1,0 +1,18 @@
+//! The rows of the window: the cells of a row, the cursor's column, and the runs of equal style of a row.
+//!
+//! `row` gives the cells that the window shows of a block's pieces, and counts that it did; `column_of` tells in which
+//! column of its block a place stands; `runs_of` cuts a row where its style changes. A layer above may rely on their
+//! exact results, and on each row having exactly as many cells as the window has columns.
+#![tactic(auto)]
+
+mod columns;
+mod cursor;
+mod rows;
+mod runs;
+
+pub use blocks::{Block, Blocks};
+pub use columns::column_of;
+pub use cursor::Cursor;
+pub use pieces::{Piece, Pieces, pieces, same_style};
+pub use rows::{StyledCell, row};
+pub use runs::{Run, runs_of};

@@ -1,0 +1,5 @@
+pub mod Covering
+pub mod Gathering
+pub mod SameText
+pub mod Shades
+pub mod Walks

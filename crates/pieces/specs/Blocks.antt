@@ -1,0 +1,9 @@
+-- What the code's blocks stand for.
+use Rattle.std.specs.Prelude.{◌+◌}
+use Rattle.pieces.specs.Pieces.{BlockView}
+use Rattle.pieces.specs.Shading.{style_at}
+use Rattle.pieces.specs.declared.block_pieces.Block.{Block}
+
+abbrev pub shown_block : Block → BlockView
+shown_block b =
+    record { text = b.text.now.characters; from = b.from; to = b.to; style = b.style; style_of = λ p. style_at b.style b.ranges.items (b.from + p) }

@@ -1,0 +1,48 @@
+// The styles of places under ranges that style them.
+ghost use Rattle.std.specs.Prelude.{◌≡◌, ◌+◌, ℕ, ◌<◌, length, IfOk};
+ghost use Rattle.std.specs.List.{slice_index_or};
+ghost use Rattle.pieces.specs.Styles.{plain};
+ghost use Rattle.pieces.specs.Shading.{covers, style_at, styled};
+
+use crate::styles::over;
+use decoration::Style;
+use std::alloc::{AllocError, Global};
+
+/// A style over the characters from the place `from` to before the place `to`.
+#[derive(Clone, Copy, Drop)]
+pub(crate) struct StyleRange {
+    pub(crate) from: u32,
+    pub(crate) to: u32,
+    pub(crate) style: Style,
+}
+
+/// The style of each of `len` characters from the place `at` on, where the ranges stand from the outermost to the innermost.
+/// `Err`: out of memory.
+pub(crate) fn styles_of(
+    alloc: Global,
+    at: u32,
+    len: u32,
+    line: Style,
+    ranges: &[StyleRange],
+) -> Result<Vec<Style>, AllocError>
+    ensures len { IfOk result (λ styles. length styles.items ≡ len) }
+    ensures value { IfOk result (λ styles. (p : ℕ) → p < len → slice_index_or styles.items p plain ≡ style_at line ranges.now (at + p)) }
+{
+    let mut styles = vec![in alloc; line; len as usize]?;
+    for range in ranges {
+        apply(&mut styles, *range, at);
+    }
+    Ok(styles)
+}
+
+/// Puts the range's style over those of the characters that it covers, the first of which stands at the place `at`.
+fn apply(styles: &mut Vec<Style>, range: StyleRange, at: u32)
+    ensures len { length styles.new.items ≡ length styles.old.items }
+    ensures value { (p : ℕ) → p < length styles.old.items → slice_index_or styles.new.items p plain ≡ styled (slice_index_or styles.old.items p plain) range (at + p) }
+{
+    let end = (range.to.saturating_sub(at) as usize).min(styles.len());
+    let from = (range.from.saturating_sub(at) as usize).min(end);
+    for place in from..end {
+        styles[place] = over(styles[place], range.style);
+    }
+}

@@ -1,0 +1,99 @@
+-- One row further, and what equal keys mean.
+use Rattle.std.proofs.Common.{◌≡◌, ℕ, ◌+◌, ◌-◌, ◌<◌, ◌≤◌, true, List, [], ◌∷◌, ◌++◌, Option, Some, append_assoc, append-nil, arith, drop, refl, sym, ap, ◌∙◌, suc, zero}
+use Rattle.std.specs.Prelude.{slice_get}
+use Rattle.std.proofs.lemmas.Bool.{and_parts, eqb-true}
+use Rattle.selection.specs.declared.range.Range.{Range}
+use Rattle.selection.specs.Ranges.{high}
+use Rattle.selection.specs.Selections.{LieIn}
+use Rattle.pieces.specs.SamePieces.{same_pieces}
+use Rattle.pieces.proofs.SameText.{same_pieces-is}
+use Rattle.screen.specs.Screen.{RowKey, ViewView, same_key, changed, cost, key_at, rows_from}
+
+pub same_key-is : (a b : RowKey) → same_key a b ≡ true → a ≡ b
+same_key-is a b same =
+    let pieces = and_parts _ (same_pieces a.pieces b.pieces) same in
+    let left = and_parts _ _ pieces.0 in
+    let cols = and_parts _ _ left.0 in
+    λ i. record {
+      pieces = same_pieces-is a.pieces b.pieces pieces.1 i;
+      tab = eqb-true a.tab b.tab cols.0 i;
+      cols = eqb-true a.cols b.cols cols.1 i;
+      left = eqb-true a.left b.left left.1 i;
+    }
+
+-- the count of changed rows, one row further
+changed_step : (i : ℕ) (old : List RowKey) (new : RowKey) (news : List RowKey) → changed (drop i old) (new ∷ news) ≡ cost (slice_get old i) new + changed (drop (suc i) old) news
+unfolding changed
+changed_step zero [] new news = refl
+changed_step (suc i) [] new news = refl
+changed_step zero (o ∷ olds) new news = refl
+changed_step (suc i) (o ∷ olds) new news = changed_step i olds new news
+
+-- the same with the count as the loop has it
+changed_next : (i : ℕ) (old : List RowKey) (new : RowKey) (news : List RowKey) → changed (drop i old) (new ∷ news) ≡ cost (slice_get old i) new + changed (drop (i + 1) old) news
+changed_next i old new news =
+    let one : suc i ≡ i + 1 = omega arith in
+    changed_step i old new news ∙ ap (λ (k : ℕ). cost (slice_get old i) new + changed (drop k old) news) one
+
+changed_none : (old : List RowKey) → changed old [] ≡ 0
+unfolding changed
+changed_none [] = refl
+changed_none (o ∷ os) = refl
+
+-- the rows that were drawn, and those that are still to come: i of n
+pub record Spent (v : ViewView) (top i n : ℕ) (old done : List RowKey) (laid total : ℕ) : Type 0 where
+  pub rows : done ++ rows_from v (top + i) (n - i) ≡ rows_from v top n
+  pub bound : laid + changed (drop i old) (rows_from v (top + i) (n - i)) ≤ total
+
+next_rows : (v : ViewView) (top i n : ℕ) → i < n → rows_from v (top + i) (n - i) ≡ key_at v (top + i) ∷ rows_from v (top + (i + 1)) (n - (i + 1))
+unfolding rows_from
+next_rows v top i n inside =
+    let some : n - i ≡ suc (n - (i + 1)) = omega arith in
+    let further : top + i + 1 ≡ top + (i + 1) = omega arith in
+    rw (some, further) refl
+
+pub spent_begin : (v : ViewView) (top n : ℕ) (old done : List RowKey) (laid : ℕ) → done ≡ [] → Spent v top 0 n old done laid (laid + changed old (rows_from v top n))
+spent_begin v top n old done laid none =
+    let same : top + 0 ≡ top = omega arith in
+    let all : n - 0 ≡ n = omega arith in
+    record {
+      rows = rw (none, same, all) refl;
+      bound = rw (same, all) (omega arith);
+    }
+
+pub spent_step : (v : ViewView) (top i n : ℕ) (old done more : List RowKey) (laid now total : ℕ) (kept : Option RowKey) → i < n → kept ≡ slice_get old i → now ≤ laid + cost kept (key_at v (top + i)) → more ≡ done ++ key_at v (top + i) ∷ [] → Spent v top i n old done laid total → Spent v top (i + 1) n old more now total
+spent_step v top i n old done more laid now total kept inside found paid adds spent =
+    let next = next_rows v top i n inside in
+    let goes = rw next at spent.bound in
+    let rows = rw next at spent.rows in
+    let split = changed_next i old (key_at v (top + i)) (rows_from v (top + (i + 1)) (n - (i + 1))) in
+    let cheap = rw found at paid in
+    record {
+      rows = rw adds (append_assoc done _ _ ∙ rows);
+      bound = omega (arith, goes, split, cheap);
+    }
+
+pub spent_fails : (v : ViewView) (top i n : ℕ) (old done : List RowKey) (laid now total : ℕ) (kept : Option RowKey) → i < n → kept ≡ slice_get old i → now ≤ laid + cost kept (key_at v (top + i)) → Spent v top i n old done laid total → now ≤ total
+spent_fails v top i n old done laid now total kept inside found paid spent =
+    let next = next_rows v top i n inside in
+    let goes = rw next at spent.bound in
+    let split = changed_next i old (key_at v (top + i)) (rows_from v (top + (i + 1)) (n - (i + 1))) in
+    let cheap = rw found at paid in
+    omega (arith, goes, split, cheap)
+
+pub spent_rows : (v : ViewView) (top i n : ℕ) (old done : List RowKey) (laid total : ℕ) → n ≤ i → Spent v top i n old done laid total → done ≡ rows_from v top n
+unfolding rows_from
+spent_rows v top i n old done laid total past spent =
+    let none : n - i ≡ 0 = omega arith in
+    sym (append-nil done) ∙ (rw none at spent.rows)
+
+pub spent_bound : (v : ViewView) (top i n : ℕ) (old done : List RowKey) (laid total : ℕ) → Spent v top i n old done laid total → laid ≤ total
+spent_bound v top i n old done laid total spent = omega (arith, spent.bound)
+
+-- the head of a range that lies in a document
+pub head_lies : (len : ℕ) (rs : List Range) (i : ℕ) (r : Range) → LieIn len rs → slice_get rs i ≡ Some r → r.head ≤ len
+head_lies len [] i r lie is = cc
+head_lies len (x ∷ xs) zero r lie is =
+    let same : x ≡ r = cc in
+    omega (arith, lie.0, ap (λ (y : Range). y.head) same, ap (λ (y : Range). high y) same)
+head_lies len (x ∷ xs) (suc i) r lie is = head_lies len xs i r lie.1 is

@@ -1,0 +1,37 @@
+use Rattle.std.proofs.Common.{◌-◌, ℕ, length, sym, ap, ◌∙◌, refl, arith}
+use Rattle.std.specs.Prelude.{slice_get}
+use Rattle.line_tree.specs.declared.line.Line as lines
+use Rattle.pieces.specs.Piece.{PiecesView}
+use Rattle.line_rows.specs.Column.{column_of}
+use Rattle.blocks.specs.Hiding.{BlocksView}
+use Rattle.screen.specs.Screen.{shown_view}
+use Rattle.screen.proofs.Changes.{head_lies}
+use Rattle.screen.proofs.Heads.{block_found, wide_some}
+use Rattle.screen.proofs.head.head_place.Goals as goal
+
+pub at-block-requires : goal.at-block-requires
+at-block-requires c =
+    let lies = head_lies _ _ _ c.main-main.result c.requires.inside c.main-main.ensures in
+    omega (arith, lies, ap (λ (b : BlocksView). length b.text) c.requires.blocks)
+
+pub returns : goal.returns
+returns c =
+    let v = shown_view c.args.view.now in
+    let place = c.main-main.result.head - c.at-block.result.from in
+    let block : lines.Line = record { number = c.at-block.result.number; from = c.at-block.result.from; to = c.at-block.result.to } in
+    let column =
+    c.column_of-column.ensures ∙ ap (λ (p : PiecesView). column_of c.args.view.now.tab place 0 p.pieces) c.in_ok-pieces.ensures in
+    record {
+      main = c.main-main.result;
+      block = block;
+      head = record {
+        is_main = c.main-main.ensures;
+        is_block = block_found v block (sym (ap (λ (b : BlocksView). slice_get b.blocks (c.at-block.result.number - 1)) c.requires.blocks) ∙ c.at-block.ensures.block);
+        starts = c.at-block.ensures.starts;
+        ends = c.at-block.ensures.ends;
+      };
+      number_is = refl;
+      column_is = ap (λ (r : ℕ × ℕ). r.0) column;
+      width_is = ap (λ (r : ℕ × ℕ). r.1) column;
+      some = rw (ap (λ (r : ℕ × ℕ). r.1) c.column_of-column.ensures) (wide_some c.args.view.now.tab place 0 c.in_ok-pieces.pieces.pieces);
+    }

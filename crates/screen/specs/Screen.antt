@@ -1,0 +1,113 @@
+-- What a screen shows, and how many of its rows differ from those drawn last.
+use Rattle.std.specs.Prelude.{◌≡◌, ℕ, zero, suc, ◌+◌, ◌-◌, ◌≤◌, Bool, ◌&&◌, nat_eq, List, [], ◌∷◌, Option, Some, None, slice_get, if◌then◌else◌}
+use Rattle.range_set.specs.declared.ranged.Ranged.{Ranged}
+use Rattle.decoration.specs.declared.deco.Deco.{Deco}
+use Rattle.selection.specs.declared.range.Range.{Range}
+use Rattle.selection.specs.Selections.{SelectionView}
+use Rattle.line_tree.specs.declared.line.Line as lines
+use Rattle.viewport.specs.Window.{Window}
+use Rattle.viewport.specs.Reveal.{Shows}
+use Rattle.blocks.specs.Hiding.{blocks_of}
+use Rattle.pieces.specs.Piece.{PiecesView}
+use Rattle.pieces.specs.Pieces.{pieces_of}
+use Rattle.pieces.specs.SamePieces.{same_pieces}
+use Rattle.pieces.specs.Styles.{plain}
+use Rattle.line_rows.specs.Column.{column_of}
+use Rattle.screen.specs.declared.view.View.{View}
+
+-- what a row depends on: the pieces of its block with the block's style, the tab size, and the columns that it shows
+pub record RowKey : Type 0 where
+  pub pieces : PiecesView
+  pub tab : ℕ
+  pub cols : ℕ
+  pub left : ℕ
+
+abbrev pub same_key : RowKey → RowKey → Bool
+same_key a b = nat_eq a.tab b.tab && nat_eq a.cols b.cols && nat_eq a.left b.left && same_pieces a.pieces b.pieces
+
+-- what a view shows: the characters of a document, its selection, the layers of decorations, the tab size and the window
+pub record ViewView : Type 0 where
+  pub text : List ℕ
+  pub selection : SelectionView
+  pub layers : List (List (Ranged Deco))
+  pub tab : ℕ
+  pub window : Window
+
+abbrev pub shown_view : View → ViewView
+shown_view v = record { text = v.doc.now.characters; selection = v.selection.now; layers = v.layers.now; tab = v.tab; window = v.window.now }
+
+-- the block of a number, which counts from 1
+abbrev pub block_at : ViewView → ℕ → Option lines.Line
+block_at v zero = None
+block_at v (suc n) = slice_get (blocks_of v.text v.layers) n
+
+-- the pieces of a block
+abbrev pub block_pieces : ViewView → lines.Line → PiecesView
+block_pieces v block = pieces_of v.text block.from block.to v.layers v.selection.ranges
+
+-- the pieces of a row: those of its block, and none past the last block
+abbrev pub pieces_at : ViewView → Option lines.Line → PiecesView
+pieces_at v (Some block) = block_pieces v block
+pieces_at v None = record { style = plain; pieces = [] }
+
+abbrev pub key_at : ViewView → ℕ → RowKey
+key_at v number = record { pieces = pieces_at v (block_at v number); tab = v.tab; cols = v.window.cols; left = v.window.left }
+
+-- so many rows, the first of which shows the block of a number
+unfoldable pub rows_from : ViewView → ℕ → ℕ → List RowKey
+rows_from v number zero = []
+rows_from v number (suc n) = key_at v number ∷ rows_from v (number + 1) n
+
+-- Drawn: the rows of the window, of which row i, from 0, shows block `top + i`.
+abbrev pub drawn : ViewView → List RowKey
+drawn v = rows_from v v.window.top v.window.rows
+
+-- the main range, and the block in which its head stands
+pub record IsHeadAt (v : ViewView) (main : Range) (block : lines.Line) : Type 0 where
+  pub is_main : slice_get v.selection.ranges v.selection.main ≡ Some main
+  pub is_block : block_at v block.number ≡ Some block
+  pub starts : block.from ≤ main.head
+  pub ends : main.head ≤ block.to
+
+-- the column of the main range's head
+abbrev pub head_column : ViewView → Range → lines.Line → ℕ
+head_column v main block = (column_of v.tab (main.head - block.from) 0 (block_pieces v block).pieces).0
+
+-- where the main range's head stands: the number of its block, its column, and the width of the piece that stands there
+pub record IsPlaced (v : ViewView) (number column width : ℕ) : Type 0 where
+  pub main : Range
+  pub block : lines.Line
+  pub head : IsHeadAt v main block
+  pub number_is : number ≡ block.number
+  pub column_is : column ≡ head_column v main block
+  pub width_is : width ≡ (column_of v.tab (main.head - block.from) 0 (block_pieces v block).pieces).1
+  pub some : 1 ≤ width
+
+-- the window shows the block and the column of the main range's head
+abbrev pub ShowsHead : ViewView → Type 0
+ShowsHead v = (main : Range) (block : lines.Line) → IsHeadAt v main block → Shows v.window block.number (head_column v main block) 1
+
+-- Cursor: the row and the column in the window of the main range's head, from 0.
+pub record IsCursor (v : ViewView) (row column : ℕ) : Type 0 where
+  pub main : Range
+  pub block : lines.Line
+  pub head : IsHeadAt v main block
+  pub row_is : row ≡ block.number - v.window.top
+  pub column_is : column ≡ head_column v main block - v.window.left
+
+-- what contracts see of a screen: what its rows were laid out from, and the cursor's row and column
+pub record ScreenView : Type 0 where
+  pub rows : List RowKey
+  pub row : ℕ
+  pub column : ℕ
+
+-- 1 where a row differs from the old one in its place, or has none there
+abbrev pub cost : Option RowKey → RowKey → ℕ
+cost (Some old) new = if same_key old new then 0 else 1
+cost None new = 1
+
+-- Changed: how many of the new rows differ from the old row in the same place, or have none there.
+unfoldable pub changed : List RowKey → List RowKey → ℕ
+changed old [] = 0
+changed [] (new ∷ news) = cost None new + changed [] news
+changed (old ∷ olds) (new ∷ news) = cost (Some old) new + changed olds news

@@ -1,0 +1,92 @@
+// Where the main range's head stands, and the window that shows it.
+ghost use Rattle.std.specs.Prelude.{◌≡◌, ◌-◌, ◌<◌, ◌≤◌, length, min, IfOk};
+ghost use Rattle.selection.specs.Selections.{LieIn};
+ghost use Rattle.viewport.specs.Reveal.{Shows, revealed};
+ghost use Rattle.blocks.specs.Hiding.{blocks_of};
+ghost use Rattle.screen.specs.Screen.{IsPlaced, ShowsHead, shown_view};
+ghost use Rattle.screen.specs.Reveal.{IsRevealed};
+
+use crate::view::View;
+use line_rows::{Blocks, Cursor, column_of, pieces};
+use std::alloc::{AllocError, Global};
+use viewport::Viewport;
+
+/// The block in which the main range's head stands, from 1, its column, from 0, and the width of the piece that stands
+/// there, at least 1.
+#[derive(Clone, Copy, Drop)]
+pub(crate) struct HeadPlace {
+    pub(crate) number: u64,
+    pub(crate) column: u128,
+    pub(crate) width: u128,
+}
+
+/// The view's window moved as little as it takes to show the block of the main range's head and the piece that stands
+/// there. `Err`: out of memory.
+pub fn reveal(alloc: Global, view: &View<'_>) -> Result<Viewport, AllocError>
+    requires positive { 0 < (shown_view view.now).tab }
+    requires small { (shown_view view.now).tab ≤ 16 }
+    requires inside { LieIn (length (shown_view view.now).text) (shown_view view.now).selection.ranges }
+    ensures moved { IfOk result (λ window. IsRevealed (shown_view view.now) window) }
+    ensures shows { IfOk result (λ window. ShowsHead (record (shown_view view.now) { window = window })) }
+{
+    let blocks = Blocks::of(alloc, view.doc, view.layers)?;
+    let place = head_place(alloc, view, &blocks)?;
+    Ok(moved(view.window, place))
+}
+
+/// The window moved to show a block and the piece that stands there.
+fn moved(window: &Viewport, place: HeadPlace) -> Viewport
+    requires { 1 ≤ place.width }
+    ensures shows { Shows result place.number place.column 1 }
+    ensures value { result ≡ revealed window.now place.number place.column (min place.width window.now.cols) }
+{
+    let mut moved = window.copy();
+    let cols = moved.cols();
+    let width = place.width.min(u128::from(cols)) as u32;
+    moved.reveal(u128::from(place.number), place.column, width);
+    moved
+}
+
+/// Where the main range's head stands in the document.
+pub(crate) fn head_place(
+    alloc: Global,
+    view: &View<'_>,
+    blocks: &Blocks,
+) -> Result<HeadPlace, AllocError>
+    requires positive { 0 < (shown_view view.now).tab }
+    requires small { (shown_view view.now).tab ≤ 16 }
+    requires inside { LieIn (length (shown_view view.now).text) (shown_view view.now).selection.ranges }
+    requires blocks { blocks.now ≡ record { text = (shown_view view.now).text; blocks = blocks_of (shown_view view.now).text (shown_view view.now).layers } }
+    ensures { IfOk result (λ place. IsPlaced (shown_view view.now) place.number place.column place.width) }
+{
+    let main = view.selection.main();
+    let block = blocks.at(main.head);
+    let pieces = pieces(
+        alloc,
+        view.doc,
+        block.from,
+        block.to,
+        view.layers,
+        view.selection,
+    )?;
+    let (column, width) = column_of(&pieces, view.tab, main.head - block.from);
+    Ok(HeadPlace {
+        number: block.number,
+        column,
+        width,
+    })
+}
+
+/// Where a place stands in the window that shows it.
+pub(crate) fn cursor_at(window: &Viewport, place: HeadPlace) -> Cursor
+    requires { Shows window.now place.number place.column 1 }
+    ensures row { result.row ≡ place.number - window.now.top }
+    ensures column { result.column ≡ place.column - window.now.left }
+{
+    let _rows = window.rows();
+    let _cols = window.cols();
+    Cursor {
+        row: (u128::from(place.number) - window.top()) as u32,
+        column: (place.column - window.left()) as u32,
+    }
+}

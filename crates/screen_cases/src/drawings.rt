@@ -1,0 +1,271 @@
+ghost use Rattle.std.specs.Prelude.{◌≡◌, ◌<◌, ◌≤◌, length};
+ghost use Rattle.selection.specs.Selections.{LieIn};
+ghost use Rattle.screen.specs.Screen.{ShowsHead, shown_view};
+
+use cm_plain::Str;
+use decoration::{Color, Deco, DecoSet, Inclusive, Layers, Style};
+use line_rows::{Cursor, Run, runs_of};
+use line_tree::Text;
+use range_set::{RangeSet, Ranged};
+use screen::{Screen, View, reveal};
+use selection::{Selection, first_outside};
+use std::alloc::{AllocError, Global};
+use std::marker::Brand;
+use std::sync::ledger::{Blank, Ledger};
+use std::test::*;
+use steps::Steps;
+use term_bytes::frame;
+use viewport::Viewport;
+
+/// What a decoration of a case does.
+#[derive(Clone, Copy)]
+enum Kind {
+    Mark,
+    Widget(i32),
+    Replace,
+    Line,
+}
+
+/// A decoration of a case: its kind, its range, its text and its style.
+type Given = (Kind, u32, u32, &'static str, Style);
+
+/// A case: a document, the decorations of its layers, the anchor and the head of its selection, and the rows and columns
+/// of its window.
+#[derive(Clone, Copy, Drop)]
+struct Case<'a> {
+    doc: &'a str,
+    layers: &'a [&'a [Given]],
+    selection: (u32, u32),
+    size: (u32, u32),
+}
+
+const NEITHER: Inclusive = Inclusive {
+    start: false,
+    end: false,
+};
+
+fn plain() -> Style {
+    Style::plain()
+}
+
+fn fg(color: Color) -> Style {
+    Style {
+        fg: Some(color),
+        ..Style::plain()
+    }
+}
+
+fn bold() -> Style {
+    Style {
+        bold: true,
+        ..Style::plain()
+    }
+}
+
+fn deco(alloc: Global, kind: Kind, text: &str, style: Style) -> Result<Deco, Fail> {
+    let text = Str::of_text(alloc, text)?;
+    match kind {
+        Kind::Mark => Ok(Deco::mark(style, NEITHER)),
+        Kind::Widget(side) => Ok(Deco::widget(text, style, side).ok().ok_or("a side")?),
+        Kind::Replace => Ok(Deco::replace(text, style, NEITHER)),
+        Kind::Line => Ok(Deco::line(style)),
+    }
+}
+
+fn ranges_of(alloc: Global, given: &[Given]) -> Result<Vec<Ranged<Deco>>, Fail> {
+    let mut ranges = Vec::new(alloc);
+    for (kind, from, to, text, style) in given {
+        let value = deco(alloc, *kind, text, *style)?;
+        ranges.push(Ranged {
+            from: *from,
+            to: *to,
+            value,
+        })?;
+    }
+    Ok(ranges)
+}
+
+fn set_of(alloc: Global, given: &[Given]) -> Result<DecoSet, Fail> {
+    let ranges = ranges_of(alloc, given)?;
+    Ok(RangeSet::of(ranges).ok().ok_or("a set")?)
+}
+
+fn layers_of(alloc: Global, given: &[&[Given]]) -> Result<Layers, Fail> {
+    let mut sets = Vec::new(alloc);
+    for set in given {
+        sets.push(set_of(alloc, set)?)?;
+    }
+    Ok(Layers::of(sets))
+}
+
+fn document(alloc: Global, text: &str) -> Result<Text, Fail> {
+    let characters: Vec<char> = text.chars().collect(alloc)?;
+    if characters.len() > 1000 {
+        return Err("a short text".into());
+    }
+    Ok(Text::of(alloc, characters.as_slice())?)
+}
+
+/// The runs of a screen's rows.
+fn runs_of_rows(alloc: Global, screen: &Screen) -> Result<Vec<Vec<Run>>, AllocError> {
+    let mut rows = Vec::new(alloc);
+    for row in screen.rows() {
+        rows.push(runs_of(alloc, row.cells())?)?;
+    }
+    Ok(rows)
+}
+
+/// The frame of a view that is drawn twice.
+fn drawn<L: Ledger>(alloc: Global, view: &View<'_>, blank: Blank) -> Result<String, AllocError>
+    requires name { blank.name ≡ L.name }
+    requires parts { blank.parts ≡ L.parts }
+    requires some { 0 < blank.parts }
+    requires positive { 0 < (shown_view view.now).tab }
+    requires small { (shown_view view.now).tab ≤ 16 }
+    requires inside { LieIn (length (shown_view view.now).text) (shown_view view.now).selection.ranges }
+    requires shows { ShowsHead (shown_view view.now) }
+{
+    let mut laid: Steps<L> = Steps::new(blank);
+    let mut screen = Screen::blank(alloc);
+    screen.draw(view, &mut laid)?;
+    screen.draw(view, &mut laid)?;
+    let rows = runs_of_rows(alloc, &screen)?;
+    frame(alloc, rows.as_slice(), screen.cursor())
+}
+
+/// The frame that shows a document, once the window shows the selection's head.
+fn frame_of(
+    alloc: Global,
+    doc: &Text,
+    layers: &Layers,
+    selection: &Selection,
+    window: &Viewport,
+) -> Result<String, AllocError>
+    requires { LieIn (length doc.now.characters) selection.now.ranges }
+{
+    let view = View {
+        doc,
+        selection,
+        layers,
+        tab: 4,
+        window,
+    };
+    let window = reveal(alloc, &view)?;
+    let view = View {
+        doc,
+        selection,
+        layers,
+        tab: 4,
+        window: &window,
+    };
+    drawn::<Brand>(alloc, &view, Blank::new(1))
+}
+
+fn shown(alloc: Global, case: &Case<'_>) -> Result<String, Fail> {
+    let doc = document(alloc, case.doc)?;
+    let layers = layers_of(alloc, case.layers)?;
+    let selection = Selection::single(alloc, case.selection.0, case.selection.1)?;
+    let window = Viewport::new(case.size.0, case.size.1)
+        .ok()
+        .ok_or("a size")?;
+    if first_outside(selection.ranges(), doc.len()).is_some() {
+        return Err("a selection of the document".into());
+    }
+    Ok(frame_of(alloc, &doc, &layers, &selection, &window)?)
+}
+
+/// Whether the case's frame is this one, where `^` stands for ESC and `[`.
+fn shows(alloc: Global, case: &Case<'_>, want: &str) -> Result<bool, Fail> {
+    let frame = shown(alloc, case)?;
+    let want = want.replace(alloc, "^", "\x1b[")?;
+    Ok(frame.as_str() == want.as_str())
+}
+
+#[test]
+fn a_wide_character_at_the_edge_shows_a_blank(rt: HostRuntime) -> Result<(), Fail> {
+    let cases = [(5, "^H^1;1Ha^K^1;1H"), (6, "^H^1;1Ha   漢^K^1;1H")];
+    for (cols, want) in cases {
+        let case = Case {
+            doc: "a\t漢",
+            layers: &[],
+            selection: (0, 0),
+            size: (1, cols),
+        };
+        assert!(rt; shows(rt.alloc(), &case, want)?);
+    }
+    Ok(())
+}
+
+#[test]
+fn a_mark_of_a_higher_layer_is_inner(rt: HostRuntime) -> Result<(), Fail> {
+    let upper = [(Kind::Mark, 0, 2, "", fg(Color::Red))];
+    let lower = [
+        (Kind::Mark, 1, 3, "", fg(Color::Green)),
+        (Kind::Mark, 1, 3, "", bold()),
+    ];
+    let case = Case {
+        doc: "abc",
+        layers: &[&upper, &lower],
+        selection: (0, 0),
+        size: (1, 3),
+    };
+    assert!(rt;
+        shows(
+            rt.alloc(),
+            &case,
+            "^H^1;1H^0;31ma^0;1;31mb^0;1;32mc^0m^K^1;1H"
+        )?
+    );
+    Ok(())
+}
+
+#[test]
+fn replaced_breaks_join_lines(rt: HostRuntime) -> Result<(), Fail> {
+    let cases = [
+        (0, "^H^1;1Ha+d^K^2;1Hef^K^3;1H^K^1;1H"),
+        (3, "^H^1;1Ha+d^K^2;1Hef^K^3;1H^K^1;3H"),
+        (6, "^H^1;1Ha+d^K^2;1Hef^K^3;1H^K^2;1H"),
+    ];
+    let joined = [(Kind::Replace, 1, 4, "+", plain())];
+    for (head, want) in cases {
+        let case = Case {
+            doc: "ab\ncd\nef",
+            layers: &[&joined],
+            selection: (head, head),
+            size: (3, 5),
+        };
+        assert!(rt; shows(rt.alloc(), &case, want)?);
+    }
+    Ok(())
+}
+
+#[test]
+fn pieces_stand_in_order(rt: HostRuntime) -> Result<(), Fail> {
+    let items = [
+        (Kind::Line, 0, 0, "", bold()),
+        (Kind::Widget(0), 1, 1, "<", plain()),
+        (Kind::Widget(5), 1, 1, ">", plain()),
+        (Kind::Replace, 1, 3, "=", plain()),
+        (Kind::Widget(0), 2, 2, "hidden", plain()),
+    ];
+    let case = Case {
+        doc: "abcd",
+        layers: &[&items],
+        selection: (1, 1),
+        size: (1, 9),
+    };
+    assert!(rt; shows(rt.alloc(), &case, "^H^1;1H^0;1ma<>=d    ^0m^K^1;3H")?);
+    Ok(())
+}
+
+#[test]
+fn a_selection_is_reversed_and_shown(rt: HostRuntime) -> Result<(), Fail> {
+    let case = Case {
+        doc: "abcdefgh",
+        layers: &[],
+        selection: (5, 7),
+        size: (1, 4),
+    };
+    assert!(rt; shows(rt.alloc(), &case, "^H^1;1He^0;7mfg^0mh^K^1;4H")?);
+    Ok(())
+}

@@ -1,0 +1,10 @@
+//! The bytes that draw rows of runs in a terminal.
+//!
+//! `frame` gives them: a layer above may rely on their being exactly those of `frame` of specs/Frame, which begin at the
+//! first row, erase what is left of each, and put the cursor where it stands.
+#![tactic(auto)]
+
+mod frame_bytes;
+mod style_bytes;
+
+pub use frame_bytes::frame;
