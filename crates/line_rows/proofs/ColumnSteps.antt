@@ -1,5 +1,5 @@
 -- One piece further on the way to a column.
-use Rattle.std.proofs.Common.{◌≡◌, ℕ, ◌+◌, max, true, false, List, [], ◌∷◌, length, refl, sym, ap, ◌∙◌}
+use Rattle.std.proofs.Common.{◌≡◌, ℕ, ◌+◌, max, true, false, List, [], ◌∷◌}
 use Rattle.pieces.specs.Piece.{PieceView}
 use Rattle.line_rows.specs.Column.{column_of, is_before, width_of}
 

@@ -1,5 +1,5 @@
 -- One character further under a range, and one range further.
-use Rattle.std.proofs.Common.{min, ◌≡◌, ◌≢◌, ℕ, ◌+◌, ◌-◌, ◌<◌, ◌≤◌, ◌&&◌, nat_lt, nat_le, List, [], ◌∷◌, arith, if◌then◌else◌}
+use Rattle.std.proofs.Common.{◌≡◌, ℕ, ◌+◌, ◌&&◌, nat_lt, nat_le, List, [], ◌∷◌, if◌then◌else◌}
 use Rattle.decoration.specs.declared.style.Style.{Style}
 use Rattle.pieces.specs.Styles.{over}
 use Rattle.pieces.specs.Shading.{style_at, styled}

@@ -1,5 +1,5 @@
 -- What the code's blocks stand for.
-use Rattle.std.specs.Prelude.{ℕ, ◌+◌}
+use Rattle.std.specs.Prelude.{◌+◌}
 use Rattle.pieces.specs.Pieces.{BlockView}
 use Rattle.pieces.specs.Shading.{style_at}
 use Rattle.pieces.specs.declared.block_pieces.Block.{Block}

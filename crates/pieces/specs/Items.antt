@@ -2,7 +2,7 @@
 use Rattle.std.specs.Prelude.{ℕ, ◌-◌, ℤ, pos, int_lt, int_le, Bool, false, ◌&&◌, ◌||◌, ◌==◌, nat_lt, nat_le, List, [], ◌∷◌, flat_map, Option, Some, None, if◌then◌else◌}
 use Rattle.range_set.specs.declared.ranged.Ranged.{Ranged}
 use Rattle.decoration.specs.declared.deco.Deco.{Deco}
-use Rattle.decoration.specs.declared.deco.Deco.TheVariants.{Mark, Widget, Replace, Line}
+use Rattle.decoration.specs.declared.deco.Deco.TheVariants.{Widget, Replace}
 use Rattle.decoration.specs.declared.style.Style.{Style}
 use Rattle.stable_order.specs.StableSort.{stable_sort}
 use Rattle.pieces.specs.Piece.{PieceView}

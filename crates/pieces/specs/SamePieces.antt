@@ -1,6 +1,6 @@
 -- Equality of pieces, as a test.
 use lib.Pointwise.{pointwise}
-use Rattle.std.specs.Prelude.{Bool, ◌&&◌, nat_eq, List}
+use Rattle.std.specs.Prelude.{Bool, ◌&&◌, nat_eq}
 use Rattle.std.specs.Str.{bytes_eq}
 use Rattle.pieces.specs.Piece.{PieceView, PiecesView}
 use Rattle.pieces.specs.Styles.{same_flag, same_style}

@@ -1,9 +1,9 @@
 -- The styles of the characters of a block.
-use Rattle.std.specs.Prelude.{ℕ, Bool, true, false, ◌&&◌, not, ◌==◌, nat_lt, nat_le, List, [], ◌∷◌, ◌++◌, filter, flat_map, if◌then◌else◌}
+use Rattle.std.specs.Prelude.{ℕ, Bool, true, ◌&&◌, not, ◌==◌, nat_lt, nat_le, List, [], ◌∷◌, ◌++◌, filter, flat_map, if◌then◌else◌}
 use Rattle.range_set.specs.declared.ranged.Ranged.{Ranged}
 use Rattle.range_set.specs.Updating.{overlaps}
 use Rattle.decoration.specs.declared.deco.Deco.{Deco}
-use Rattle.decoration.specs.declared.deco.Deco.TheVariants.{Mark, Widget, Replace, Line}
+use Rattle.decoration.specs.declared.deco.Deco.TheVariants.{Mark, Line}
 use Rattle.decoration.specs.declared.style.Style.{Style}
 use Rattle.selection.specs.declared.range.Range.{Range}
 use Rattle.selection.specs.Ranges.{low, high, is_empty}

@@ -1,5 +1,5 @@
 -- Styles: their equality as a test, and one over another.
-use Rattle.std.specs.Prelude.{ℕ, Bool, true, false, not, ◌&&◌, ◌||◌, nat_eq, Option, Some, None}
+use Rattle.std.specs.Prelude.{Bool, true, false, not, ◌&&◌, ◌||◌, nat_eq, Option, Some, None}
 use Rattle.std.specs.Option.{option_or}
 use Rattle.decoration.specs.declared.style.Style.{Style}
 use Rattle.decoration.specs.declared.color.Color.{Color}

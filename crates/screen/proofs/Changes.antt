@@ -1,6 +1,6 @@
 -- One row further, and what equal keys mean.
-use Rattle.std.proofs.Common.{◌≡◌, ℕ, ◌+◌, ◌-◌, ◌<◌, ◌≤◌, true, List, [], ◌∷◌, ◌++◌, Option, Some, append_assoc, append-nil, add-one, arith, length, drop, refl, sym, ap, ◌∙◌, suc, zero}
-use Rattle.std.specs.Prelude.{slice_get, max}
+use Rattle.std.proofs.Common.{◌≡◌, ℕ, ◌+◌, ◌-◌, ◌<◌, ◌≤◌, true, List, [], ◌∷◌, ◌++◌, Option, Some, append_assoc, append-nil, arith, drop, refl, sym, ap, ◌∙◌, suc, zero}
+use Rattle.std.specs.Prelude.{slice_get}
 use Rattle.std.proofs.lemmas.Bool.{and_parts, eqb-true}
 use Rattle.selection.specs.declared.range.Range.{Range}
 use Rattle.selection.specs.Ranges.{high}
@@ -8,7 +8,6 @@ use Rattle.selection.specs.Selections.{LieIn}
 use Rattle.pieces.specs.SamePieces.{same_pieces}
 use Rattle.pieces.proofs.SameText.{same_pieces-is}
 use Rattle.screen.specs.Screen.{RowKey, ViewView, same_key, changed, cost, key_at, rows_from}
-use Rattle.std.proofs.lemmas.List.{length_push}
 
 pub same_key-is : (a b : RowKey) → same_key a b ≡ true → a ≡ b
 same_key-is a b same =

@@ -1,5 +1,5 @@
 -- Where a window is moved to show the main range's head.
-use Rattle.std.specs.Prelude.{◌≡◌, ℕ, ◌+◌, ◌-◌, min, max, List}
+use Rattle.std.specs.Prelude.{◌≡◌, ℕ, ◌-◌, min}
 use Rattle.selection.specs.declared.range.Range.{Range}
 use Rattle.line_tree.specs.declared.line.Line as lines
 use Rattle.viewport.specs.Window.{Window}

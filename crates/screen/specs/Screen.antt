@@ -1,5 +1,5 @@
 -- What a screen shows, and how many of its rows differ from those drawn last.
-use Rattle.std.specs.Prelude.{◌≡◌, ℕ, zero, suc, ◌+◌, ◌-◌, ◌<◌, ◌≤◌, Bool, ◌&&◌, nat_eq, List, [], ◌∷◌, Option, Some, None, slice_get, if◌then◌else◌}
+use Rattle.std.specs.Prelude.{◌≡◌, ℕ, zero, suc, ◌+◌, ◌-◌, ◌≤◌, Bool, ◌&&◌, nat_eq, List, [], ◌∷◌, Option, Some, None, slice_get, if◌then◌else◌}
 use Rattle.range_set.specs.declared.ranged.Ranged.{Ranged}
 use Rattle.decoration.specs.declared.deco.Deco.{Deco}
 use Rattle.selection.specs.declared.range.Range.{Range}
@@ -9,7 +9,7 @@ use Rattle.viewport.specs.Window.{Window}
 use Rattle.viewport.specs.Reveal.{Shows}
 use Rattle.blocks.specs.Hiding.{blocks_of}
 use Rattle.pieces.specs.Piece.{PiecesView}
-use Rattle.pieces.specs.Pieces.{pieces_of}
+use Rattle.pieces.specs.Rules.{pieces_of}
 use Rattle.pieces.specs.SamePieces.{same_pieces}
 use Rattle.pieces.specs.Styles.{plain}
 use Rattle.line_rows.specs.Column.{column_of}

@@ -61,7 +61,14 @@ pub(crate) fn head_place(
 {
     let main = view.selection.main();
     let block = blocks.at(main.head);
-    let pieces = pieces(alloc, view.doc, block.from, block.to, view.layers, view.selection)?;
+    let pieces = pieces(
+        alloc,
+        view.doc,
+        block.from,
+        block.to,
+        view.layers,
+        view.selection,
+    )?;
     let (column, width) = column_of(&pieces, view.tab, main.head - block.from);
     Ok(HeadPlace {
         number: block.number,

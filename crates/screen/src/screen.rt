@@ -101,7 +101,14 @@ fn redrawn<L: Ledger>(
     let mut rows = Vec::new(alloc);
     let top = view.window.top();
     for i in 0..view.window.rows() {
-        let row = drawn_row(alloc, row_at(old, i as usize), view, blocks, top + i as u128, laid)?;
+        let row = drawn_row(
+            alloc,
+            row_at(old, i as usize),
+            view,
+            blocks,
+            top + i as u128,
+            laid,
+        )?;
         rows.push(row)?;
     }
     Ok(rows)
@@ -129,7 +136,15 @@ fn drawn_row<L: Ledger>(
     ensures bound { laid.new ≤ laid.old + cost (option_copied old.entry) (key_at (shown_view view.now) number) }
 {
     let pieces = row_pieces(alloc, view, blocks, number)?;
-    next_row(alloc, old, pieces, view.tab, view.window.cols(), view.window.left(), laid)
+    next_row(
+        alloc,
+        old,
+        pieces,
+        view.tab,
+        view.window.cols(),
+        view.window.left(),
+        laid,
+    )
 }
 
 /// The pieces of the block of a number, none past the last one.
@@ -146,7 +161,14 @@ fn row_pieces(
         return Ok(Pieces::none(alloc, Style::plain()));
     }
     let block = blocks.span(number as u64);
-    pieces(alloc, view.doc, block.from, block.to, view.layers, view.selection)
+    pieces(
+        alloc,
+        view.doc,
+        block.from,
+        block.to,
+        view.layers,
+        view.selection,
+    )
 }
 
 /// The row of these pieces: the old one where it is equal, else one that is laid out anew.

@@ -31,6 +31,7 @@ type Given = (Kind, u32, u32, &'static str, Style);
 
 /// A case: a document, the decorations of its layers, the anchor and the head of its selection, and the rows and columns
 /// of its window.
+#[derive(Clone, Copy, Drop)]
 struct Case<'a> {
     doc: &'a str,
     layers: &'a [&'a [Given]],
@@ -164,7 +165,9 @@ fn shown(alloc: Global, case: &Case<'_>) -> Result<String, Fail> {
     let doc = document(alloc, case.doc)?;
     let layers = layers_of(alloc, case.layers)?;
     let selection = Selection::single(alloc, case.selection.0, case.selection.1)?;
-    let window = Viewport::new(case.size.0, case.size.1).ok().ok_or("a size")?;
+    let window = Viewport::new(case.size.0, case.size.1)
+        .ok()
+        .ok_or("a size")?;
     if first_outside(selection.ranges(), doc.len()).is_some() {
         return Err("a selection of the document".into());
     }
@@ -206,7 +209,13 @@ fn a_mark_of_a_higher_layer_is_inner(rt: HostRuntime) -> Result<(), Fail> {
         selection: (0, 0),
         size: (1, 3),
     };
-    assert!(rt; shows(rt.alloc(), &case, "^H^1;1H^0;31ma^0;1;31mb^0;1;32mc^0m^K^1;1H")?);
+    assert!(rt;
+        shows(
+            rt.alloc(),
+            &case,
+            "^H^1;1H^0;31ma^0;1;31mb^0;1;32mc^0m^K^1;1H"
+        )?
+    );
     Ok(())
 }
 

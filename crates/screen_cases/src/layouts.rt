@@ -42,7 +42,13 @@ fn lays_out_texts(rt: HostRuntime) -> Result<(), Fail> {
 
 #[test]
 fn counts_columns(rt: HostRuntime) -> Result<(), Fail> {
-    let cases = [("", 0, 0), ("a\t", 0, 4), ("\t", 3, 1), ("a漢", 7, 3), ("\u{1}", 0, 1)];
+    let cases = [
+        ("", 0, 0),
+        ("a\t", 0, 4),
+        ("\t", 3, 1),
+        ("a漢", 7, 3),
+        ("\u{1}", 0, 1),
+    ];
     for (text, start, columns) in cases {
         assert!(rt; columns_of(text, 4, start) == columns, "{text}");
     }

@@ -20,7 +20,11 @@ pub fn frame(alloc: Global, rows: &[Vec<Run>], cursor: Cursor) -> Result<String,
         push_place(&mut out, number, 1)?;
         push_row(&mut out, runs)?;
     }
-    push_place(&mut out, u64::from(cursor.row) + 1, u64::from(cursor.column) + 1)?;
+    push_place(
+        &mut out,
+        u64::from(cursor.row) + 1,
+        u64::from(cursor.column) + 1,
+    )?;
     Ok(out)
 }
 

@@ -1,4 +1,4 @@
-use Rattle.std.proofs.Common.{◌≡◌, ◌<◌, ◌≤◌, ℕ, List, length, true, false, arith, refl, sym, ap, ◌∙◌}
+use Rattle.std.proofs.Common.{ℕ, List, length, arith, sym, ap, ◌∙◌}
 use Rattle.std.proofs.lemmas.List.{drop_all}
 use Rattle.cells.specs.Layout.{cells_of}
 use Rattle.line_rows.proofs.Windows.{drop_item}

@@ -1,4 +1,4 @@
-use Rattle.std.proofs.Common.{◌≡◌, ◌+◌, ◌<◌, ◌≤◌, arith, ap, ◌∙◌, length}
+use Rattle.std.proofs.Common.{◌≡◌, ◌<◌, ◌≤◌, arith, ap, ◌∙◌, length}
 use Rattle.cells.specs.Layout.{cells_of}
 use Rattle.line_rows.proofs.Windows.{edge_end, pieces_step, pieces_end}
 use Rattle.line_rows.proofs.rows.push_pieces.Goals as goal

@@ -1,9 +1,8 @@
-use Rattle.std.proofs.Common.{◌≡◌, ℕ, ◌≤◌, ◌+◌, ◌++◌, length, true, arith, refl, ap, ◌∙◌}
-use Rattle.std.specs.Str.{chars}
+use Rattle.std.proofs.Common.{ℕ, ◌+◌, arith, refl, ap, ◌∙◌}
 use Rattle.unicode_segmentation.specs.Iter.{graphemes_left}
 use Rattle.pieces.specs.Piece.{PiecesView}
 use Rattle.pieces.specs.Pieces.{style_in}
-use Rattle.pieces.proofs.Walks.{place_begin, place_step, place_fits, place_end}
+use Rattle.pieces.proofs.Walks.{place_begin, place_step, place_end}
 use Rattle.pieces.proofs.block_pieces.push_clusters.Goals as goal
 
 pub loop-cluster-init : goal.loop-cluster-init

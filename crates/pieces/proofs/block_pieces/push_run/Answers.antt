@@ -1,4 +1,4 @@
-use Rattle.std.proofs.Common.{◌≡◌, [], ◌++◌, ◌≤◌, min, sym, append-nil, arith}
+use Rattle.std.proofs.Common.{◌≡◌, [], ◌++◌, sym, append-nil, arith}
 use Rattle.pieces.specs.Pieces.{run}
 use Rattle.pieces.specs.Blocks.{shown_block}
 use Rattle.pieces.proofs.Walks.{run-none}

@@ -1,4 +1,4 @@
-use Rattle.std.proofs.Common.{◌≡◌, refl, sym, ap, ◌∙◌, arith, drop, ◌<◌, ◌≤◌, length}
+use Rattle.std.proofs.Common.{◌≡◌, refl, ap, ◌∙◌, arith}
 use Rattle.pieces.specs.Shading.{block_style}
 use Rattle.pieces.proofs.Shades.{block_begin, block_step}
 use Rattle.pieces.proofs.shading.block_style.Goals as goal

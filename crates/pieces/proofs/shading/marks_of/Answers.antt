@@ -1,5 +1,4 @@
-use Rattle.std.proofs.Common.{◌≡◌, refl, sym, ap, ◌∙◌, arith, drop, ◌<◌, ◌≤◌, length}
-use Rattle.pieces.specs.Shading.{marks_of}
+use Rattle.std.proofs.Common.{refl, arith}
 use Rattle.pieces.proofs.Shades.{marks_begin, marks_step}
 use Rattle.pieces.proofs.shading.marks_of.Goals as goal
 

@@ -1,5 +1,5 @@
-use Rattle.std.proofs.Common.{◌≡◌, ◌≤◌, ◌-◌, ℕ, length, sym, ap, ◌∙◌, refl, arith}
-use Rattle.std.specs.Prelude.{slice_get, Some}
+use Rattle.std.proofs.Common.{◌-◌, ℕ, length, sym, ap, ◌∙◌, refl, arith}
+use Rattle.std.specs.Prelude.{slice_get}
 use Rattle.line_tree.specs.declared.line.Line as lines
 use Rattle.pieces.specs.Piece.{PiecesView}
 use Rattle.line_rows.specs.Column.{column_of}

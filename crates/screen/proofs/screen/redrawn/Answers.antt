@@ -1,5 +1,5 @@
-use Rattle.std.proofs.Common.{◌≡◌, ◌<◌, ◌≤◌, refl, arith}
-use Rattle.screen.specs.Screen.{drawn, shown_view}
+use Rattle.std.proofs.Common.{arith}
+use Rattle.screen.specs.Screen.{shown_view}
 use Rattle.screen.proofs.Changes.{spent_step, spent_fails, spent_rows}
 use Rattle.screen.proofs.screen.redrawn.Goals as goal
 

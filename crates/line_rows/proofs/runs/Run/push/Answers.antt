@@ -1,4 +1,3 @@
-use Rattle.std.proofs.Common.{◌≡◌, ◌++◌, ap, ◌∙◌}
 use Rattle.line_rows.specs.Run.{cell_text}
 use Rattle.line_rows.proofs.RunSteps.{text_more}
 use Rattle.line_rows.proofs.runs.Run.push.Goals as goal
