@@ -1,1 +1,7 @@
-pub mod Masks
+pub mod Lines
+pub mod Stepping
+pub mod Walking
+pub mod Finding
+pub mod Merging
+pub mod Covered
+pub mod Apart

@@ -25,19 +25,34 @@ set_hides p set = list_any (hides p) set
 abbrev pub is_hidden : List (List (Ranged Deco)) → ℕ → Bool
 is_hidden layers p = list_any (set_hides p) layers
 
--- a hidden character is a space
-abbrev pub shown_as : Bool → ℕ → ℕ
-shown_as hidden c = if hidden then 32 else c
+-- a block with one line more at its end
+abbrev pub longer : lines.Line → lines.Line → lines.Line
+longer block line = record { number = block.number; from = block.from; to = line.to }
 
--- characters, the first of which stands at the place p, in which each hidden one is a space
-unfoldable pub masked : (ℕ → Bool) → ℕ → List ℕ → List ℕ
-masked hidden p [] = []
-masked hidden p (c ∷ cs) = shown_as (hidden p) c ∷ masked hidden (p + 1) cs
+-- the block of a line, which comes after another block
+abbrev pub next_block : lines.Line → lines.Line → lines.Line
+next_block block line = record { number = block.number + 1; from = line.from; to = line.to }
 
--- Blocks: lines with a hidden break between them are in one block. So the blocks of a text are the lines of the text in which
--- each hidden character is a space, with their numbers, from 1, and the places where they start and end.
+-- The blocks of lines, the first of which begins in the block of the line before: a line is in the block of the line before it
+-- exactly where the break between them is hidden.
+unfoldable pub blocks_after : (lines.Line → Bool) → (block last : lines.Line) → List lines.Line → List lines.Line
+blocks_after is_joined block last [] = block ∷ []
+blocks_after is_joined block last (line ∷ lines) =
+    if is_joined last then blocks_after is_joined (longer block line) line lines
+    else block ∷ blocks_after is_joined (next_block block line) line lines
+
+abbrev pub joined_lines : (lines.Line → Bool) → List lines.Line → List lines.Line
+joined_lines is_joined [] = []
+joined_lines is_joined (line ∷ lines) = blocks_after is_joined line line lines
+
+-- whether the break at a line's end is hidden
+abbrev pub hides_break : List (List (Ranged Deco)) → lines.Line → Bool
+hides_break layers line = is_hidden layers line.to
+
+-- Blocks: line n + 1 is in the block of line n exactly where a replacement of some layer covers the break between them. They
+-- are numbered from 1, and each starts where its first line starts and ends where its last line ends.
 abbrev pub blocks_of : List ℕ → List (List (Ranged Deco)) → List lines.Line
-blocks_of text layers = lines_of (masked (is_hidden layers) 0 text)
+blocks_of text layers = joined_lines (hides_break layers) (lines_of text)
 
 -- the line of this number is the one in which a place stands
 pub record IsLineAt (text : List ℕ) (number place : ℕ) : Type 0 where

@@ -2,40 +2,33 @@
 ghost use Rattle.std.specs.Prelude.{◌≡◌, ◌-◌, ◌<◌, ◌≤◌, length, slice_get, Some, IfOk};
 ghost use Rattle.blocks.specs.Hiding.{BlocksView, IsLineAt, blocks_of};
 
-use crate::masking::masked;
+use crate::block::Block;
+use crate::collecting::joins_of;
+use crate::joins::Joins;
+use crate::searching::{block_count, block_of_line, numbered_block};
 use decoration::Layers;
 use line_tree::Text;
 use std::alloc::{AllocError, Global};
 use std::marker::Model;
 
-/// A block: its number, which counts from 1, the numbers of its first and its last line, and the places in characters
-/// where it starts and ends.
-#[derive(Clone, Copy, Drop)]
-pub struct Block {
-    pub number: u64,
-    pub first: u64,
-    pub last: u64,
-    pub from: u32,
-    pub to: u32,
-}
-
 /// The blocks of a text under its decorations.
 #[derive(Drop)]
 pub struct Blocks {
     text: Text,
-    masked: Text,
+    joins: Joins,
 }
 
 impl Model for Blocks {
     ghost use Rattle.std.specs.Prelude.{◌≡◌, length};
     ghost use Rattle.line_tree.specs.Lines.{lines_of};
-    ghost use Rattle.blocks.specs.Hiding.{BlocksView};
+    ghost use Rattle.blocks.specs.Hiding.{BlocksView, joined_lines};
+    ghost use Rattle.blocks.specs.Joins.{AreJoins, is_joined};
 
     ghost Value = { BlocksView };
 
-    ghost view = { λ b. record { text = b.text.characters; blocks = lines_of b.masked.characters } };
+    ghost view = { λ b. record { text = b.text.characters; blocks = joined_lines (is_joined b.joins.list.items) (lines_of b.text.characters) } };
 
-    ghost invariant = { λ b. length b.masked.characters ≡ length b.text.characters };
+    ghost invariant = { λ b. (b.joins.lines ≡ length (lines_of b.text.characters)) × AreJoins b.joins.lines 0 0 b.joins.list.items };
 }
 
 impl Blocks {
@@ -43,9 +36,9 @@ impl Blocks {
     pub fn of(alloc: Global, text: &Text, layers: &Layers) -> Result<Blocks, AllocError>
         ensures { IfOk result (λ b. b ≡ record { text = text.now.characters; blocks = blocks_of text.now.characters layers.now }) }
     {
-        let masked = masked(alloc, text, layers)?;
+        let joins = joins_of(alloc, text, layers)?;
         let text = text.try_copy()?;
-        Ok(Blocks { text, masked })
+        Ok(Blocks { text, joins })
     }
 
     /// How many blocks there are, at least one.
@@ -53,7 +46,7 @@ impl Blocks {
         ensures value { result ≡ length self.now.blocks }
         ensures some { 0 < result }
     {
-        self.masked.lines()
+        block_count(&self.text, &self.joins)
     }
 
     /// The block in which a place stands.
@@ -66,8 +59,8 @@ impl Blocks {
         ensures first { IsLineAt self.now.text result.first result.from }
         ensures last { IsLineAt self.now.text result.last result.to }
     {
-        let line = self.masked.line_at(pos);
-        self.with_lines(line.number, line.from, line.to)
+        let line = self.text.line_at(pos);
+        block_of_line(&self.text, &self.joins, line.number)
     }
 
     /// The block of a number, from 1 to the count of blocks.
@@ -81,35 +74,6 @@ impl Blocks {
         ensures first { IsLineAt self.now.text result.first result.from }
         ensures last { IsLineAt self.now.text result.last result.to }
     {
-        let line = self.masked.line(number);
-        self.with_lines(line.number, line.from, line.to)
+        numbered_block(&self.text, &self.joins, number)
     }
-
-    /// The block that starts and ends at two places.
-    fn with_lines(&self, number: u64, from: u32, to: u32) -> Block
-        requires order { from ≤ to }
-        requires within { to ≤ length self.now.text }
-        ensures number { result.number ≡ number }
-        ensures from { result.from ≡ from }
-        ensures to { result.to ≡ to }
-        ensures first { IsLineAt self.now.text result.first from }
-        ensures last { IsLineAt self.now.text result.last to }
-    {
-        Block {
-            number,
-            first: line_number(&self.text, from),
-            last: line_number(&self.text, to),
-            from,
-            to,
-        }
-    }
-}
-
-/// The number of the line in which a place stands.
-fn line_number(text: &Text, place: u32) -> u64
-    requires { place ≤ length text.now.characters }
-    ensures { IsLineAt text.now.characters result place }
-{
-    let line = text.line_at(place);
-    line.number
 }

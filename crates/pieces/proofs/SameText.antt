@@ -97,3 +97,10 @@ same_pieces-is a b same =
       style = same_style-is a.style b.style parts.0 i;
       pieces = (same_list-decides a.pieces b.pieces).0 parts.1 i;
     }
+
+same_pieces-own : (a : PiecesView) → same_pieces a a ≡ true
+same_pieces-own a = and_from _ _ (same_style-own a.style) ((same_list-decides a.pieces a.pieces).1 refl)
+
+-- the test of pieces is their equality
+pub pieces_same : (a b : PiecesView) (result : Bool) → result ≡ same_pieces a b → IsTrue result ↔ (a ≡ b)
+pieces_same a b result is = (λ same. same_pieces-is a b (sym is ∙ same), λ e. is ∙ (rw (← e) (same_pieces-own a)))

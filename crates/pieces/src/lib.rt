@@ -1,9 +1,10 @@
-//! What a row of the window shows of a document: blocks of lines, and the pieces of a block.
+//! What a row of the window shows of a document: the pieces of a block of lines.
 //!
-//! A block is a list of lines between which replacements hide the breaks (`Blocks`). `pieces` cuts a block into its
-//! clusters and the texts of widgets and replacements, each with its style. A layer above may rely on their exact
-//! results, and on equal pieces being equal data. No call looks at more of the document than the block, and at no
-//! more decorations than those that touch it.
+//! A block is a list of lines between which replacements hide the breaks; the crate `blocks` finds them. `pieces` cuts
+//! the characters from one place to another into clusters and the texts of widgets and replacements, each with its
+//! style. A layer above may rely on its exact result, and on `same` telling exactly whether pieces are equal. As the
+//! code is written, and without a clause that says so, a call reads only these characters and the decorations that
+//! touch them, and makes one text for each cluster.
 #![tactic(auto)]
 
 mod block_pieces;

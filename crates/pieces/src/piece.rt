@@ -1,6 +1,6 @@
 // The pieces of a block.
 ghost use lib.Pointwise.{pointwise};
-ghost use Rattle.std.specs.Prelude.{◌≡◌, ◌≤◌, ◌^◌, [], ◌∷◌, ◌++◌, chars, length, OnOk, OnErr};
+ghost use Rattle.std.specs.Prelude.{◌≡◌, ◌↔◌, ◌≤◌, ◌^◌, [], ◌∷◌, ◌++◌, chars, length, IsTrue, OnOk, OnErr};
 ghost use Rattle.std.specs.Str.{bytes_eq};
 ghost use Rattle.std.specs.String.{string_bytes};
 ghost use Rattle.pieces.specs.SamePieces.{same_piece, same_pieces};
@@ -145,11 +145,17 @@ impl Pieces {
 
     /// Whether the pieces and the blocks' own styles are equal.
     pub fn same(&self, other: &Pieces) -> bool
-        ensures { result ≡ same_pieces self.now other.now }
+        ensures value { result ≡ same_pieces self.now other.now }
+        ensures equal { IsTrue result ↔ (self.now ≡ other.now) }
     {
-        same_style(self.style, other.style)
-            && same_list(self.list.as_slice(), other.list.as_slice())
+        are_same(self, other)
     }
+}
+
+fn are_same(a: &Pieces, b: &Pieces) -> bool
+    ensures { result ≡ same_pieces a.now b.now }
+{
+    same_style(a.style, b.style) && same_list(a.list.as_slice(), b.list.as_slice())
 }
 
 fn same_list(a: &[Piece], b: &[Piece]) -> bool

@@ -2,67 +2,36 @@
 use Rattle.std.proofs.Common.{◌≡◌, ℕ, zero, suc, ◌+◌, ◌-◌, ◌≤◌, max, Bool, true, false, List, [], ◌∷◌, length, if◌then◌else◌, Option, Some, sym, ap, ◌∙◌, arith}
 use Rattle.std.specs.Prelude.{slice_get}
 use Rattle.line_tree.specs.declared.line.Line as lines
-use Rattle.line_tree.specs.Lines.{numbered}
 use Rattle.selection.specs.declared.range.Range.{Range}
 use Rattle.viewport.specs.Reveal.{Shows}
 use Rattle.viewport.specs.Window.{Window}
 use Rattle.blocks.specs.Hiding.{blocks_of}
+use Rattle.blocks.proofs.Apart.{number_is, one_block}
 use Rattle.pieces.specs.Piece.{PieceView}
 use Rattle.line_rows.specs.Column.{column_of, is_before, width_of}
 use Rattle.screen.specs.Screen.{ViewView, IsHeadAt, IsPlaced, ShowsHead, block_at, head_column}
 
-later_starts : (n f : ℕ) (ls : List (List ℕ)) (k : ℕ) (l : lines.Line) → slice_get (numbered n f ls) k ≡ Some l → f ≤ l.from
-later_starts n f [] k l is = cc
-later_starts n f (x ∷ xs) zero l is =
-    let from : f ≡ l.from = cc in
-    omega arith
-later_starts n f (x ∷ xs) (suc k) l is =
-    let more = later_starts (n + 1) (f + length x + 1) xs k l is in
-    omega (arith, more)
-
-one_line : (n f : ℕ) (ls : List (List ℕ)) (i j : ℕ) (a b : lines.Line) (p : ℕ) → slice_get (numbered n f ls) i ≡ Some a → slice_get (numbered n f ls) j ≡ Some b → a.from ≤ p → p ≤ a.to → b.from ≤ p → p ≤ b.to → a ≡ b
-one_line n f [] i j a b p is are s e t u = cc
-one_line n f (x ∷ xs) zero zero a b p is are s e t u = cc
-one_line n f (x ∷ xs) zero (suc j) a b p is are s e t u =
-    let ends : f + length x ≡ a.to = cc in
-    let starts = later_starts (n + 1) (f + length x + 1) xs j b are in
-    absurd (omega (arith, ends, starts))
-one_line n f (x ∷ xs) (suc i) zero a b p is are s e t u =
-    let ends : f + length x ≡ b.to = cc in
-    let starts = later_starts (n + 1) (f + length x + 1) xs i a is in
-    absurd (omega (arith, ends, starts))
-one_line n f (x ∷ xs) (suc i) (suc j) a b p is are s e t u = one_line (n + 1) (f + length x + 1) xs i j a b p is are s e t u
-
-number_is : (n f : ℕ) (ls : List (List ℕ)) (k : ℕ) (l : lines.Line) → slice_get (numbered n f ls) k ≡ Some l → l.number ≡ n + k
-number_is n f [] k l is = cc
-number_is n f (x ∷ xs) zero l is =
-    let same : n ≡ l.number = cc in
-    omega arith
-number_is n f (x ∷ xs) (suc k) l is =
-    let more = number_is (n + 1) (f + length x + 1) xs k l is in
-    omega (arith, more)
-
 -- a block that is found by its number less 1 is the block of that number
 pub block_found : (v : ViewView) (b : lines.Line) → slice_get (blocks_of v.text v.layers) (b.number - 1) ≡ Some b → block_at v b.number ≡ Some b
 block_found v b is =
-    let number = number_is 1 0 _ (b.number - 1) b is in
+    let number = number_is v.text v.layers (b.number - 1) b is in
     let some : b.number ≡ suc (b.number - 1) = omega (arith, number) in
     ap (block_at v) some ∙ is
 
 got : {X : Type 0} (x y : X) (o : Option X) → o ≡ Some x → o ≡ Some y → x ≡ y
 got x y o is are = cc
 
-one_block : (v : ViewView) (i j : ℕ) (a b : lines.Line) (p : ℕ) → block_at v i ≡ Some a → block_at v j ≡ Some b → a.from ≤ p → p ≤ a.to → b.from ≤ p → p ≤ b.to → a ≡ b
-one_block v zero j a b p is are s e t u = cc
-one_block v (suc i) zero a b p is are s e t u = cc
-one_block v (suc i) (suc j) a b p is are s e t u = one_line 1 0 _ i j a b p is are s e t u
+one_shown : (v : ViewView) (i j : ℕ) (a b : lines.Line) (p : ℕ) → block_at v i ≡ Some a → block_at v j ≡ Some b → a.from ≤ p → p ≤ a.to → b.from ≤ p → p ≤ b.to → a ≡ b
+one_shown v zero j a b p is are s e t u = cc
+one_shown v (suc i) zero a b p is are s e t u = cc
+one_shown v (suc i) (suc j) a b p is are s e t u = one_block v.text v.layers i j a b p is are s e t u
 
 -- a head stands in one block
 pub one_head : (v : ViewView) (m n : Range) (a b : lines.Line) → IsHeadAt v m a → IsHeadAt v n b → (m ≡ n) × (a ≡ b)
 one_head v m n a b here there =
     let same : m ≡ n = got m n _ here.is_main there.is_main in
     let head : m.head ≡ n.head = ap (λ (r : Range). r.head) same in
-    (same, one_block v a.number b.number a b m.head here.is_block there.is_block here.starts here.ends (omega (arith, there.starts, head)) (omega (arith, there.ends, head)))
+    (same, one_shown v a.number b.number a b m.head here.is_block there.is_block here.starts here.ends (omega (arith, there.starts, head)) (omega (arith, there.ends, head)))
 
 -- a window that shows a place of the head shows the head
 pub shows_head : (v : ViewView) (w : Window) (number column width : ℕ) → IsPlaced v number column width → Shows w number column 1 → ShowsHead (record v { window = w })
