@@ -1,0 +1,62 @@
+-- What is kept of a stored rule: its answers are its number's meaning, on every input of its shapes.
+use Rattle.std.specs.Prelude.{◌≡◌, ℕ, ◌≤◌, Bool, List, All, Option, Result}
+use Rattle.std.specs.Fn.{Mut}
+use Rattle.std.specs.Borrow.{Bor}
+use Rattle.std.specs.Result.{ForOk}
+use Rattle.std.specs.declared.alloc.AllocError.{AllocError}
+use Rattle.line_tree.specs.Text.{max_len}
+use Rattle.change_desc.specs.declared.section.Section.{Section}
+use Rattle.change_desc.specs.Sections.{counted, new_size, old_size}
+use Rattle.values.specs.declared.val.Val.{Val}
+use Rattle.values.specs.declared.answers.Guarding.{Guarding}
+use Rattle.values.specs.declared.answers.Filtering.{Filtering}
+use Rattle.values.specs.declared.answers.Extension.{Extension}
+use Rattle.rule_kit.specs.declared.combiner.Combiner.{Combiner}
+use Rattle.rule_kit.specs.declared.comparer.Comparer.{Comparer}
+use Rattle.rule_kit.specs.declared.computer.Computer.{Computer}
+use Rattle.rule_kit.specs.declared.computer_n.ComputerN.{ComputerN}
+use Rattle.rule_kit.specs.declared.creator.Creator.{Creator}
+use Rattle.rule_kit.specs.declared.updater.Updater.{Updater}
+use Rattle.rule_kit.specs.declared.effect_map.EffectMap.{EffectMap}
+use Rattle.rule_kit.specs.declared.change_guard.ChangeGuard.{ChangeGuard}
+use Rattle.rule_kit.specs.declared.tr_filter.TrFilter.{TrFilter}
+use Rattle.rule_kit.specs.declared.extender.Extender.{Extender}
+use Rattle.values.specs.Vals.{IsOf}
+use Rattle.values.specs.Views.{AreDeps, DepsView, IsTransaction, TransactionView, AreWithin}
+use Rattle.values.specs.Rules.{Rules}
+
+module _ {M X : Type 0} {F : X → Type 0} where
+  pub record Combines {g : Mut ((x : X) × F x) (Bor (List Val) × Unit {0}) (Result Val AllocError)} (rules : Rules) (c : Combiner M X F g) : Type 0 where
+    pub gives : (p : Bor (List Val)) (r : Result Val AllocError) → All (IsOf (rules.combine_input c.number)) p.now → g.post (c.rule.vtable, c.rule.value) (p, tt) r → ForOk r (λ v. v ≡ rules.combine c.number p.now)
+
+  pub record Compares {g : Mut ((x : X) × F x) (Bor Val × (Bor Val × Unit {0})) Bool} (rules : Rules) (c : Comparer M X F g) : Type 0 where
+    pub answers : (p q : Bor Val) (r : Bool) → g.post (c.rule.vtable, c.rule.value) (p, (q, tt)) r → r ≡ rules.compare c.number p.now q.now
+
+  pub record Computes {g : Mut ((x : X) × F x) (Bor DepsView × Unit {0}) (Result Val AllocError)} (rules : Rules) (c : Computer M X F g) : Type 0 where
+    pub gives : (p : Bor DepsView) (r : Result Val AllocError) → AreDeps p.now → g.post (c.rule.vtable, c.rule.value) (p, tt) r → ForOk r (λ v. v ≡ rules.compute c.number p.now)
+
+  pub record ComputesLists {g : Mut ((x : X) × F x) (Bor DepsView × Unit {0}) (Result (List Val) AllocError)} (rules : Rules) (c : ComputerN M X F g) : Type 0 where
+    pub gives : (p : Bor DepsView) (r : Result (List Val) AllocError) → AreDeps p.now → g.post (c.rule.vtable, c.rule.value) (p, tt) r → ForOk r (λ vs. vs ≡ rules.compute_list c.number p.now)
+
+  pub record Creates {g : Mut ((x : X) × F x) (Bor DepsView × Unit {0}) (Result Val AllocError)} (rules : Rules) (c : Creator M X F g) : Type 0 where
+    pub gives : (p : Bor DepsView) (r : Result Val AllocError) → AreDeps p.now → g.post (c.rule.vtable, c.rule.value) (p, tt) r → ForOk r (λ v. v ≡ rules.create c.number p.now)
+
+  pub record Updates {g : Mut ((x : X) × F x) (Bor Val × (Bor TransactionView × (Bor DepsView × Unit {0}))) (Result Val AllocError)} (rules : Rules) (c : Updater M X F g) : Type 0 where
+    pub gives : (p : Bor Val) (t : Bor TransactionView) (q : Bor DepsView) (r : Result Val AllocError) → IsOf (rules.update_shape c.number) p.now → IsTransaction t.now → AreDeps q.now
+        → g.post (c.rule.vtable, c.rule.value) (p, (t, (q, tt))) r → ForOk r (λ v. v ≡ rules.update c.number p.now t.now q.now)
+
+  pub record MapsEffects {g : Mut ((x : X) × F x) (Val × (Bor (List (Section ℕ)) × Unit {0})) (Result (Option Val) AllocError)} (rules : Rules) (c : EffectMap M X F g) : Type 0 where
+    pub gives : (v : Val) (d : Bor (List (Section ℕ))) (r : Result (Option Val) AllocError) → AreWithin d.now
+        → g.post (c.rule.vtable, c.rule.value) (v, (d, tt)) r → ForOk r (λ mapped. mapped ≡ rules.map_effect c.number v d.now)
+
+  pub record Guards {g : Mut ((x : X) × F x) (Bor TransactionView × (Bor Val × Unit {0})) (Result Guarding AllocError)} (rules : Rules) (c : ChangeGuard M X F g) : Type 0 where
+    pub gives : (t : Bor TransactionView) (v : Bor Val) (r : Result Guarding AllocError) → IsTransaction t.now
+        → g.post (c.rule.vtable, c.rule.value) (t, (v, tt)) r → ForOk r (λ a. a ≡ rules.guard c.number t.now v.now)
+
+  pub record Filters {g : Mut ((x : X) × F x) (Bor TransactionView × (Bor Val × Unit {0})) (Result Filtering AllocError)} (rules : Rules) (c : TrFilter M X F g) : Type 0 where
+    pub gives : (t : Bor TransactionView) (v : Bor Val) (r : Result Filtering AllocError) → IsTransaction t.now
+        → g.post (c.rule.vtable, c.rule.value) (t, (v, tt)) r → ForOk r (λ a. a ≡ rules.filter c.number t.now v.now)
+
+  pub record Extends {g : Mut ((x : X) × F x) (Bor TransactionView × (Bor Val × Unit {0})) (Result Extension AllocError)} (rules : Rules) (c : Extender M X F g) : Type 0 where
+    pub gives : (t : Bor TransactionView) (v : Bor Val) (r : Result Extension AllocError) → IsTransaction t.now
+        → g.post (c.rule.vtable, c.rule.value) (t, (v, tt)) r → ForOk r (λ a. a ≡ rules.extend c.number t.now v.now)

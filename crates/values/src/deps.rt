@@ -1,0 +1,81 @@
+ghost use Rattle.std.specs.Prelude.{◌≡◌, ◌<◌, Some, None, IfOk, option_copied, option_map};
+ghost use Rattle.values.specs.Views.{AreDeps, DepsView, IsInside, IsShort};
+
+use crate::val::Val;
+use line_tree::Text;
+use listed::Listed;
+use selection::Selection;
+use std::alloc::{AllocError, Global};
+use std::marker::Model;
+
+/// What a rule reads: of the document, the selection, facets and fields those that it declares. Contracts see the document as
+/// its characters. A document has at most 16,777,216 characters, and a selection that is shown with it lies in it.
+#[derive(Drop)]
+pub struct Deps {
+    document: Option<Text>,
+    selection: Option<Selection>,
+    values: Listed<Option<Val>>,
+}
+
+impl Model for Deps {
+    ghost use Rattle.std.specs.Prelude.{option_map};
+    ghost use Rattle.std.specs.Coded.{codes};
+    ghost use Rattle.cm_plain.specs.Datum.{coded_datum};
+    ghost use Rattle.values.specs.Views.{AreDeps, DepsView};
+
+    ghost Value = { DepsView };
+
+    ghost coded = { Prim.hlevel (codes, coded_datum) };
+
+    ghost view = { λ d. record { document = option_map (λ t. t.characters) d.document; selection = d.selection; values = d.values } };
+
+    ghost invariant = { λ d. AreDeps (record { document = option_map (λ t. t.characters) d.document; selection = d.selection; values = d.values }) };
+}
+
+impl Deps {
+    /// What is shown: the document and the selection, each if it is declared, and the values of the declared facets and fields
+    /// in the order of their declaration, `None` for an absent field.
+    pub fn new(
+        document: Option<Text>,
+        selection: Option<Selection>,
+        values: Listed<Option<Val>>,
+    ) -> Deps
+        requires short { IsShort (option_map (λ t. t.characters) document) }
+        requires inside { IsInside (option_map (λ t. t.characters) document) selection }
+        ensures { result ≡ record { document = option_map (λ t. t.characters) document; selection = selection; values = values } }
+    {
+        Deps {
+            document,
+            selection,
+            values,
+        }
+    }
+
+    /// The document, if it is declared.
+    pub fn document(&self) -> Option<&Text>
+        ensures { option_map (λ t. t.characters) (option_copied result) ≡ self.now.document }
+    {
+        self.document.as_ref()
+    }
+
+    /// The selection, if it is declared.
+    pub fn selection(&self) -> Option<&Selection>
+        ensures { option_copied result ≡ self.now.selection }
+    {
+        self.selection.as_ref()
+    }
+
+    /// The values of the declared facets and fields in the order of their declaration, `None` for an absent field.
+    pub fn values(&self) -> &[Option<Val>]
+        ensures { result.now ≡ self.now.values }
+    {
+        self.values.as_slice()
+    }
+
+    /// What may be relied on in what is shown.
+    pub fn known(&self)
+        ensures { AreDeps self.now }
+    {
+        let _ = &self.values;
+    }
+}
