@@ -15,6 +15,7 @@ use Rattle.registry.specs.Declarations.{Declarations}
 use Rattle.registry.specs.Refusals.{all_known, first_of, has_room, known, max_count, read_known, rule_known, unless}
 use Rattle.registry.specs.Lawful.{IsRead}
 
+
 pub or-first : {X : Type 0} (a b : Option X) → option_or a b ≡ None → a ≡ None
 or-first None b e = refl
 or-first (Some x) b e = absurd (none-some x (sym e))
@@ -55,3 +56,12 @@ is-rule sort count number e =
 
 pub room : (kind : IdSort) (count : ℕ) → has_room kind count ≡ None → count < max_count
 room kind count e = grind (arith, common_steps, holds (nat_lt count max_count) _ e)
+
+-- none of the refusals of a call that passes holds
+pub none-of : (rs : List (Option RegistryError)) → first_of rs ≡ None → AllByRecursion (λ r. r ≡ None) rs
+none-of [] e = tt
+none-of (r ∷ rs) e = (or-first r (first_of rs) e, none-of rs (or-rest r (first_of rs) e))
+
+pub or_none : {X : Type 0} (a : Option X) → option_or a None ≡ a
+or_none None = refl
+or_none (Some x) = refl

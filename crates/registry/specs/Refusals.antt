@@ -21,11 +21,6 @@ use Rattle.registry.specs.Declarations.{Declarations, is_placed}
 abbrev pub max_count : ℕ
 max_count = 1048576
 
--- what a call is refused as: an error other than out of memory is the refusal
-abbrev pub IsRefused : Option RegistryError → RegistryError → Type 0
-IsRefused refusal NoMemory = ⊤
-IsRefused refusal error = refusal ≡ Some error
-
 -- refused as this error unless a condition holds
 abbrev pub unless : Bool → RegistryError → Option RegistryError
 unless holds error = cond holds None (Some error)
@@ -34,6 +29,15 @@ unless holds error = cond holds None (Some error)
 abbrev pub first_of : List (Option RegistryError) → Option RegistryError
 first_of [] = None
 first_of (r ∷ rs) = option_or r (first_of rs)
+
+-- what a call is refused as, of refusals in order: an error other than out of memory is the first of them
+abbrev pub IsRefused : List (Option RegistryError) → RegistryError → Type 0
+IsRefused rs NoMemory = ⊤
+IsRefused rs error = first_of rs ≡ Some error
+
+-- a call isn't refused where none of its refusals holds
+abbrev pub Passes : List (Option RegistryError) → Type 0
+Passes rs = first_of rs ≡ None
 
 -- an id is known where it is less than how many there are
 abbrev pub known : IdSort → ℕ → ℕ → Option RegistryError
@@ -90,41 +94,41 @@ abbrev pub unplaced : Declarations → ℕ → Option RegistryError
 unplaced d field = unless (not (is_placed d field)) (AlreadyPlaced field)
 
 -- facet: known nodes that it enables; its rules; room
-abbrev pub facet_refusal : Rules → Declarations → FacetDef → List ℕ → Option RegistryError
-facet_refusal rules d def enables =
-    first_of (all_known Node (length d.nodes) enables
+abbrev pub facet_refusals : Rules → Declarations → FacetDef → List ℕ → List (Option RegistryError)
+facet_refusals rules d def enables =
+    all_known Node (length d.nodes) enables
       ∷ rule_known Combine rules.combiners def.combine
       ∷ rule_known Compare rules.comparers def.compare_input
       ∷ rule_known Compare rules.comparers def.compare
       ∷ has_room Facet (length d.facets)
-      ∷ [])
+      ∷ []
 
 -- what a field names: known reads and effects; its rules
-abbrev pub field_names : Rules → Declarations → FieldDef → Option RegistryError
+abbrev pub field_names : Rules → Declarations → FieldDef → List (Option RegistryError)
 field_names rules d def =
-    first_of (reads_known d def.reads
+    reads_known d def.reads
       ∷ all_known Effect (length d.maps) def.listens
       ∷ rule_known Create rules.creators def.create
       ∷ rule_known Update rules.updaters def.update
       ∷ rule_known Compare rules.comparers def.compare
-      ∷ [])
+      ∷ []
 
 -- field: what it names; what its creator gives fits its updater; room
-abbrev pub field_refusal : Rules → Declarations → FieldDef → Option RegistryError
-field_refusal rules d def =
-    first_of (field_names rules d def
+abbrev pub field_refusals : Rules → Declarations → FieldDef → List (Option RegistryError)
+field_refusals rules d def =
+    first_of (field_names rules d def)
       ∷ unless (fits (rules.create_output def.create) (rules.update_shape def.update)) (WrongShape (length d.fields))
       ∷ has_room Field (length d.fields)
-      ∷ [])
+      ∷ []
 
 -- placing a field: a known field and known nodes that it provides; not placed yet; room
-abbrev pub place_refusal : Declarations → ℕ → List ℕ → Option RegistryError
-place_refusal d field provides =
-    first_of (known Field (length d.fields) field
+abbrev pub place_refusals : Declarations → ℕ → List ℕ → List (Option RegistryError)
+place_refusals d field provides =
+    known Field (length d.fields) field
       ∷ all_known Node (length d.nodes) provides
       ∷ unplaced d field
       ∷ has_room Node (length d.nodes)
-      ∷ [])
+      ∷ []
 
 -- map number of an effect kind, if it has one
 abbrev pub map_known : Rules → Option ℕ → Option RegistryError
@@ -132,71 +136,71 @@ map_known rules None = None
 map_known rules (Some number) = rule_known EffectMap rules.effect_maps number
 
 -- effect kind: its map; room
-abbrev pub effect_refusal : Rules → Declarations → Option ℕ → Option RegistryError
-effect_refusal rules d number = first_of (map_known rules number ∷ has_room Effect (length d.maps) ∷ [])
+abbrev pub effect_refusals : Rules → Declarations → Option ℕ → List (Option RegistryError)
+effect_refusals rules d number = map_known rules number ∷ has_room Effect (length d.maps) ∷ []
 
 -- compartment: room
-abbrev pub compartment_refusal : Declarations → Option RegistryError
-compartment_refusal d = has_room Compartment d.compartments
+abbrev pub compartment_refusals : Declarations → List (Option RegistryError)
+compartment_refusals d = has_room Compartment d.compartments ∷ []
 
 -- group: known nodes; room
-abbrev pub group_refusal : Declarations → List ℕ → Option RegistryError
-group_refusal d of = first_of (all_known Node (length d.nodes) of ∷ has_room Node (length d.nodes) ∷ [])
+abbrev pub group_refusals : Declarations → List ℕ → List (Option RegistryError)
+group_refusals d of = all_known Node (length d.nodes) of ∷ has_room Node (length d.nodes) ∷ []
 
 -- precedence: a known node; room
-abbrev pub prec_refusal : Declarations → ℕ → Option RegistryError
-prec_refusal d of = first_of (known Node (length d.nodes) of ∷ has_room Node (length d.nodes) ∷ [])
+abbrev pub prec_refusals : Declarations → ℕ → List (Option RegistryError)
+prec_refusals d of = known Node (length d.nodes) of ∷ has_room Node (length d.nodes) ∷ []
 
 -- slot: a known compartment and a known node; room
-abbrev pub slot_refusal : Declarations → ℕ → ℕ → Option RegistryError
-slot_refusal d compartment of =
-    first_of (known Compartment d.compartments compartment ∷ known Node (length d.nodes) of ∷ has_room Node (length d.nodes) ∷ [])
+abbrev pub slot_refusals : Declarations → (compartment of : ℕ) → List (Option RegistryError)
+slot_refusals d compartment of =
+    known Compartment d.compartments compartment ∷ known Node (length d.nodes) of ∷ has_room Node (length d.nodes) ∷ []
 
 -- input with a value: a known facet; the value fits; room
-abbrev pub input_refusal : Rules → Declarations → ℕ → Val → Option RegistryError
-input_refusal rules d facet value =
-    first_of (known Facet (length d.facets) facet
+abbrev pub input_refusals : Rules → Declarations → ℕ → Val → List (Option RegistryError)
+input_refusals rules d facet value =
+    known Facet (length d.facets) facet
       ∷ value_fits rules facet (slice_get d.facets facet) value
       ∷ has_room Node (length d.nodes)
-      ∷ [])
+      ∷ []
 
 -- what a computed input names: a known facet and known reads; its rule; the facet isn't static
-abbrev pub computed_names : Declarations → ℕ → List Dependency → RuleSort → (count rule : ℕ) → Option RegistryError
+abbrev pub computed_names : Declarations → ℕ → List Dependency → RuleSort → (count rule : ℕ) → List (Option RegistryError)
 computed_names d facet rs sort count rule =
-    first_of (known Facet (length d.facets) facet
+    known Facet (length d.facets) facet
       ∷ reads_known d rs
       ∷ rule_known sort count rule
       ∷ computes facet (slice_get d.facets facet)
-      ∷ [])
+      ∷ []
 
 -- computed input: what it names; what the rule gives fits; room
-abbrev pub computed_refusal : Rules → Declarations → ℕ → List Dependency → RuleSort → (count : ℕ) → (output : ℕ → Form) → (rule : ℕ) → Option RegistryError
-computed_refusal rules d facet rs sort count output rule =
-    first_of (computed_names d facet rs sort count rule
+abbrev pub computed_refusals : Rules → Declarations → ℕ → List Dependency → RuleSort → (count : ℕ) → (output : ℕ → Form) → (rule : ℕ) → List (Option RegistryError)
+computed_refusals rules d facet rs sort count output rule =
+    first_of (computed_names d facet rs sort count rule)
       ∷ output_fits rules facet (slice_get d.facets facet) (output rule)
       ∷ has_room Node (length d.nodes)
-      ∷ [])
+      ∷ []
 
 -- input that a rule computes
-abbrev pub compute_refusal : Rules → Declarations → ℕ → ℕ → List Dependency → Option RegistryError
-compute_refusal rules d facet rule rs = computed_refusal rules d facet rs Compute rules.computers rules.compute_output rule
+abbrev pub compute_refusals : Rules → Declarations → (facet rule : ℕ) → List Dependency → List (Option RegistryError)
+compute_refusals rules d facet rule rs = computed_refusals rules d facet rs Compute rules.computers rules.compute_output rule
 
 -- inputs that a rule computes
-abbrev pub compute_n_refusal : Rules → Declarations → ℕ → ℕ → List Dependency → Option RegistryError
-compute_n_refusal rules d facet rule rs = computed_refusal rules d facet rs ComputeN rules.list_computers rules.list_output rule
+abbrev pub compute_n_refusals : Rules → Declarations → (facet rule : ℕ) → List Dependency → List (Option RegistryError)
+compute_n_refusals rules d facet rule rs = computed_refusals rules d facet rs ComputeN rules.list_computers rules.list_output rule
 
 -- input from a field: one that a rule computes from that field alone
-abbrev pub from_refusal : Rules → Declarations → ℕ → ℕ → ℕ → Option RegistryError
-from_refusal rules d facet field rule = compute_refusal rules d facet rule (reads.Field field ∷ [])
+abbrev pub from_refusals : Rules → Declarations → (facet field rule : ℕ) → List (Option RegistryError)
+from_refusals rules d facet field rule = compute_refusals rules d facet rule (reads.Field field ∷ [])
 
 -- a field that is placed
 abbrev pub placed_known : Declarations → ℕ → Option RegistryError
 placed_known d field = unless (is_placed d field) (UnknownId Field field)
 
 -- init: a field that is placed; the value fits; room
-abbrev pub init_refusal : Rules → Declarations → ℕ → Val → Option RegistryError
-init_refusal rules d field value =
-    first_of (placed_known d field
+abbrev pub init_refusals : Rules → Declarations → ℕ → Val → List (Option RegistryError)
+init_refusals rules d field value =
+    placed_known d field
       ∷ init_fits rules field (slice_get d.fields field) value
       ∷ has_room Node (length d.nodes)
-      ∷ [])
+      ∷ []

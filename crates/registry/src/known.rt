@@ -1,6 +1,6 @@
 // Whether what a declaration names is known.
-ghost use Rattle.std.specs.Prelude.{◌≡◌, map};
-ghost use Rattle.registry.specs.Refusals.{all_known, first_of, has_room, known, max_count, read_known, rule_known};
+ghost use Rattle.std.specs.Prelude.{◌≡◌, map, None, Some, OnOk, IfErr};
+ghost use Rattle.registry.specs.Refusals.{all_known, first_of, has_room, known, read_known, rule_known, unless};
 
 use crate::id_sort::IdSort;
 use crate::registry_error::RegistryError;
@@ -10,8 +10,30 @@ use configuration::Dependency;
 /// How many there may be of each kind.
 pub const MAX_COUNT: usize = 1_048_576;
 
+/// Refused as this error unless a condition holds.
+pub(crate) fn unless(holds: bool, error: RegistryError) -> Option<RegistryError>
+    ensures { result ≡ unless holds error }
+{
+    if holds {
+        None
+    } else {
+        Some(error)
+    }
+}
+
+/// What a call ends with that is refused so, if at all.
+pub(crate) fn ended(refusal: Option<RegistryError>) -> Result<(), RegistryError>
+    ensures passes { OnOk result (refusal ≡ None) }
+    ensures refused { IfErr result (λ error. refusal ≡ Some error) }
+{
+    match refusal {
+        Some(error) => Err(error),
+        None => Ok(()),
+    }
+}
+
 /// An id is known where it is less than how many there are.
-pub fn known(sort: IdSort, count: usize, id: u32) -> Option<RegistryError>
+pub(crate) fn known(sort: IdSort, count: usize, id: u32) -> Option<RegistryError>
     ensures { result ≡ known sort count id }
 {
     if (id as usize) < count {
@@ -22,7 +44,7 @@ pub fn known(sort: IdSort, count: usize, id: u32) -> Option<RegistryError>
 }
 
 /// Each id of a list is known.
-pub fn all_known(sort: IdSort, count: usize, ids: &[u32]) -> Option<RegistryError>
+pub(crate) fn all_known(sort: IdSort, count: usize, ids: &[u32]) -> Option<RegistryError>
     ensures { result ≡ all_known sort count ids.now }
 {
     for id in ids {
@@ -46,7 +68,7 @@ fn read_known(facets: usize, fields: usize, read: Dependency) -> Option<Registry
 }
 
 /// Each read of a list names one that is declared.
-pub fn reads_known(facets: usize, fields: usize, reads: &[Dependency]) -> Option<RegistryError>
+pub(crate) fn reads_known(facets: usize, fields: usize, reads: &[Dependency]) -> Option<RegistryError>
     ensures { result ≡ first_of (map (read_known facets fields) reads.now) }
 {
     for read in reads {
@@ -58,7 +80,7 @@ pub fn reads_known(facets: usize, fields: usize, reads: &[Dependency]) -> Option
 }
 
 /// A number of a sort of rules that has so many: they run from 1.
-pub fn rule_known(sort: RuleSort, count: u32, number: u32) -> Option<RegistryError>
+pub(crate) fn rule_known(sort: RuleSort, count: u32, number: u32) -> Option<RegistryError>
     ensures { result ≡ rule_known sort count number }
 {
     if 1 <= number && number <= count {
@@ -69,7 +91,7 @@ pub fn rule_known(sort: RuleSort, count: u32, number: u32) -> Option<RegistryErr
 }
 
 /// There is room for one more.
-pub fn has_room(kind: IdSort, count: usize) -> Option<RegistryError>
+pub(crate) fn has_room(kind: IdSort, count: usize) -> Option<RegistryError>
     ensures { result ≡ has_room kind count }
 {
     if count < MAX_COUNT {

@@ -10,11 +10,14 @@ mod id_sort;
 mod known;
 mod linked;
 mod parts;
+mod refusals;
+mod registry;
 mod registry_error;
 mod rule_sort;
 mod shapes;
 mod undo;
 
 pub use id_sort::IdSort;
+pub use registry::Registry;
 pub use registry_error::RegistryError;
 pub use rule_sort::RuleSort;

@@ -1,5 +1,5 @@
 // What a registry holds.
-ghost use Rattle.std.specs.Prelude.{◌≡◌, ◌<◌, ◌≤◌, length, slice_get, None, Some, IfOk, OnOk, OnErr, MatchOption};
+ghost use Rattle.std.specs.Prelude.{◌≡◌, ◌<◌, ◌≤◌, length, slice_get, Some, IfOk, OnOk, OnErr};
 ghost use Rattle.registry.specs.Refusals.{max_count};
 ghost use Rattle.registry.specs.Declarations.{AreDefs, is_placed, nothing, with_compartment, with_effect, with_facet, with_field, with_node, with_placed};
 
@@ -133,16 +133,20 @@ impl Parts {
         self.kinds.compartments
     }
 
-    pub fn facet(&self, facet: u32) -> Option<&FacetDef>
-        ensures { MatchOption result (slice_get self.now.facets facet ≡ None) (λ def. slice_get self.now.facets facet ≡ Some def.now) }
+    /// The definition of a facet that is declared.
+    pub fn facet(&self, facet: u32) -> &FacetDef
+        requires { facet < length self.now.facets }
+        ensures { slice_get self.now.facets facet ≡ Some result.now }
     {
-        self.defs.facets.as_slice().get(facet as usize)
+        &self.defs.facets.as_slice()[facet as usize]
     }
 
-    pub fn field(&self, field: u32) -> Option<&FieldDef>
-        ensures { MatchOption result (slice_get self.now.fields field ≡ None) (λ def. slice_get self.now.fields field ≡ Some def.now) }
+    /// The definition of a field that is declared.
+    pub fn field(&self, field: u32) -> &FieldDef
+        requires { field < length self.now.fields }
+        ensures { slice_get self.now.fields field ≡ Some result.now }
     {
-        self.defs.fields.as_slice().get(field as usize)
+        &self.defs.fields.as_slice()[field as usize]
     }
 
     /// Whether a field is placed.
