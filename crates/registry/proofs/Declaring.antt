@@ -1,6 +1,8 @@
 -- A declaration that isn't refused leaves what is declared lawful.
 use Rattle.std.proofs.Common.{◌≡◌, ℕ, zero, suc, ◌<◌, List, [], ◌∷◌, Bool, true, false, not, ◌&&◌, nat_le, Option, Some, None, length, get_or, slice_get, refl, sym, subst, arith}
 use Rattle.std.specs.List.{AllByRecursion}
+use Rattle.std.specs.Option.{option_or}
+use Rattle.registry.specs.declared.registry_error.RegistryError.{RegistryError}
 use Rattle.std.proofs.lemmas.Option.{none-some, same_Some}
 use Rattle.cm_plain.specs.Form.{Form, fits}
 use Rattle.configuration.specs.declared.dependency.Dependency.{Dependency}
@@ -19,7 +21,7 @@ use Rattle.registry.specs.declared.rule_sort.RuleSort.{RuleSort}
 use Rattle.registry.specs.declared.rule_sort.RuleSort.TheVariants.{Combine, Compare, Compute, ComputeN, Create, Update, EffectMap}
 use Rattle.registry.specs.declared.id_sort.IdSort.TheVariants.{Compartment, Effect, Facet, Field, Node as NodeSort}
 use Rattle.registry.specs.Declarations.{Declarations, is_placed, nothing, with_compartment, with_effect, with_facet, with_field, with_node, with_placed}
-use Rattle.registry.specs.Refusals.{Passes, compartment_refusals, compute_n_refusals, compute_refusals, computed_names, computed_refusals, computes, effect_refusals, facet_refusals, field_names, field_refusals, from_refusals, group_refusals, init_fits, init_refusals, input_refusals, map_known, max_count, first_of, output_fits, place_refusals, prec_refusals, slot_refusals, value_fits}
+use Rattle.registry.specs.Refusals.{Passes, has_room, compartment_refusals, compute_n_refusals, compute_refusals, computed_names, computed_refusals, computes, effect_refusals, facet_refusals, field_names, field_refusals, from_refusals, group_refusals, init_fits, init_refusals, input_refusals, map_known, max_count, first_of, output_fits, place_refusals, prec_refusals, slot_refusals, value_fits}
 use Rattle.registry.specs.Lawful.{IsComputed, IsDefined, IsInit, IsInput, IsLawful, IsLawfulFacet, IsLawfulField, IsMap}
 use Rattle.registry.proofs.Passing.{are-known, are-reads, holds, is-known, is-rule, none-of, room}
 use Rattle.registry.proofs.Lawfulness.{lawful-compartment, lawful-effect, lawful-facet, lawful-field, lawful-node}
@@ -164,3 +166,6 @@ module _ (rules : Rules) (d : Declarations) (h : IsLawful rules d) where
       let k : field < length d.placed = mark-within d.placed field m in
       let l : field < length d.fields = omega (arith, k, h.aligned.placed) in
       lawful-node rules d h (nodes.Init field) (defs.Init value) (is-init field value (slice_get d.fields field) (not-none d.fields field l) p.1.0) (h.linked.provided field) (λ g q. subst (λ i. is_placed d i ≡ true) (same_Some field g q) m) (room NodeSort (length d.nodes) p.1.1.0)
+
+pub compartment-passes : (d : Declarations) (n : ℕ) → n ≡ d.compartments → has_room Compartment n ≡ None → Passes (compartment_refusals d)
+compartment-passes d n p e = subst (λ (m : ℕ). option_or (has_room Compartment m) None ≡ None) p (subst (λ (o : Option RegistryError). option_or o None ≡ None) (sym e) refl)

@@ -1,0 +1,16 @@
+use Rattle.std.proofs.Common.{◌≡◌, ℕ, List, [], ◌∷◌, sym, subst}
+use Rattle.configuration.specs.declared.dependency.Dependency.{Dependency}
+use Rattle.configuration.specs.declared.dependency.Dependency.TheVariants as reads
+use Rattle.configuration.specs.declared.node_def.NodeDef.TheVariants as defs
+use Rattle.ext_tree.specs.declared.node.Node.TheVariants as nodes
+use Rattle.std.proofs.lemmas.Result.{err_from_is_err_and}
+use Rattle.registry.specs.Refusals.{IsRefused, Passes, compute_n_refusals, compute_refusals, facet_refusals, group_refusals, place_refusals}
+use Rattle.registry.proofs.Declaring.{declare-compartment, declare-compute, declare-compute-n, declare-effect, declare-facet, declare-field, declare-from, declare-group, declare-init, declare-input, declare-place, declare-prec, declare-slot, place-unplaced}
+use Rattle.registry.proofs.Growing.{grows-compartment, grows-effect, grows-facet, grows-field, grows-node, grows-placed}
+use Rattle.registry.proofs.registry.Registry.input_of.Goals as goal
+
+pub invariant_of-self-2 : goal.invariant_of-self-2
+invariant_of-self-2 g c = rw c.in_ok-id.ensures.added (declare-input g.M.Meanings.rules c.self.inside.parts c.self.invariant c.args.facet c.args.value c.in_ok-input_refusal.ensures.passes)
+
+pub returns-clause-grows : goal.returns-clause-grows
+returns-clause-grows g c = rw (c.in_ok-id.ensures.added, ← c.self.view_is) (grows-node c.self.inside.parts (nodes.Input c.args.facet) (defs.Of c.args.value))
