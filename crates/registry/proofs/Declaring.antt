@@ -21,7 +21,7 @@ use Rattle.registry.specs.declared.rule_sort.RuleSort.{RuleSort}
 use Rattle.registry.specs.declared.rule_sort.RuleSort.TheVariants.{Combine, Compare, Compute, ComputeN, Create, Update, EffectMap}
 use Rattle.registry.specs.declared.id_sort.IdSort.TheVariants.{Compartment, Effect, Facet, Field, Node as NodeSort}
 use Rattle.registry.specs.Declarations.{Declarations, is_placed, nothing, with_compartment, with_effect, with_facet, with_field, with_node, with_placed}
-use Rattle.registry.specs.Refusals.{Passes, has_room, compartment_refusals, compute_n_refusals, compute_refusals, computed_names, computed_refusals, computes, effect_refusals, facet_refusals, field_names, field_refusals, from_refusals, group_refusals, init_fits, init_refusals, input_refusals, map_known, max_count, first_of, output_fits, place_refusals, prec_refusals, slot_refusals, value_fits}
+use Rattle.registry.specs.Refusals.{Passes, has_room, compartment_refusals, compute_n_refusals, compute_refusals, computed_names, computed_refusals, computes, effect_refusals, facet_refusals, field_names, field_refusals, from_refusals, group_refusals, init_fits, init_refusals, input_refusals, map_known, max_count, first_of, output_fits, pair_refusals, place_refusals, prec_refusals, slot_refusals, value_fits}
 use Rattle.registry.specs.Lawful.{IsComputed, IsDefined, IsInit, IsInput, IsLawful, IsLawfulFacet, IsLawfulField, IsMap}
 use Rattle.registry.proofs.Passing.{are-known, are-reads, holds, is-known, is-rule, none-of, room}
 use Rattle.registry.proofs.Lawfulness.{lawful-compartment, lawful-effect, lawful-facet, lawful-field, lawful-node}
@@ -169,3 +169,11 @@ module _ (rules : Rules) (d : Declarations) (h : IsLawful rules d) where
 
 pub compartment-passes : (d : Declarations) (n : ℕ) → n ≡ d.compartments → has_room Compartment n ≡ None → Passes (compartment_refusals d)
 compartment-passes d n p e = subst (λ (m : ℕ). option_or (has_room Compartment m) None ≡ None) p (subst (λ (o : Option RegistryError). option_or o None ≡ None) (sym e) refl)
+
+-- effect kinds that are to be paired have a place among the pairs
+pub pair-within : (rules : Rules) (d : Declarations) → IsLawful rules d → (effect back : ℕ) → Passes (pair_refusals d effect back) → (effect < length d.pairs) × (back < length d.pairs)
+pair-within rules d h effect back e =
+    let p = none-of (pair_refusals d effect back) e in
+    let k : effect < length d.maps = is-known Effect (length d.maps) effect p.0 in
+    let l : back < length d.maps = is-known Effect (length d.maps) back p.1.0 in
+    (omega (arith, k, h.aligned.pairs), omega (arith, l, h.aligned.pairs))

@@ -9,7 +9,7 @@ use Rattle.ext_tree.specs.declared.node.Node.{Node}
 use Rattle.ext_tree.specs.declared.node.Node.TheVariants as nodes
 use Rattle.ext_tree.specs.Tree.{listed}
 use Rattle.values.specs.declared.val.Val.{Val}
-use Rattle.registry.specs.Declarations.{Declarations, is_placed, with_compartment, with_effect, with_facet, with_field, with_node, with_placed}
+use Rattle.registry.specs.Declarations.{Declarations, is_placed, with_compartment, with_effect, with_facet, with_field, with_node, with_pair, with_placed}
 use Rattle.registry.specs.Growth.{IsGrowth}
 use Rattle.registry.proofs.Lists.{get-kept, get_or-default}
 use Rattle.registry.proofs.Linking.{mark-kept}
@@ -38,3 +38,6 @@ grows-effect d map = record { facets = λ i x e. e; fields = λ i x e. e; nodes 
 
 pub grows-compartment : (d : Declarations) → IsGrowth d (with_compartment d)
 grows-compartment d = record { facets = λ i x e. e; fields = λ i x e. e; nodes = λ i x e. e; node_defs = λ i x e. e; maps = λ i x e. e; enabled = λ i x e. e; placed = λ f e. e; provided = λ f e. refl; compartments = omega arith }
+
+pub grows-pair : (d : Declarations) (effect back : ℕ) → IsGrowth d (with_pair d effect back)
+grows-pair d effect back = record { facets = λ i x e. e; fields = λ i x e. e; nodes = λ i x e. e; node_defs = λ i x e. e; maps = λ i x e. e; enabled = λ i x e. e; placed = λ f e. e; provided = λ f e. refl; compartments = omega arith }

@@ -13,7 +13,7 @@ use Rattle.ext_tree.specs.declared.node.Node.TheVariants as nodes
 use Rattle.ext_tree.specs.Tree.{IsOlder, linked, listed}
 use Rattle.values.specs.declared.val.Val.{Val}
 use Rattle.values.specs.Rules.{Rules}
-use Rattle.registry.specs.Declarations.{Declarations, is_placed, with_compartment, with_effect, with_facet, with_field, with_node, with_placed}
+use Rattle.registry.specs.Declarations.{Declarations, is_placed, with_compartment, with_effect, with_facet, with_field, with_node, with_pair, with_placed}
 use Rattle.registry.specs.Refusals.{max_count, facet_refusals, Passes}
 use Rattle.registry.specs.Lawful.{AllAt, AreAligned, AreKnown, AreLinked, AreWithin, IsDefined, IsLawful, IsLawfulFacet, IsLawfulField, IsMap}
 use Rattle.registry.proofs.Lists.{All-map, all-pushed, at-pushed, both-pushed, get-kept, get_or-default}
@@ -219,4 +219,33 @@ module _ (rules : Rules) (d : Declarations) (h : IsLawful rules d) where
           effects = h.within.effects;
           compartments = omega (arith, r);
         };
+      }
+
+  pair-wider : (effect back : ℕ) → Widens d (with_pair d effect back)
+  pair-wider effect back = record {
+    facets = λ i x e. e;
+    fields = λ i x e. e;
+    facet_count = omega arith;
+    field_count = omega arith;
+    effects = omega arith;
+    compartments = omega arith;
+  }
+
+  pub lawful-pair : (effect back : ℕ) → IsLawful rules (with_pair d effect back)
+  lawful-pair effect back =
+      let w : Widens d (with_pair d effect back) = pair-wider effect back in
+      record {
+        facets = h.facets;
+        fields = λ i x e. field-widens w rules x (h.fields i x e);
+        nodes = λ n node e. defined-widens w rules node (slice_get d.node_defs n) (h.nodes n node e);
+        maps = h.maps;
+        aligned = record {
+          node_defs = h.aligned.node_defs;
+          enabled = h.aligned.enabled;
+          provided = h.aligned.provided;
+          placed = h.aligned.placed;
+          pairs = length-set (set d.pairs effect (Some back)) back (Some effect) ∙ (length-set d.pairs effect (Some back) ∙ h.aligned.pairs);
+        };
+        linked = record { older = h.linked.older; enabled = h.linked.enabled; provided = h.linked.provided; placed = h.linked.placed };
+        within = record { facets = h.within.facets; fields = h.within.fields; nodes = h.within.nodes; effects = h.within.effects; compartments = h.within.compartments };
       }

@@ -1,11 +1,12 @@
 -- Why each declaration is refused: the first of its refusals in order.
-use Rattle.std.specs.Prelude.{◌≡◌, ℕ, ◌<◌, List, [], ◌∷◌, ◌++◌, Bool, true, false, cond, not, ◌&&◌, nat_lt, nat_le, eqb, map, Option, Some, None, length, slice_get, ⊤}
+use Rattle.std.specs.Prelude.{◌≡◌, ℕ, ◌<◌, List, [], ◌∷◌, ◌++◌, Bool, true, false, cond, not, ◌&&◌, ◌||◌, is_none, nat_lt, nat_le, eqb, map, Option, Some, None, length, slice_get, ⊤}
 use Rattle.std.specs.Option.{option_or}
 use Rattle.cm_plain.specs.Form.{Form, fits}
 use Rattle.configuration.specs.declared.dependency.Dependency.{Dependency}
 use Rattle.configuration.specs.declared.dependency.Dependency.TheVariants as reads
 use Rattle.configuration.specs.declared.facet_def.FacetDef.{FacetDef}
 use Rattle.configuration.specs.declared.field_def.FieldDef.{FieldDef}
+use Rattle.transaction.specs.Effects.{map_of}
 use Rattle.values.specs.declared.val.Val.{Val}
 use Rattle.values.specs.Rules.{Rules}
 use Rattle.values.specs.Vals.{is_of}
@@ -14,7 +15,7 @@ use Rattle.registry.specs.declared.id_sort.IdSort.TheVariants.{Compartment, Effe
 use Rattle.registry.specs.declared.rule_sort.RuleSort.{RuleSort}
 use Rattle.registry.specs.declared.rule_sort.RuleSort.TheVariants.{Combine, Compare, Compute, ComputeN, Create, Update, EffectMap}
 use Rattle.registry.specs.declared.registry_error.RegistryError.{RegistryError}
-use Rattle.registry.specs.declared.registry_error.RegistryError.TheVariants.{NoMemory, UnknownId, UnknownRule, StaticFacet, WrongShape, AlreadyPlaced, TooMany}
+use Rattle.registry.specs.declared.registry_error.RegistryError.TheVariants.{NoMemory, UnknownId, UnknownRule, StaticFacet, WrongShape, AlreadyPlaced, BadInverse, InverseTaken, TooMany}
 use Rattle.registry.specs.Declarations.{Declarations, is_placed}
 
 -- how many there may be of each kind
@@ -203,4 +204,24 @@ init_refusals rules d field value =
     placed_known d field
       ∷ init_fits rules field (slice_get d.fields field) value
       ∷ has_room Node (length d.nodes)
+      ∷ []
+
+-- the maps of two effect kinds that undo each other: none of both, or one whose number is 1 or 2
+abbrev pub are_inverse : Option ℕ → Option ℕ → Bool
+are_inverse None None = true
+are_inverse (Some map) (Some back) = eqb map back && (eqb map 1 || eqb map 2)
+are_inverse map back = false
+
+-- an effect kind has no pair yet
+abbrev pub unpaired : Declarations → ℕ → Option RegistryError
+unpaired d effect = unless (is_none (map_of d.pairs effect)) (InverseTaken effect)
+
+-- pair: two known effect kinds; their maps undo each other; neither has a pair
+abbrev pub pair_refusals : Declarations → (effect back : ℕ) → List (Option RegistryError)
+pair_refusals d effect back =
+    known Effect (length d.maps) effect
+      ∷ known Effect (length d.maps) back
+      ∷ unless (are_inverse (map_of d.maps effect) (map_of d.maps back)) (BadInverse effect back)
+      ∷ unpaired d effect
+      ∷ unpaired d back
       ∷ []

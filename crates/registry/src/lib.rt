@@ -9,6 +9,7 @@
 mod id_sort;
 mod known;
 mod linked;
+mod lookup;
 mod parts;
 mod refusals;
 mod registry;
@@ -18,6 +19,7 @@ mod shapes;
 mod undo;
 
 pub use id_sort::IdSort;
+pub use lookup::Lookup;
 pub use registry::Registry;
 pub use registry_error::RegistryError;
 pub use rule_sort::RuleSort;

@@ -1,7 +1,8 @@
 // What a registry holds.
-ghost use Rattle.std.specs.Prelude.{◌≡◌, ◌<◌, ◌≤◌, length, slice_get, Some, IfOk, OnOk, OnErr};
+ghost use Rattle.std.specs.Prelude.{◌≡◌, ◌<◌, ◌≤◌, length, slice_get, is_none, Some, IfOk, OnOk, OnErr};
+ghost use Rattle.transaction.specs.Effects.{map_of};
 ghost use Rattle.registry.specs.Refusals.{max_count};
-ghost use Rattle.registry.specs.Declarations.{AreDefs, is_placed, nothing, with_compartment, with_effect, with_facet, with_field, with_node, with_placed};
+ghost use Rattle.registry.specs.Declarations.{AreDefs, is_placed, nothing, with_compartment, with_effect, with_facet, with_field, with_node, with_pair, with_placed};
 
 use crate::linked;
 use crate::undo::push_both;
@@ -257,5 +258,32 @@ impl Parts {
         ensures { self.new ≡ with_compartment self.old }
     {
         self.kinds.compartments += 1;
+    }
+
+    /// The map number of an effect kind, if it has one.
+    pub fn map_of(&self, effect: u32) -> Option<u32>
+        ensures { result ≡ map_of self.now.maps effect }
+    {
+        self.kinds.map_of(effect)
+    }
+
+    /// Whether an effect kind has no pair.
+    pub fn is_unpaired(&self, effect: u32) -> bool
+        ensures { result ≡ is_none (map_of self.now.pairs effect) }
+    {
+        match self.pairs.get(effect as usize) {
+            Some(pair) => pair.is_none(),
+            None => true,
+        }
+    }
+
+    /// Makes two effect kinds each other's pair. Takes no memory.
+    pub fn pair(&mut self, effect: u32, back: u32)
+        requires effect { effect < length self.old.pairs }
+        requires back { back < length self.old.pairs }
+        ensures { self.new ≡ with_pair self.old effect back }
+    {
+        self.pairs[effect as usize] = Some(back);
+        self.pairs[back as usize] = Some(effect);
     }
 }

@@ -1,7 +1,7 @@
 // Why each declaration is refused.
 ghost use Rattle.std.specs.Prelude.{◌≡◌, ◌≤◌, length, slice_get, IfErr, OnOk};
 ghost use Rattle.registry.specs.Lawful.{AllAt, IsLawfulFacet, IsLawfulField};
-ghost use Rattle.registry.specs.Refusals.{IsRefused, Passes, compute_n_refusals, compute_refusals, computed_names, computes, effect_refusals, facet_refusals, field_names, field_refusals, first_of, group_refusals, init_refusals, input_refusals, map_known, max_count, place_refusals, prec_refusals, slot_refusals};
+ghost use Rattle.registry.specs.Refusals.{IsRefused, are_inverse, Passes, compute_n_refusals, compute_refusals, computed_names, computes, effect_refusals, facet_refusals, field_names, field_refusals, first_of, group_refusals, init_refusals, input_refusals, map_known, max_count, pair_refusals, place_refusals, prec_refusals, slot_refusals};
 
 use crate::id_sort::IdSort;
 use crate::known::{all_known, ended, has_room, known, reads_known, rule_known, unless};
@@ -272,4 +272,38 @@ pub(crate) fn init_refusal<M: Meanings>(
     let fits = is_init::<M>(parts.allocator(), update, value)?;
     let shape = unless(fits, RegistryError::WrongShape { id: field });
     ended(shape.or(has_room(IdSort::Node, parts.node_count())))
+}
+
+/// Whether the maps of two effect kinds undo each other: none of both, or one whose number is 1 or 2.
+fn are_inverse(map: Option<u32>, back: Option<u32>) -> bool
+    ensures { result ≡ are_inverse map back }
+{
+    match map {
+        None => back.is_none(),
+        Some(map) => match back {
+            None => false,
+            Some(back) => map == back && (map == 1 || map == 2),
+        },
+    }
+}
+
+/// Why two effect kinds can't be a pair.
+pub(crate) fn pair_refusal(parts: &Parts, effect: u32, back: u32) -> Option<RegistryError>
+    ensures { result ≡ first_of (pair_refusals parts.now effect back) }
+{
+    let first = known(IdSort::Effect, parts.effect_count(), effect);
+    let second = known(IdSort::Effect, parts.effect_count(), back);
+    let inverse = unless(
+        are_inverse(parts.map_of(effect), parts.map_of(back)),
+        RegistryError::BadInverse { effect, back },
+    );
+    let free = unless(
+        parts.is_unpaired(effect),
+        RegistryError::InverseTaken { effect },
+    );
+    let back_free = unless(
+        parts.is_unpaired(back),
+        RegistryError::InverseTaken { effect: back },
+    );
+    first.or(second.or(inverse.or(free.or(back_free))))
 }

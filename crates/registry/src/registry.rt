@@ -4,17 +4,17 @@ ghost use Rattle.configuration.specs.declared.node_def.NodeDef.TheVariants as de
 ghost use Rattle.ext_tree.specs.Tree.{AreLinksOlder};
 ghost use Rattle.ext_tree.specs.declared.node.Node.TheVariants as nodes;
 ghost use Rattle.values.specs.Rules.{Rules};
-ghost use Rattle.registry.specs.Declarations.{AreDefs, nothing, with_compartment, with_effect, with_facet, with_field, with_node, with_placed};
+ghost use Rattle.registry.specs.Declarations.{AreDefs, nothing, with_compartment, with_effect, with_facet, with_field, with_node, with_pair, with_placed};
 ghost use Rattle.registry.specs.Growth.{IsGrowth};
 ghost use Rattle.registry.specs.Lawful.{IsLawful};
-ghost use Rattle.registry.specs.Refusals.{IsRefused, Passes, compartment_refusals, compute_n_refusals, compute_refusals, effect_refusals, facet_refusals, field_refusals, from_refusals, group_refusals, init_refusals, input_refusals, place_refusals, prec_refusals, slot_refusals};
+ghost use Rattle.registry.specs.Refusals.{IsRefused, Passes, compartment_refusals, compute_n_refusals, compute_refusals, effect_refusals, facet_refusals, field_refusals, from_refusals, group_refusals, init_refusals, input_refusals, pair_refusals, place_refusals, prec_refusals, slot_refusals};
 
 use crate::id_sort::IdSort;
 use crate::known::has_room;
 use crate::parts::Parts;
 use crate::refusals::{
     compute_n_refusal, compute_refusal, effect_refusal, facet_refusal, field_refusal,
-    group_refusal, init_refusal, input_refusal, place_refusal, prec_refusal, slot_refusal,
+    group_refusal, init_refusal, input_refusal, pair_refusal, place_refusal, prec_refusal, slot_refusal,
 };
 use crate::registry_error::RegistryError;
 use configuration::{Defs, Dependency, FacetDef, FieldDef, NodeDef};
@@ -321,5 +321,21 @@ impl<M: Meanings> Registry<M> {
         init_refusal::<M>(&self.parts, field, &value)?;
         let id = self.parts.add_node(&Node::Init(field), NodeDef::Init(value))?;
         Ok(id)
+    }
+
+    /// Makes two effect kinds each other's inverse; they may be the same one. (Reference Manual, invertedEffects.) Refused
+    /// as `UnknownId`, `BadInverse` or `InverseTaken`. Takes no memory.
+    pub fn pair(&mut self, effect: u32, back: u32) -> Result<(), RegistryError>
+        ensures paired { OnOk result (self.new ≡ with_pair self.old effect back) }
+        ensures passes { OnOk result (Passes (pair_refusals self.old effect back)) }
+        ensures refused { IfErr result (IsRefused (pair_refusals self.old effect back)) }
+        ensures same { OnErr result (self.new ≡ self.old) }
+        ensures grows { IsGrowth self.old self.new }
+    {
+        if let Some(error) = pair_refusal(&self.parts, effect, back) {
+            return Err(error);
+        }
+        self.parts.pair(effect, back);
+        Ok(())
     }
 }

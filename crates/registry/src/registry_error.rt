@@ -41,6 +41,17 @@ pub enum RegistryError {
     AlreadyPlaced {
         field: u32,
     },
+    /// Two effect kinds whose maps differ, or are a number other than 1 and 2.
+    #[error("effects {effect} and {back} can't undo each other")]
+    BadInverse {
+        effect: u32,
+        back: u32,
+    },
+    /// An effect kind that has a pair.
+    #[error("effect {effect} has an inverse already")]
+    InverseTaken {
+        effect: u32,
+    },
     /// There are 1,048,576 of the kind.
     #[error("there are too many of kind {kind:?}")]
     TooMany {
