@@ -15,7 +15,6 @@ use Rattle.registry.specs.Declarations.{Declarations}
 use Rattle.registry.specs.Refusals.{all_known, first_of, has_room, known, max_count, read_known, rule_known, unless}
 use Rattle.registry.specs.Lawful.{IsRead}
 
-
 pub or-first : {X : Type 0} (a b : Option X) → option_or a b ≡ None → a ≡ None
 or-first None b e = refl
 or-first (Some x) b e = absurd (none-some x (sym e))

@@ -2,6 +2,7 @@ pub mod Declarations
 pub mod Refusals
 pub mod Lawful
 pub mod Growth
+pub mod Predeclared
 pub use Rattle.configuration.specs.Present
 pub use Rattle.ext_tree.specs.Links
 pub use Rattle.ext_tree.specs.Tree

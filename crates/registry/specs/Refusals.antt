@@ -98,38 +98,38 @@ unplaced d field = unless (not (is_placed d field)) (AlreadyPlaced field)
 abbrev pub facet_refusals : Rules → Declarations → FacetDef → List ℕ → List (Option RegistryError)
 facet_refusals rules d def enables =
     all_known Node (length d.nodes) enables
-      ∷ rule_known Combine rules.combiners def.combine
-      ∷ rule_known Compare rules.comparers def.compare_input
-      ∷ rule_known Compare rules.comparers def.compare
-      ∷ has_room Facet (length d.facets)
-      ∷ []
+    ∷ rule_known Combine rules.combiners def.combine
+    ∷ rule_known Compare rules.comparers def.compare_input
+    ∷ rule_known Compare rules.comparers def.compare
+    ∷ has_room Facet (length d.facets)
+    ∷ []
 
 -- what a field names: known reads and effects; its rules
 abbrev pub field_names : Rules → Declarations → FieldDef → List (Option RegistryError)
 field_names rules d def =
     reads_known d def.reads
-      ∷ all_known Effect (length d.maps) def.listens
-      ∷ rule_known Create rules.creators def.create
-      ∷ rule_known Update rules.updaters def.update
-      ∷ rule_known Compare rules.comparers def.compare
-      ∷ []
+    ∷ all_known Effect (length d.maps) def.listens
+    ∷ rule_known Create rules.creators def.create
+    ∷ rule_known Update rules.updaters def.update
+    ∷ rule_known Compare rules.comparers def.compare
+    ∷ []
 
 -- field: what it names; what its creator gives fits its updater; room
 abbrev pub field_refusals : Rules → Declarations → FieldDef → List (Option RegistryError)
 field_refusals rules d def =
     first_of (field_names rules d def)
-      ∷ unless (fits (rules.create_output def.create) (rules.update_shape def.update)) (WrongShape (length d.fields))
-      ∷ has_room Field (length d.fields)
-      ∷ []
+    ∷ unless (fits (rules.create_output def.create) (rules.update_shape def.update)) (WrongShape (length d.fields))
+    ∷ has_room Field (length d.fields)
+    ∷ []
 
 -- placing a field: a known field and known nodes that it provides; not placed yet; room
 abbrev pub place_refusals : Declarations → ℕ → List ℕ → List (Option RegistryError)
 place_refusals d field provides =
     known Field (length d.fields) field
-      ∷ all_known Node (length d.nodes) provides
-      ∷ unplaced d field
-      ∷ has_room Node (length d.nodes)
-      ∷ []
+    ∷ all_known Node (length d.nodes) provides
+    ∷ unplaced d field
+    ∷ has_room Node (length d.nodes)
+    ∷ []
 
 -- map number of an effect kind, if it has one
 abbrev pub map_known : Rules → Option ℕ → Option RegistryError
@@ -161,26 +161,26 @@ slot_refusals d compartment of =
 abbrev pub input_refusals : Rules → Declarations → ℕ → Val → List (Option RegistryError)
 input_refusals rules d facet value =
     known Facet (length d.facets) facet
-      ∷ value_fits rules facet (slice_get d.facets facet) value
-      ∷ has_room Node (length d.nodes)
-      ∷ []
+    ∷ value_fits rules facet (slice_get d.facets facet) value
+    ∷ has_room Node (length d.nodes)
+    ∷ []
 
 -- what a computed input names: a known facet and known reads; its rule; the facet isn't static
 abbrev pub computed_names : Declarations → ℕ → List Dependency → RuleSort → (count rule : ℕ) → List (Option RegistryError)
 computed_names d facet rs sort count rule =
     known Facet (length d.facets) facet
-      ∷ reads_known d rs
-      ∷ rule_known sort count rule
-      ∷ computes facet (slice_get d.facets facet)
-      ∷ []
+    ∷ reads_known d rs
+    ∷ rule_known sort count rule
+    ∷ computes facet (slice_get d.facets facet)
+    ∷ []
 
 -- computed input: what it names; what the rule gives fits; room
 abbrev pub computed_refusals : Rules → Declarations → ℕ → List Dependency → RuleSort → (count : ℕ) → (output : ℕ → Form) → (rule : ℕ) → List (Option RegistryError)
 computed_refusals rules d facet rs sort count output rule =
     first_of (computed_names d facet rs sort count rule)
-      ∷ output_fits rules facet (slice_get d.facets facet) (output rule)
-      ∷ has_room Node (length d.nodes)
-      ∷ []
+    ∷ output_fits rules facet (slice_get d.facets facet) (output rule)
+    ∷ has_room Node (length d.nodes)
+    ∷ []
 
 -- input that a rule computes
 abbrev pub compute_refusals : Rules → Declarations → (facet rule : ℕ) → List Dependency → List (Option RegistryError)
@@ -202,9 +202,9 @@ placed_known d field = unless (is_placed d field) (UnknownId Field field)
 abbrev pub init_refusals : Rules → Declarations → ℕ → Val → List (Option RegistryError)
 init_refusals rules d field value =
     placed_known d field
-      ∷ init_fits rules field (slice_get d.fields field) value
-      ∷ has_room Node (length d.nodes)
-      ∷ []
+    ∷ init_fits rules field (slice_get d.fields field) value
+    ∷ has_room Node (length d.nodes)
+    ∷ []
 
 -- the maps of two effect kinds that undo each other: none of both, or one whose number is 1 or 2
 abbrev pub are_inverse : Option ℕ → Option ℕ → Bool
@@ -220,8 +220,8 @@ unpaired d effect = unless (is_none (map_of d.pairs effect)) (InverseTaken effec
 abbrev pub pair_refusals : Declarations → (effect back : ℕ) → List (Option RegistryError)
 pair_refusals d effect back =
     known Effect (length d.maps) effect
-      ∷ known Effect (length d.maps) back
-      ∷ unless (are_inverse (map_of d.maps effect) (map_of d.maps back)) (BadInverse effect back)
-      ∷ unpaired d effect
-      ∷ unpaired d back
-      ∷ []
+    ∷ known Effect (length d.maps) back
+    ∷ unless (are_inverse (map_of d.maps effect) (map_of d.maps back)) (BadInverse effect back)
+    ∷ unpaired d effect
+    ∷ unpaired d back
+    ∷ []

@@ -14,11 +14,7 @@ pub const MAX_COUNT: usize = 1_048_576;
 pub(crate) fn unless(holds: bool, error: RegistryError) -> Option<RegistryError>
     ensures { result ≡ unless holds error }
 {
-    if holds {
-        None
-    } else {
-        Some(error)
-    }
+    if holds { None } else { Some(error) }
 }
 
 /// What a call ends with that is refused so, if at all.
@@ -68,7 +64,11 @@ fn read_known(facets: usize, fields: usize, read: Dependency) -> Option<Registry
 }
 
 /// Each read of a list names one that is declared.
-pub(crate) fn reads_known(facets: usize, fields: usize, reads: &[Dependency]) -> Option<RegistryError>
+pub(crate) fn reads_known(
+    facets: usize,
+    fields: usize,
+    reads: &[Dependency],
+) -> Option<RegistryError>
     ensures { result ≡ first_of (map (read_known facets fields) reads.now) }
 {
     for read in reads {

@@ -11,6 +11,7 @@ mod known;
 mod linked;
 mod lookup;
 mod parts;
+mod predeclared;
 mod refusals;
 mod registry;
 mod registry_error;
@@ -20,6 +21,11 @@ mod undo;
 
 pub use id_sort::IdSort;
 pub use lookup::Lookup;
+pub use predeclared::{
+    ALLOW_MULTIPLE_SELECTIONS, CHANGE_FILTER, DECORATIONS, FILTER_DATA, HISTORY, HISTORY_CONFIG,
+    HISTORY_NODE, NOTE, READ_ONLY, SAVE_SEPARATOR, TAB_SIZE, TRANSACTION_EXTENDER,
+    TRANSACTION_FILTER,
+};
 pub use registry::Registry;
 pub use registry_error::RegistryError;
 pub use rule_sort::RuleSort;

@@ -185,12 +185,7 @@ impl Parts {
         ensures same { OnErr result (self.new ≡ self.old) }
     {
         self.placed.push(false)?;
-        match linked::add_field(
-            self.alloc,
-            &mut self.defs.fields,
-            &mut self.defs.links,
-            def,
-        ) {
+        match linked::add_field(self.alloc, &mut self.defs.fields, &mut self.defs.links, def) {
             Ok(()) => Ok(()),
             Err(error) => {
                 self.placed.pop();
@@ -242,13 +237,7 @@ impl Parts {
         ensures added { OnOk result (self.new ≡ with_effect self.old map) }
         ensures same { OnErr result (self.new ≡ self.old) }
     {
-        push_both(
-            self.alloc,
-            &mut self.kinds.maps,
-            map,
-            &mut self.pairs,
-            None,
-        )?;
+        push_both(self.alloc, &mut self.kinds.maps, map, &mut self.pairs, None)?;
         Ok(())
     }
 

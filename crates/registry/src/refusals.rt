@@ -40,11 +40,7 @@ fn field_names<M: Meanings>(parts: &Parts, def: &FieldDef) -> Option<RegistryErr
         parts.field_count(),
         def.reads.as_slice(),
     );
-    let listens = all_known(
-        IdSort::Effect,
-        parts.effect_count(),
-        def.listens.as_slice(),
-    );
+    let listens = all_known(IdSort::Effect, parts.effect_count(), def.listens.as_slice());
     let create = rule_known(RuleSort::Create, M::creators(), def.create);
     let update = rule_known(RuleSort::Update, M::updaters(), def.update);
     let compare = rule_known(RuleSort::Compare, M::comparers(), def.compare);
@@ -68,11 +64,7 @@ pub(crate) fn field_refusal<M: Meanings>(parts: &Parts, def: &FieldDef) -> Resul
 
 /// Why a field can't be placed.
 #[tactic(auto, using(crate::proofs::Passing::or_none))]
-pub(crate) fn place_refusal(
-    parts: &Parts,
-    field: u32,
-    provides: &[ExtId],
-) -> Option<RegistryError>
+pub(crate) fn place_refusal(parts: &Parts, field: u32, provides: &[ExtId]) -> Option<RegistryError>
     ensures { result ≡ first_of (place_refusals parts.now field provides.now) }
 {
     let named = known(IdSort::Field, parts.field_count(), field);
@@ -97,10 +89,7 @@ fn map_known<M: Meanings>(map: Option<u32>) -> Option<RegistryError>
 
 /// Why an effect kind is refused.
 #[tactic(auto, using(crate::proofs::Passing::or_none))]
-pub(crate) fn effect_refusal<M: Meanings>(
-    parts: &Parts,
-    map: Option<u32>,
-) -> Option<RegistryError>
+pub(crate) fn effect_refusal<M: Meanings>(parts: &Parts, map: Option<u32>) -> Option<RegistryError>
     ensures { result ≡ first_of (effect_refusals M.rules parts.now map) }
 {
     let named = map_known::<M>(map);

@@ -14,7 +14,8 @@ use crate::known::has_room;
 use crate::parts::Parts;
 use crate::refusals::{
     compute_n_refusal, compute_refusal, effect_refusal, facet_refusal, field_refusal,
-    group_refusal, init_refusal, input_refusal, pair_refusal, place_refusal, prec_refusal, slot_refusal,
+    group_refusal, init_refusal, input_refusal, pair_refusal, place_refusal, prec_refusal,
+    slot_refusal,
 };
 use crate::registry_error::RegistryError;
 use configuration::{Defs, Dependency, FacetDef, FieldDef, NodeDef};
@@ -53,7 +54,7 @@ impl<M: Meanings> Model for Registry<M> {
 
 impl<M: Meanings> Registry<M> {
     /// Nothing declared. Takes no memory.
-    fn empty(alloc: Global) -> Self
+    pub(crate) fn empty(alloc: Global) -> Self
         ensures { result ≡ nothing }
     {
         Registry {
@@ -243,7 +244,9 @@ impl<M: Meanings> Registry<M> {
         ensures grows { IsGrowth self.old self.new }
     {
         input_refusal::<M>(&self.parts, facet, &value)?;
-        let id = self.parts.add_node(&Node::Input(facet), NodeDef::Of(value))?;
+        let id = self
+            .parts
+            .add_node(&Node::Input(facet), NodeDef::Of(value))?;
         Ok(id)
     }
 
@@ -319,7 +322,9 @@ impl<M: Meanings> Registry<M> {
         ensures grows { IsGrowth self.old self.new }
     {
         init_refusal::<M>(&self.parts, field, &value)?;
-        let id = self.parts.add_node(&Node::Init(field), NodeDef::Init(value))?;
+        let id = self
+            .parts
+            .add_node(&Node::Init(field), NodeDef::Init(value))?;
         Ok(id)
     }
 

@@ -16,47 +16,28 @@ pub enum RegistryError {
     /// An id that isn't declared: the first one in the order of the call. For an `init` a field that isn't placed yet is
     /// an unknown id.
     #[error("there is no {sort:?} {id}")]
-    UnknownId {
-        sort: IdSort,
-        id: u32,
-    },
+    UnknownId { sort: IdSort, id: u32 },
     /// A number that no rule of the sort has.
     #[error("there is no rule {number} of sort {sort:?}")]
-    UnknownRule {
-        sort: RuleSort,
-        number: u32,
-    },
+    UnknownRule { sort: RuleSort, number: u32 },
     /// A computed input of a static facet.
     #[error("facet {facet} is static")]
-    StaticFacet {
-        facet: u32,
-    },
+    StaticFacet { facet: u32 },
     /// A value, or what a rule gives, that isn't of the shape of this facet's combiner or this field's updater.
     #[error("a value is of another shape than {id} takes")]
-    WrongShape {
-        id: u32,
-    },
+    WrongShape { id: u32 },
     /// A field that has its node.
     #[error("field {field} is placed already")]
-    AlreadyPlaced {
-        field: u32,
-    },
+    AlreadyPlaced { field: u32 },
     /// Two effect kinds whose maps differ, or are a number other than 1 and 2.
     #[error("effects {effect} and {back} can't undo each other")]
-    BadInverse {
-        effect: u32,
-        back: u32,
-    },
+    BadInverse { effect: u32, back: u32 },
     /// An effect kind that has a pair.
     #[error("effect {effect} has an inverse already")]
-    InverseTaken {
-        effect: u32,
-    },
+    InverseTaken { effect: u32 },
     /// There are 1,048,576 of the kind.
     #[error("there are too many of kind {kind:?}")]
-    TooMany {
-        kind: IdSort,
-    },
+    TooMany { kind: IdSort },
 }
 
 impl From<AllocError> for RegistryError {

@@ -13,7 +13,7 @@ pub invariant_of-self-2 : goal.invariant_of-self-2
 invariant_of-self-2 g c =
     let d = c.self.inside.parts in
     let e : Passes (group_refusals d c.args.of) =
-        subst (λ (ids : List ℕ). Passes (group_refusals d ids)) c.ids.ensures (sym c.in_default.ensures) in
+    subst (λ (ids : List ℕ). Passes (group_refusals d ids)) c.ids.ensures (sym c.in_default.ensures) in
     rw c.in_ok-id.ensures.added (declare-group g.M.Meanings.rules d c.self.invariant c.args.of e)
 
 pub returns-clause-grows : goal.returns-clause-grows
