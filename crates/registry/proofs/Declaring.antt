@@ -1,6 +1,5 @@
 -- A declaration that isn't refused leaves what is declared lawful.
-use Rattle.std.proofs.Common.{◌≡◌, ℕ, zero, suc, ◌<◌, List, [], ◌∷◌, Bool, true, false, not, ◌&&◌, nat_le, Option, Some, None, length, get_or, slice_get, refl, sym, subst, arith}
-use Rattle.std.specs.List.{AllByRecursion}
+use Rattle.std.proofs.Common.{◌≡◌, ℕ, zero, suc, ◌<◌, List, [], ◌∷◌, Bool, true, false, not, Option, Some, None, length, get_or, slice_get, refl, sym, subst, arith}
 use Rattle.std.specs.Option.{option_or}
 use Rattle.registry.specs.declared.registry_error.RegistryError.{RegistryError}
 use Rattle.std.proofs.lemmas.Option.{none-some, same_Some}
@@ -11,7 +10,6 @@ use Rattle.configuration.specs.declared.facet_def.FacetDef.{FacetDef}
 use Rattle.configuration.specs.declared.field_def.FieldDef.{FieldDef}
 use Rattle.configuration.specs.declared.node_def.NodeDef.{NodeDef}
 use Rattle.configuration.specs.declared.node_def.NodeDef.TheVariants as defs
-use Rattle.ext_tree.specs.declared.node.Node.{Node}
 use Rattle.ext_tree.specs.declared.node.Node.TheVariants as nodes
 use Rattle.ext_tree.specs.declared.precedence.Precedence.{Precedence}
 use Rattle.values.specs.declared.val.Val.{Val}
@@ -22,7 +20,7 @@ use Rattle.registry.specs.declared.rule_sort.RuleSort.TheVariants.{Combine, Comp
 use Rattle.registry.specs.declared.id_sort.IdSort.TheVariants.{Compartment, Effect, Facet, Field, Node as NodeSort}
 use Rattle.registry.specs.Declarations.{Declarations, is_placed, nothing, with_compartment, with_effect, with_facet, with_field, with_node, with_placed}
 use Rattle.registry.specs.Refusals.{Passes, has_room, compartment_refusals, compute_n_refusals, compute_refusals, computed_names, computed_refusals, computes, effect_refusals, facet_refusals, field_names, field_refusals, from_refusals, group_refusals, init_fits, init_refusals, input_refusals, map_known, max_count, first_of, output_fits, pair_refusals, place_refusals, prec_refusals, slot_refusals, value_fits}
-use Rattle.registry.specs.Lawful.{IsComputed, IsDefined, IsInit, IsInput, IsLawful, IsLawfulFacet, IsLawfulField, IsMap}
+use Rattle.registry.specs.Lawful.{IsComputed, IsInit, IsInput, IsLawful, IsMap}
 use Rattle.registry.proofs.Passing.{are-known, are-reads, holds, is-known, is-rule, none-of, room}
 use Rattle.registry.proofs.Lawfulness.{lawful-compartment, lawful-effect, lawful-facet, lawful-field, lawful-node}
 use Rattle.registry.proofs.Placing.{lawful-placed}

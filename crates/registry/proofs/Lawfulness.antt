@@ -1,23 +1,22 @@
 -- What is lawful stays so where something lawful is declared.
-use Rattle.std.proofs.Common.{◌≡◌, ℕ, ◌+◌, ◌<◌, ◌≤◌, List, [], ◌∷◌, ◌++◌, Bool, true, false, not, Option, Some, None, length, get_or, slice_get, set, refl, sym, ◌∙◌, subst, arith, length-append}
+use Rattle.std.proofs.Common.{◌≡◌, ℕ, ◌+◌, ◌<◌, List, [], ◌∷◌, ◌++◌, true, false, Option, Some, None, length, slice_get, set, refl, ◌∙◌, arith, length-append}
 use Rattle.std.specs.List.{AllByRecursion}
-use Rattle.std.proofs.lemmas.List.{get_or-set_same, length-set}
-use Rattle.std.proofs.lemmas.Option.{none-some, same_Some}
+use Rattle.std.proofs.lemmas.List.{length-set}
+use Rattle.std.proofs.lemmas.Option.{none-some}
 use Rattle.configuration.specs.declared.facet_def.FacetDef.{FacetDef}
 use Rattle.configuration.specs.declared.field_def.FieldDef.{FieldDef}
 use Rattle.configuration.specs.declared.node_def.NodeDef.{NodeDef}
-use Rattle.configuration.specs.declared.node_def.NodeDef.TheVariants as defs
 use Rattle.configuration.specs.Present.{field_in}
 use Rattle.ext_tree.specs.declared.node.Node.{Node}
 use Rattle.ext_tree.specs.declared.node.Node.TheVariants as nodes
 use Rattle.ext_tree.specs.Tree.{IsOlder, linked, listed}
 use Rattle.values.specs.declared.val.Val.{Val}
 use Rattle.values.specs.Rules.{Rules}
-use Rattle.registry.specs.Declarations.{Declarations, is_placed, with_compartment, with_effect, with_facet, with_field, with_node, with_pair, with_placed}
-use Rattle.registry.specs.Refusals.{max_count, facet_refusals, Passes}
-use Rattle.registry.specs.Lawful.{AllAt, AreAligned, AreKnown, AreLinked, AreWithin, IsDefined, IsLawful, IsLawfulFacet, IsLawfulField, IsMap}
+use Rattle.registry.specs.Declarations.{Declarations, is_placed, with_compartment, with_effect, with_facet, with_field, with_node, with_pair}
+use Rattle.registry.specs.Refusals.{max_count}
+use Rattle.registry.specs.Lawful.{AreKnown, IsDefined, IsLawful, IsLawfulFacet, IsLawfulField, IsMap}
 use Rattle.registry.proofs.Lists.{All-map, all-pushed, at-pushed, both-pushed, get-kept, get_or-default}
-use Rattle.registry.proofs.Linking.{enabled-kept, facet-known, listed-pushed, listed-set, mark-kept, node-pushed, provided-kept, provided-set}
+use Rattle.registry.proofs.Linking.{enabled-kept, facet-known, listed-pushed, node-pushed, provided-kept}
 use Rattle.registry.proofs.Widening.{Widens, defined-widens, field-widens}
 
 -- one more

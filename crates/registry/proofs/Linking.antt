@@ -1,20 +1,19 @@
 -- What leaves are followed by, where lists of links change.
-use Rattle.std.proofs.Common.{◌≡◌, ℕ, zero, suc, ◌+◌, ◌<◌, ◌≤◌, List, [], ◌∷◌, ◌++◌, Bool, true, false, Option, Some, None, length, get_or, slice_get, set, refl, sym, ap, subst, arith}
-use Rattle.std.specs.List.{AllByRecursion}
-use Rattle.std.proofs.lemmas.Option.{none-some, same_Some, slice_get_within}
+use Rattle.std.proofs.Common.{◌≡◌, ℕ, zero, suc, ◌<◌, List, [], ◌∷◌, ◌++◌, Bool, true, false, Option, Some, None, length, get_or, slice_get, set, refl, sym, ap, subst}
+use Rattle.std.proofs.lemmas.Option.{slice_get_within}
 use Rattle.std.proofs.lemmas.List.{get_or_append_left, get_or-set_other}
 use Rattle.configuration.specs.declared.facet_def.FacetDef.{FacetDef}
 use Rattle.configuration.specs.declared.node_def.NodeDef.{NodeDef}
 use Rattle.ext_tree.specs.declared.node.Node.{Node}
 use Rattle.ext_tree.specs.declared.node.Node.TheVariants as nodes
 use Rattle.ext_tree.specs.Links.{LinkLists}
-use Rattle.ext_tree.specs.Tree.{IsOlder, linked, listed}
+use Rattle.ext_tree.specs.Tree.{linked}
 use Rattle.configuration.specs.Present.{field_in}
 use Rattle.values.specs.declared.val.Val.{Val}
 use Rattle.values.specs.Rules.{Rules}
 use Rattle.registry.specs.Declarations.{Declarations}
 use Rattle.registry.specs.Lawful.{IsDefined, IsInput}
-use Rattle.registry.proofs.Lists.{All-map, get_or-default}
+use Rattle.registry.proofs.Lists.{get_or-default}
 
 -- each list of links, where one is added
 pub listed-pushed : (P : List ℕ → Type 0) (xs : List (List ℕ)) (x : List ℕ) → P [] → ((i : ℕ) → P (get_or xs i [])) → P x → (i : ℕ) → P (get_or (xs ++ x ∷ []) i [])

@@ -1,14 +1,12 @@
 -- Placing a field: first its links and its mark change, then its node is added.
-use Rattle.std.proofs.Common.{◌≡◌, ℕ, ◌+◌, ◌<◌, ◌≤◌, List, [], ◌∷◌, ◌++◌, Bool, true, false, not, Option, Some, None, length, get_or, slice_get, set, refl, sym, ◌∙◌, ap, subst, arith}
+use Rattle.std.proofs.Common.{◌≡◌, ℕ, ◌<◌, List, [], Bool, true, false, Some, length, get_or, slice_get, set, sym, ◌∙◌, subst, arith}
 use Rattle.std.specs.List.{AllByRecursion}
 use Rattle.std.proofs.lemmas.List.{get_or-set_same, length-set}
 use Rattle.std.proofs.lemmas.Option.{same_Some}
-use Rattle.configuration.specs.declared.node_def.NodeDef.{NodeDef}
 use Rattle.configuration.specs.declared.node_def.NodeDef.TheVariants as defs
 use Rattle.configuration.specs.Present.{field_in}
-use Rattle.ext_tree.specs.declared.node.Node.{Node}
 use Rattle.ext_tree.specs.declared.node.Node.TheVariants as nodes
-use Rattle.ext_tree.specs.Tree.{IsOlder, linked, listed}
+use Rattle.ext_tree.specs.Tree.{IsOlder, listed}
 use Rattle.values.specs.Rules.{Rules}
 use Rattle.registry.specs.Declarations.{Declarations, is_placed, with_placed}
 use Rattle.registry.specs.Refusals.{max_count}

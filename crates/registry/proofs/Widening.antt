@@ -1,5 +1,5 @@
 -- What is lawful stays so where more is declared.
-use Rattle.std.proofs.Common.{◌≡◌, ℕ, ◌<◌, ◌≤◌, List, [], ◌∷◌, Option, Some, None, length, slice_get, refl, sym, subst, arith}
+use Rattle.std.proofs.Common.{◌≡◌, ℕ, ◌≤◌, List, [], ◌∷◌, Option, Some, None, length, slice_get, refl, sym, subst, arith}
 use Rattle.std.specs.List.{AllByRecursion}
 use Rattle.configuration.specs.declared.dependency.Dependency.{Dependency}
 use Rattle.configuration.specs.declared.dependency.Dependency.TheVariants as reads

@@ -1,5 +1,5 @@
 -- When what is declared has grown: an id keeps its definition.
-use Rattle.std.specs.Prelude.{◌≡◌, ℕ, ◌≤◌, List, Bool, true, Option, Some, length, slice_get}
+use Rattle.std.specs.Prelude.{◌≡◌, ℕ, ◌≤◌, List, true, Some, slice_get}
 use Rattle.ext_tree.specs.Tree.{listed}
 use Rattle.registry.specs.Declarations.{Declarations, is_placed}
 

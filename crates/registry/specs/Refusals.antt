@@ -1,5 +1,5 @@
 -- Why each declaration is refused: the first of its refusals in order.
-use Rattle.std.specs.Prelude.{◌≡◌, ℕ, ◌<◌, List, [], ◌∷◌, ◌++◌, Bool, true, false, cond, not, ◌&&◌, ◌||◌, is_none, nat_lt, nat_le, eqb, map, Option, Some, None, length, slice_get, ⊤}
+use Rattle.std.specs.Prelude.{◌≡◌, ℕ, List, [], ◌∷◌, Bool, true, false, cond, not, ◌&&◌, ◌||◌, is_none, nat_lt, nat_le, eqb, map, Option, Some, None, length, slice_get, ⊤}
 use Rattle.std.specs.Option.{option_or}
 use Rattle.cm_plain.specs.Form.{Form, fits}
 use Rattle.configuration.specs.declared.dependency.Dependency.{Dependency}

@@ -1,4 +1,4 @@
-use Rattle.std.proofs.Common.{◌≡◌, refl}
+use Rattle.std.proofs.Common.{refl}
 use Rattle.registry.proofs.Passing.{or_none}
 use Rattle.registry.proofs.refusals.pair_refusal.Goals as goal
 

@@ -1,4 +1,4 @@
-use Rattle.std.proofs.Common.{◌≡◌, sym}
+use Rattle.std.proofs.Common.{sym}
 use Rattle.registry.proofs.Declaring.{pair-within}
 use Rattle.registry.proofs.Growing.{grows-pair}
 use Rattle.registry.proofs.Lawfulness.{lawful-pair}
