@@ -1,0 +1,12 @@
+use Rattle.std.proofs.Common.{sym}
+use Rattle.configuration.specs.declared.node_def.NodeDef.TheVariants as defs
+use Rattle.ext_tree.specs.declared.node.Node.TheVariants as nodes
+use Rattle.registry.proofs.Declaring.{declare-slot}
+use Rattle.registry.proofs.Growing.{grows-node}
+use Rattle.registry.proofs.registry.Registry.slot.Goals as goal
+
+pub invariant_of-self-2 : goal.invariant_of-self-2
+invariant_of-self-2 g c = rw c.in_ok-id.ensures.added (declare-slot g.M.Meanings.rules c.self.inside.parts c.self.invariant c.args.compartment c.args.of (sym c.in_default.ensures))
+
+pub returns-clause-grows : goal.returns-clause-grows
+returns-clause-grows g c = rw (c.in_ok-id.ensures.added, ← c.self.view_is) (grows-node c.self.inside.parts (nodes.Slot c.args.compartment c.args.of) defs.Branch)

@@ -1,0 +1,11 @@
+pub mod Declarations
+pub mod Refusals
+pub mod Lawful
+pub mod Growth
+pub mod Predeclared
+pub use Rattle.configuration.specs.Present
+pub use Rattle.ext_tree.specs.Links
+pub use Rattle.ext_tree.specs.Tree
+pub use Rattle.transaction.specs.Numbers
+pub use Rattle.values.specs.Rules
+pub use Rattle.values.specs.Vals
