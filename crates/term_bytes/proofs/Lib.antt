@@ -1,3 +1,4 @@
 pub mod FrameText
-pub mod StyleReading
+pub mod Laid
 pub mod ReadBack
+pub mod StyleReading

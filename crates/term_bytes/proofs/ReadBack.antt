@@ -1,5 +1,5 @@
 -- A frame read back.
-use Rattle.std.proofs.Common.{◌≡◌, ℕ, ◌+◌, ◌<◌, ◌≤◌, ◌^◌, arith, Bool, true, false, ◌||◌, List, [], ◌∷◌, ◌++◌, length, refl, rules, sym, ap, ◌∙◌, append_assoc, append-nil, if◌then◌else◌}
+use Rattle.std.proofs.Common.{◌≡◌, ℕ, ◌+◌, ◌<◌, ◌≤◌, ◌^◌, arith, Bool, true, false, List, [], ◌∷◌, ◌++◌, length, refl, sym, ap, ◌∙◌, append_assoc, append-nil, if◌then◌else◌}
 use Rattle.std.specs.Prelude.{codes, String}
 use Rattle.std.specs.Str.{chars}
 use Rattle.std.specs.String.{string_bytes}
@@ -14,11 +14,8 @@ use Rattle.decoration.specs.declared.style.Style.{Style}
 use Rattle.term_bytes.specs.Frame.{frame, place, start, style_bytes}
 use Rattle.term_bytes.specs.Reading.{Drawn, Line, ReadsBack, Terminal, at_text, in_sequence, drawn, drawn_runs, has_control, lines_from, put, read, row_has_control, run_has_control}
 use Rattle.term_bytes.proofs.FrameText.{frame_bytes_same, frame_text, row_text, rows_text, run_text, runs_text}
+use Rattle.term_bytes.proofs.Laid.{neither}
 use Rattle.term_bytes.proofs.StyleReading.{Reads, goes, reads_place, reads_style}
-
-neither : (a b : Bool) → a || b ≡ false → (a ≡ false) × (b ≡ false)
-neither true b none = absurd (search (rules, none))
-neither false b none = (refl, none)
 
 -- characters in the style
 abbrev written : Terminal → List ℕ → Terminal

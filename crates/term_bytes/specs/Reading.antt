@@ -1,10 +1,12 @@
 -- Reading a frame back: what a terminal makes of characters (ECMA-48: cursor position, erase in line, select graphic rendition).
 use Rattle.std.specs.Prelude.{ℕ, ◌+◌, ◌-◌, ◌*◌, max, ◌==◌, ◌&&◌, Bool, false, true, List, [], ◌∷◌, ◌++◌, ◌≡◌, map, slice_get, slice_index, Option, if◌then◌else◌}
 use Rattle.std.specs.Int.{is_in_range}
-use Rattle.std.specs.List.{list_any}
+use Rattle.std.specs.List.{All, list_any}
 use Rattle.std.specs.Global.{Vec}
 use Rattle.cells.specs.Layout.{is_control}
-use Rattle.line_rows.specs.Run.{RunView}
+use Rattle.line_rows.specs.Row.{row_of}
+use Rattle.line_rows.specs.Run.{RunView, runs_of}
+use Rattle.pieces.specs.Piece.{PiecesView}
 use Rattle.pieces.specs.Styles.{plain}
 use Rattle.decoration.specs.declared.style.Style.{Style}
 use Rattle.decoration.specs.declared.color.Color.{Color}
@@ -110,6 +112,14 @@ row_has_control runs = list_any run_has_control runs.items
 
 abbrev pub has_control : List (Vec RunView) → Bool
 has_control rows = list_any row_has_control rows
+
+-- the runs of a laid row
+abbrev pub IsLaid : List RunView → Type 0
+IsLaid runs = (tab cols left : ℕ) × (p : PiecesView) × (runs ≡ runs_of (row_of tab cols left p))
+
+-- rows that are each the runs of a laid row
+abbrev pub AreLaid : List (Vec RunView) → Type 0
+AreLaid rows = All (λ runs. IsLaid runs.items) rows
 
 -- a terminal after a frame: its lines are the rows, from the first row of the terminal on, each character in its run's style;
 -- the cursor stands where it was to be put, and the style is none
