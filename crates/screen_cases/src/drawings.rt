@@ -197,6 +197,25 @@ fn a_wide_character_at_the_edge_shows_a_blank(rt: HostRuntime) -> Result<(), Fai
 }
 
 #[test]
+fn a_short_line_is_followed_by_the_cursor(rt: HostRuntime) -> Result<(), Fail> {
+    let cases = [
+        ("", 0, "^H^1;1H^K^1;1H"),
+        ("h", 1, "^H^1;1Hh^K^1;2H"),
+        ("hi", 2, "^H^1;1Hhi^K^1;3H"),
+    ];
+    for (doc, head, want) in cases {
+        let case = Case {
+            doc,
+            layers: &[],
+            selection: (head, head),
+            size: (1, 5),
+        };
+        assert!(rt; shows(rt.alloc(), &case, want)?);
+    }
+    Ok(())
+}
+
+#[test]
 fn a_mark_of_a_higher_layer_is_inner(rt: HostRuntime) -> Result<(), Fail> {
     let upper = [(Kind::Mark, 0, 2, "", fg(Color::Red))];
     let lower = [

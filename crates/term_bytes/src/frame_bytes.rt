@@ -1,16 +1,26 @@
 // The bytes of a frame.
-ghost use Rattle.std.specs.Prelude.{◌≡◌, [], ◌++◌, IfOk, OnOk};
+ghost use Rattle.std.specs.Prelude.{◌≡◌, [], ◌++◌, chars, false, IfOk, OnOk};
 ghost use Rattle.std.specs.String.{string_bytes};
 ghost use Rattle.term_bytes.specs.Frame.{change_bytes, frame, place, row, run_bytes, runs_from};
+ghost use Rattle.term_bytes.specs.Reading.{AreLaid, ReadsBack, has_control};
 
 use crate::style_bytes::push_style;
 use decoration::Style;
 use line_rows::{Cursor, Run, same_style};
 use std::alloc::{AllocError, Global};
 
-/// The bytes that draw these rows, from the first row of a terminal on, and put the cursor where it stands. `Err`: out of
-/// memory.
+/// The bytes that draw these rows, from the first row of a terminal on, and put the cursor where it stands. Where no run
+/// has a control character, as in the runs of laid rows, they read back as the rows and the cursor. `Err`: out of memory.
 pub fn frame(alloc: Global, rows: &[Vec<Run>], cursor: Cursor) -> Result<String, AllocError>
+    ensures bytes { IfOk result (λ text. string_bytes text ≡ frame rows.now cursor.row cursor.column) }
+    ensures read_back { IfOk result (λ text. ReadsBack rows.now cursor.row cursor.column (chars (string_bytes text))) }
+    ensures laid { AreLaid rows.now → has_control rows.now ≡ false }
+{
+    rows_and_cursor(alloc, rows, cursor)
+}
+
+/// The bytes of `frame`.
+fn rows_and_cursor(alloc: Global, rows: &[Vec<Run>], cursor: Cursor) -> Result<String, AllocError>
     ensures { IfOk result (λ text. string_bytes text ≡ frame rows.now cursor.row cursor.column) }
 {
     let mut out = String::from_str(alloc, "\x1b[H")?;

@@ -1,0 +1,4 @@
+pub mod FrameText
+pub mod Laid
+pub mod ReadBack
+pub mod StyleReading
