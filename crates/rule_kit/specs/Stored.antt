@@ -4,10 +4,9 @@ use Rattle.std.specs.Fn.{Mut}
 use Rattle.std.specs.Borrow.{Bor}
 use Rattle.std.specs.Result.{ForOk}
 use Rattle.std.specs.declared.alloc.AllocError.{AllocError}
-use Rattle.line_tree.specs.Text.{max_len}
 use Rattle.change_desc.specs.declared.section.Section.{Section}
-use Rattle.change_desc.specs.Sections.{counted, new_size, old_size}
 use Rattle.values.specs.declared.val.Val.{Val}
+use Rattle.values.specs.declared.update_view.UpdateView.{UpdateView}
 use Rattle.values.specs.declared.answers.Guarding.{Guarding}
 use Rattle.values.specs.declared.answers.Filtering.{Filtering}
 use Rattle.values.specs.declared.answers.Extension.{Extension}
@@ -21,9 +20,16 @@ use Rattle.rule_kit.specs.declared.effect_map.EffectMap.{EffectMap}
 use Rattle.rule_kit.specs.declared.change_guard.ChangeGuard.{ChangeGuard}
 use Rattle.rule_kit.specs.declared.tr_filter.TrFilter.{TrFilter}
 use Rattle.rule_kit.specs.declared.extender.Extender.{Extender}
+use Rattle.cm_plain.specs.Form.{Form}
 use Rattle.values.specs.Vals.{IsOf}
 use Rattle.values.specs.Views.{AreDeps, DepsView, IsTransaction, TransactionView, AreWithin}
 use Rattle.values.specs.Rules.{Rules}
+
+-- what each update may rely on: the old value is of the rule's shape, and what is shown keeps to the limits
+pub record IsUpdate (shape : Form) (old : Val) (view : UpdateView) : Type 0 where
+  pub fits : IsOf shape old
+  pub transaction : IsTransaction view.transaction
+  pub deps : AreDeps view.deps
 
 module _ {M X : Type 0} {F : X → Type 0} where
   pub record Combines {g : Mut ((x : X) × F x) (Bor (List Val) × Unit {0}) (Result Val AllocError)} (rules : Rules) (c : Combiner M X F g) : Type 0 where
@@ -41,9 +47,9 @@ module _ {M X : Type 0} {F : X → Type 0} where
   pub record Creates {g : Mut ((x : X) × F x) (Bor DepsView × Unit {0}) (Result Val AllocError)} (rules : Rules) (c : Creator M X F g) : Type 0 where
     pub gives : (p : Bor DepsView) (r : Result Val AllocError) → AreDeps p.now → g.post (c.rule.vtable, c.rule.value) (p, tt) r → ForOk r (λ v. v ≡ rules.create c.number p.now)
 
-  pub record Updates {g : Mut ((x : X) × F x) (Bor Val × (Bor TransactionView × (Bor DepsView × Unit {0}))) (Result Val AllocError)} (rules : Rules) (c : Updater M X F g) : Type 0 where
-    pub gives : (p : Bor Val) (t : Bor TransactionView) (q : Bor DepsView) (r : Result Val AllocError) → IsOf (rules.update_shape c.number) p.now → IsTransaction t.now → AreDeps q.now
-        → g.post (c.rule.vtable, c.rule.value) (p, (t, (q, tt))) r → ForOk r (λ v. v ≡ rules.update c.number p.now t.now q.now)
+  pub record Updates {g : Mut ((x : X) × F x) (Bor Val × (Bor UpdateView × Unit {0})) (Result Val AllocError)} (rules : Rules) (c : Updater M X F g) : Type 0 where
+    pub gives : (p : Bor Val) (q : Bor UpdateView) (r : Result Val AllocError) → IsUpdate (rules.update_shape c.number) p.now q.now
+        → g.post (c.rule.vtable, c.rule.value) (p, (q, tt)) r → ForOk r (λ v. v ≡ rules.update c.number p.now q.now.transaction q.now.deps)
 
   pub record MapsEffects {g : Mut ((x : X) × F x) (Val × (Bor (List (Section ℕ)) × Unit {0})) (Result (Option Val) AllocError)} (rules : Rules) (c : EffectMap M X F g) : Type 0 where
     pub gives : (v : Val) (d : Bor (List (Section ℕ))) (r : Result (Option Val) AllocError) → AreWithin d.now

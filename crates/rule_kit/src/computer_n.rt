@@ -48,7 +48,11 @@ impl<M: Meanings> ComputerN<M> {
     }
 
     /// The inputs, in order, computed from what is read. It counts as one call. `Err`: out of memory.
-    pub fn call<L: Ledger>(&self, deps: &Deps, calls: &mut Steps<L>) -> Result<Listed<Val>, AllocError>
+    pub fn call<L: Ledger>(
+        &self,
+        deps: &Deps,
+        calls: &mut Steps<L>,
+    ) -> Result<Listed<Val>, AllocError>
         requires computes { ComputesLists M.rules self.now }
         ensures value { IfOk result (λ v. v ≡ M.rules.compute_list self.now.number deps.now) }
         ensures counted { calls.new ≡ calls.old + 1 }

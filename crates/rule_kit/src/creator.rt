@@ -54,6 +54,15 @@ impl<M: Meanings> Creator<M> {
     {
         deps.known();
         calls.tick();
+        self.answer(deps)
+    }
+
+    /// What the rule answers.
+    fn answer(&self, deps: &Deps) -> Result<Val, AllocError>
+        requires meant { Creates M.rules self.now }
+        requires known { AreDeps deps.now }
+        ensures { IfOk result (λ v. v ≡ M.rules.create self.now.number deps.now) }
+    {
         (self.rule)(deps)
     }
 }

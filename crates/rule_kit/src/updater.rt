@@ -3,10 +3,10 @@ use std::alloc::AllocError;
 use std::marker::PhantomData;
 use std::sync::ledger::Ledger;
 use steps::Steps;
-use values::{Deps, Meanings, TrView, Val};
+use values::{Meanings, UpdateView, Val};
 
 /// The rule of a stored `Updater`.
-pub type UpdateBox = Box<dyn Fn(&Val, &TrView, &Deps) -> Result<Val, AllocError>>;
+pub type UpdateBox = Box<dyn Fn(&Val, &UpdateView) -> Result<Val, AllocError>>;
 
 /// A rule with its number: it gives the value of a field after a transaction, from the old value and what it reads in the new state.
 #[derive(Drop)]
@@ -23,14 +23,14 @@ impl<M: Meanings> Updater<M> {
     ghost use Rattle.std.specs.Result.{ForOk};
     ghost use Rattle.std.specs.declared.alloc.AllocError.{AllocError};
     ghost use Rattle.values.specs.declared.val.Val.{Val};
-    ghost use Rattle.rule_kit.specs.Stored.{Updates};
+    ghost use Rattle.rule_kit.specs.Stored.{IsUpdate, Updates};
     ghost use Rattle.values.specs.Vals.{IsOf};
-    ghost use Rattle.values.specs.Views.{AreDeps, DepsView, IsTransaction, TransactionView};
+    ghost use Rattle.values.specs.declared.update_view.UpdateView.{UpdateView};
 
     /// A rule of this number, whose answers are the number's meaning.
     pub fn new(number: u32, rule: UpdateBox) -> Updater<M>
         requires callable { UpdateBox.IsAlwaysCallable rule }
-        requires meant { (p : Bor Val) (t : Bor TransactionView) (q : Bor DepsView) (r : Result Val AllocError) → IsOf (M.rules.update_shape number) p.now → IsTransaction t.now → AreDeps q.now → UpdateBox.post rule p t q r → ForOk r (λ v. v ≡ M.rules.update number p.now t.now q.now) }
+        requires meant { (p : Bor Val) (q : Bor UpdateView) (r : Result Val AllocError) → IsUpdate (M.rules.update_shape number) p.now q.now → UpdateBox.post rule p q r → ForOk r (λ v. v ≡ M.rules.update number p.now q.now.transaction q.now.deps) }
         ensures number { result.number ≡ number }
         ensures updates { Updates M.rules result }
     {
@@ -48,18 +48,30 @@ impl<M: Meanings> Updater<M> {
         self.number
     }
 
-    /// The value of a field after a transaction; `deps` is what the field reads in the new state. It counts as one call. `Err`: out of
-    /// memory.
-    pub fn call<L: Ledger>(&self, old: &Val, transaction: &TrView, deps: &Deps, calls: &mut Steps<L>) -> Result<Val, AllocError>
+    /// The value of a field after a transaction. It counts as one call. `Err`: out of memory.
+    pub fn call<L: Ledger>(
+        &self,
+        old: &Val,
+        view: &UpdateView,
+        calls: &mut Steps<L>,
+    ) -> Result<Val, AllocError>
         requires updates { Updates M.rules self.now }
         requires fits { IsOf (M.rules.update_shape self.now.number) old.now }
-        ensures value { IfOk result (λ v. v ≡ M.rules.update self.now.number old.now transaction.now deps.now) }
+        ensures value { IfOk result (λ v. v ≡ M.rules.update self.now.number old.now view.now.transaction view.now.deps) }
         ensures counted { calls.new ≡ calls.old + 1 }
     {
-        transaction.known();
-        deps.known();
+        view.known();
         calls.tick();
-        (self.rule)(old, transaction, deps)
+        self.answer(old, view)
+    }
+
+    /// What the rule answers.
+    fn answer(&self, old: &Val, view: &UpdateView) -> Result<Val, AllocError>
+        requires meant { Updates M.rules self.now }
+        requires known { IsUpdate (M.rules.update_shape self.now.number) old.now view.now }
+        ensures { IfOk result (λ v. v ≡ M.rules.update self.now.number old.now view.now.transaction view.now.deps) }
+    {
+        (self.rule)(old, view)
     }
 }
 

@@ -74,19 +74,19 @@ bounds inputs = bounds_of (filter_map pair_in inputs)
 abbrev pub combine : ℕ → List Val → Val
 combine n =
     row n (first_or nothing)
-    (list_of_inputs  -- 1
-    ∷ first_or nothing  -- 2
-    ∷ some_true  -- 3
-    ∷ greatest  -- 4
-    ∷ sum_of_inputs  -- 5
-    ∷ as_layers  -- 6
-    ∷ first_or (int (pos 4))  -- 7
-    ∷ first_or nothing  -- 8
-    ∷ list_of_inputs  -- 9
-    ∷ list_of_inputs  -- 10
-    ∷ list_of_inputs  -- 11
-    ∷ bounds  -- 12
-    ∷ first_or (Plain (plain.Bool false))  -- 13
+    ((1, list_of_inputs)
+    ∷ (2, first_or nothing)
+    ∷ (3, some_true)
+    ∷ (4, greatest)
+    ∷ (5, sum_of_inputs)
+    ∷ (6, as_layers)
+    ∷ (7, first_or (int (pos 4)))
+    ∷ (8, first_or nothing)
+    ∷ (9, list_of_inputs)
+    ∷ (10, list_of_inputs)
+    ∷ (11, list_of_inputs)
+    ∷ (12, bounds)
+    ∷ (13, first_or (Plain (plain.Bool false)))
     ∷ [])
 
 -- the three ways to end a line
@@ -97,36 +97,36 @@ line_ends = one_of (codes "\n" ∷ codes "\r\n" ∷ codes "\r" ∷ [])
 abbrev pub combine_input : (guards filters extenders : ℕ) → ℕ → Form
 combine_input guards filters extenders n =
     row n any
-    (any  -- 1
-    ∷ any  -- 2
-    ∷ booleans  -- 3
-    ∷ any_int  -- 4
-    ∷ any_int  -- 5
-    ∷ ranges  -- 6
-    ∷ numbers (pos 1) (pos 16)  -- 7
-    ∷ line_ends  -- 8
-    ∷ numbers (pos 1) (pos guards)  -- 9
-    ∷ numbers (pos 1) (pos filters)  -- 10
-    ∷ numbers (pos 1) (pos extenders)  -- 11
-    ∷ lists (numbers (pos 0) (pos 100000))  -- 12
-    ∷ booleans  -- 13
+    ((1, any)
+    ∷ (2, any)
+    ∷ (3, booleans)
+    ∷ (4, any_int)
+    ∷ (5, any_int)
+    ∷ (6, ranges)
+    ∷ (7, numbers (pos 1) (pos 16))
+    ∷ (8, line_ends)
+    ∷ (9, numbers (pos 1) (pos guards))
+    ∷ (10, numbers (pos 1) (pos filters))
+    ∷ (11, numbers (pos 1) (pos extenders))
+    ∷ (12, lists (numbers (pos 0) (pos 100000)))
+    ∷ (13, booleans)
     ∷ [])
 
 -- What the value is.
 abbrev pub combine_output : ℕ → Form
 combine_output n =
     row n any
-    (lists any  -- 1
-    ∷ any  -- 2
-    ∷ booleans  -- 3
-    ∷ any_int  -- 4
-    ∷ any_int  -- 5
-    ∷ layers  -- 6
-    ∷ numbers (pos 1) (pos 16)  -- 7
-    ∷ any  -- 8
-    ∷ lists any_int  -- 9
-    ∷ lists any_int  -- 10
-    ∷ lists any_int  -- 11
-    ∷ lists any_int  -- 12
-    ∷ booleans  -- 13
+    ((1, lists any)
+    ∷ (2, any)
+    ∷ (3, booleans)
+    ∷ (4, any_int)
+    ∷ (5, any_int)
+    ∷ (6, layers)
+    ∷ (7, numbers (pos 1) (pos 16))
+    ∷ (8, any)
+    ∷ (9, lists any_int)
+    ∷ (10, lists any_int)
+    ∷ (11, lists any_int)
+    ∷ (12, lists any_int)
+    ∷ (13, booleans)
     ∷ [])

@@ -22,7 +22,7 @@ equal_scalars old new = is_scalar old && equal old new
 abbrev pub compare : ℕ → (old new : Val) → Bool
 compare n =
     row n never
-    (equal  -- 1
-    ∷ never  -- 2
-    ∷ equal_scalars  -- 3
+    ((1, equal)
+    ∷ (2, never)
+    ∷ (3, equal_scalars)
     ∷ [])

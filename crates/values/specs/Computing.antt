@@ -48,23 +48,23 @@ first_ranges deps = Ranges (ranges_in (unwrap_or (first_read deps) nothing))
 abbrev pub compute : ℕ → DepsView → Val
 compute n =
     row n first_plain
-    (document_length  -- 1
-    ∷ line_count  -- 2
-    ∷ main_head  -- 3
-    ∷ first_plain  -- 4
-    ∷ sum_of_reads  -- 5
-    ∷ first_ranges  -- 6
+    ((1, document_length)
+    ∷ (2, line_count)
+    ∷ (3, main_head)
+    ∷ (4, first_plain)
+    ∷ (5, sum_of_reads)
+    ∷ (6, first_ranges)
     ∷ [])
 
 abbrev pub compute_output : ℕ → Form
 compute_output n =
     row n any
-    (any_int  -- 1
-    ∷ any_int  -- 2
-    ∷ any_int  -- 3
-    ∷ any  -- 4
-    ∷ any_int  -- 5
-    ∷ ranges  -- 6
+    ((1, any_int)
+    ∷ (2, any_int)
+    ∷ (3, any_int)
+    ∷ (4, any)
+    ∷ (5, any_int)
+    ∷ (6, ranges)
     ∷ [])
 
 -- the length of each line, none where the document isn't declared
@@ -84,14 +84,14 @@ first_items deps = map (λ d. Plain (value_of d)) (items_in (unwrap_or (first_re
 abbrev pub compute_list : ℕ → DepsView → List Val
 compute_list n =
     row n first_items
-    (line_lengths  -- 1
-    ∷ first_items  -- 2
+    ((1, line_lengths)
+    ∷ (2, first_items)
     ∷ [])
 
 -- what each item is
 abbrev pub list_output : ℕ → Form
 list_output n =
     row n any
-    (any_int  -- 1
-    ∷ any  -- 2
+    ((1, any_int)
+    ∷ (2, any)
     ∷ [])

@@ -13,23 +13,23 @@ use Rattle.values.specs.Computing.{document_length}
 abbrev pub create : ℕ → DepsView → Val
 create n =
     row n first_plain
-    ((λ deps. nothing)  -- 1: Unit
-    ∷ (λ deps. int (pos 0))  -- 2: the number 0
-    ∷ document_length  -- 3
-    ∷ (λ deps. Plain (plain.List []))  -- 4: the empty list
-    ∷ (λ deps. Ranges [])  -- 5: no ranges
-    ∷ (λ deps. History empty)  -- 6: the empty history
-    ∷ first_plain  -- 7
+    ((1, λ deps. nothing)  -- Unit
+    ∷ (2, λ deps. int (pos 0))  -- the number 0
+    ∷ (3, document_length)
+    ∷ (4, λ deps. Plain (plain.List []))  -- the empty list
+    ∷ (5, λ deps. Ranges [])  -- no ranges
+    ∷ (6, λ deps. History empty)  -- the empty history
+    ∷ (7, first_plain)
     ∷ [])
 
 abbrev pub create_output : ℕ → Form
 create_output n =
     row n any
-    (any  -- 1
-    ∷ any_int  -- 2
-    ∷ any_int  -- 3
-    ∷ lists any  -- 4
-    ∷ ranges  -- 5
-    ∷ history  -- 6
-    ∷ any  -- 7
+    ((1, any)
+    ∷ (2, any_int)
+    ∷ (3, any_int)
+    ∷ (4, lists any)
+    ∷ (5, ranges)
+    ∷ (6, history)
+    ∷ (7, any)
     ∷ [])

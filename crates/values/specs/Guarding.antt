@@ -45,9 +45,9 @@ protected_ranges v = filter_map range_item (items_in v)
 abbrev pub guard : ℕ → TransactionView → (filter_data : Val) → Guarding
 guard n =
     row n (λ t given. All)
-    ((λ t given. All)  -- 1: all changes stay
-    ∷ (λ t given. Nothing)  -- 2: none stays
-    ∷ (λ t given. Protected (protected_ranges given))  -- 3
+    ((1, λ t given. All)  -- all changes stay
+    ∷ (2, λ t given. Nothing)  -- none stays
+    ∷ (3, λ t given. Protected (protected_ranges given))
     ∷ [])
 
 -- a spec that inserts a break at a place, after the transaction
@@ -84,10 +84,10 @@ unless_long t given = cond (option_map_or (λ limit. int_lt limit (pos (length t
 abbrev pub filter : ℕ → TransactionView → (filter_data : Val) → Filtering
 filter n =
     row n (λ t given. Keep)
-    ((λ t given. Keep)  -- 1: the transaction stays
-    ∷ (λ t given. Instead [])  -- 2: nothing is done
-    ∷ with_break  -- 3
-    ∷ unless_long  -- 4
+    ((1, λ t given. Keep)  -- the transaction stays
+    ∷ (2, λ t given. Instead [])  -- nothing is done
+    ∷ (3, with_break)
+    ∷ (4, unless_long)
     ∷ [])
 
 abbrev pub nothing_more : Extension
@@ -111,7 +111,7 @@ start_length t given = record { effects = Kind note_kind (int (pos (length t.sta
 abbrev pub extend : ℕ → TransactionView → (filter_data : Val) → Extension
 extend n =
     row n (λ t given. nothing_more)
-    ((λ t given. nothing_more)  -- 1
-    ∷ touched_note  -- 2
-    ∷ start_length  -- 3
+    ((1, λ t given. nothing_more)
+    ∷ (2, touched_note)
+    ∷ (3, start_length)
     ∷ [])

@@ -1,5 +1,5 @@
 -- Words that the tables of shipped rules share: rows by number, whole numbers, and what is read of values.
-use Rattle.std.specs.Prelude.{ℕ, zero, suc, ◌-◌, Bool, true, false, cond, ltb, ℤ, pos, negsuc, List, [], ◌∷◌, map, fold, filter_map, slice_get, Option, Some, None}
+use Rattle.std.specs.Prelude.{ℕ, zero, suc, ◌-◌, Bool, true, false, cond, eqb, ltb, ℤ, pos, negsuc, List, [], ◌∷◌, map, fold, filter_map, slice_get, Option, Some, None}
 use Rattle.std.specs.Option.{option_flatten, unwrap_or}
 use Rattle.std.specs.Int.{saturate_signed, w64}
 use Rattle.std.specs.Prelude.{◌+ℤ◌}
@@ -14,9 +14,10 @@ use Rattle.values.specs.declared.val.Val.{Val}
 use Rattle.values.specs.declared.val.Val.TheVariants.{Plain, Ranges, Layers, History}
 use Rattle.values.specs.Views.{DepsView}
 
--- Row: the one of a number, which counts from 1; another one where there is no such row.
-abbrev pub row : {X : Type 0} → ℕ → (other : X) → List X → X
-row n other rows = unwrap_or (slice_get rows (n - 1)) other
+-- Row: the one of a number in a table of numbered rows; another one where there is no such row.
+abbrev pub row : {X : Type 0} → ℕ → (other : X) → List (ℕ × X) → X
+row n other [] = other
+row n other (r ∷ rows) = cond (eqb n r.0) r.1 (row n other rows)
 
 -- any whole number of 64 bits with sign
 abbrev pub any_int : Form

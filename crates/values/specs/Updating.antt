@@ -177,26 +177,26 @@ collected old t deps = Plain (plain.List (items_in old ++ map item (plain_values
 abbrev pub update : ℕ → (old : Val) → TransactionView → DepsView → Val
 update n =
     row n (λ old t deps. first_plain deps)
-    ((λ old t deps. old)  -- 1: the old value
-    ∷ counted_up  -- 2
-    ∷ last_effect  -- 3
-    ∷ marks  -- 4
-    ∷ marked_lines  -- 5
-    ∷ next_history  -- 6
-    ∷ collected  -- 7
-    ∷ (λ old t deps. first_plain deps)  -- 8: the first read
+    ((1, λ old t deps. old)  -- the old value
+    ∷ (2, counted_up)
+    ∷ (3, last_effect)
+    ∷ (4, marks)
+    ∷ (5, marked_lines)
+    ∷ (6, next_history)
+    ∷ (7, collected)
+    ∷ (8, λ old t deps. first_plain deps)  -- the first read
     ∷ [])
 
 -- what a field that is updated by the rule holds
 abbrev pub update_shape : ℕ → Form
 update_shape n =
     row n any
-    (any  -- 1
-    ∷ any_int  -- 2
-    ∷ any  -- 3
-    ∷ ranges  -- 4
-    ∷ ranges  -- 5
-    ∷ history  -- 6
-    ∷ lists any  -- 7
-    ∷ any  -- 8
+    ((1, any)
+    ∷ (2, any_int)
+    ∷ (3, any)
+    ∷ (4, ranges)
+    ∷ (5, ranges)
+    ∷ (6, history)
+    ∷ (7, lists any)
+    ∷ (8, any)
     ∷ [])

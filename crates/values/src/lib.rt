@@ -13,6 +13,7 @@ mod scene;
 mod shown_effect;
 mod tr_notes;
 mod tr_view;
+mod update_view;
 mod val;
 
 pub use answers::{Extension, Filtering, Guarding};
@@ -22,4 +23,5 @@ pub use scene::Scene;
 pub use shown_effect::ShownEffect;
 pub use tr_notes::TrNotes;
 pub use tr_view::TrView;
+pub use update_view::UpdateView;
 pub use val::Val;

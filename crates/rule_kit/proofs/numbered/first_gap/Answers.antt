@@ -7,10 +7,10 @@ loop-below-preserved g c = λ m low high. ⊎_elim (λ lt. let e : m ≡ c.loop-
 
 pub returns-in-None : goal.returns-in-None
 returns-in-None g c = record {
-  number = (omega arith, omega arith);
+  number = record { low = omega arith; high = omega arith };
   missing = c.in-None.ensures;
-  least = λ m is lt. c.loop-below.invariant m is.0 (omega arith);
+  least = λ m is lt. c.loop-below.invariant m is.low (omega arith);
 }
 
 pub returns : goal.returns
-returns g c = record { each = λ n is. c.loop-below.invariant n is.0 (omega arith) }
+returns g c = record { each = λ n is. c.loop-below.invariant n is.low (omega arith) }
