@@ -30,6 +30,11 @@ moved_by (Update t) =
     let changes = not (changes_nothing t.changes) in
     record { document = changes; selection = changes || t.given || not (eqb (length t.selection.ranges) (length t.start_selection.ranges)) }
 
+-- what is not flagged of a document and a selection is as it was
+pub record SceneKept (moved : SceneFlags) (old new : SceneView) : Type 0 where
+  pub document : moved.document ≡ false → old.document ≡ new.document
+  pub selection : moved.selection ≡ false → old.selection ≡ new.selection
+
 -- a flag for each facet and field
 abbrev pub Flags : Type 0
 Flags = Vertex → Bool
