@@ -1,7 +1,12 @@
+pub mod Advance
 pub mod Calls
+pub mod Changing
+pub mod Creation
 pub mod Fitting
+pub mod Growing
 pub mod Kept
 pub mod Leaves
+pub mod Nexting
 pub mod Places
 pub mod Rounds
 pub mod Unflagged
