@@ -13,6 +13,7 @@ pub mod Stepping
 pub mod Order
 pub mod Lawful
 pub mod Agreement
+pub mod Resolving
 pub mod Keeping
 pub mod Flags
 pub mod Due
