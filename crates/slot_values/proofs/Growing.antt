@@ -85,7 +85,7 @@ grown-agree old new formed grown = record {
   fields = λ f was field there at. same-got old.defs.fields new.defs.fields grown.fields f was.def field.def (field-parts old f (node_at old f) was there) (field-parts new f (node_at new f) field at);
 }
 
-past-empty : {X : Type 0} (xs : List (List X)) (f : ℕ) → length xs ≤ f → get_or xs f [] ≡ []
+pub past-empty : {X : Type 0} (xs : List (List X)) (f : ℕ) → length xs ≤ f → get_or xs f [] ≡ []
 past-empty [] f le = refl
 past-empty (x ∷ xs) zero le = absurd (omega (arith, le))
 past-empty (x ∷ xs) (suc f) le = past-empty xs f (omega (arith, le))
