@@ -16,6 +16,7 @@ use Rattle.slot_values.specs.Scenes.{SceneView, IsScene, Values, shown}
 use Rattle.slot_values.specs.FacetValues.{node_outputs, facet_value}
 use Rattle.slot_values.specs.Settling.{FieldRule, field_value, round, rounds, values_of}
 use Rattle.slot_values.specs.Stepping.{State, Transition, Enter, Update, created, equal_init, heard, rule_of}
+use Rattle.slot_values.specs.Making.{IsMadeIn}
 use Rattle.slot_values.specs.Order.{AllInputs, AllNeeds, StandsBefore, IsVertex, IsOrdered}
 use Rattle.slot_values.specs.Lawful.{IsLawfulField, IsLawful, FieldsFit}
 use Rattle.slot_values.specs.Agreement.{Follows}
@@ -122,11 +123,6 @@ module _ (rules : Rules) (setup : Setup) (ordered : IsOrdered setup) (scene : Sc
 pub heard-is : (listens : List ℕ) (t : TransactionView) → IsTransaction t → IsTransaction (heard listens t)
 heard-is listens t is = record { starts = is.starts; document = is.document; short = is.short; new_short = is.new_short; start_inside = is.start_inside; inside = is.inside }
 
--- what a transition may rely on
-abbrev pub IsMade : Transition → Type 0
-IsMade Enter = Unit {0}
-IsMade (Update t) = IsTransaction t
-
 -- a field fits its updater after each transition
 module _ (rules : Rules) (lawful : AreLawful rules) (setup : Setup) (all : IsLawful rules setup) (old : State) (old_fit : FieldsFit rules old.setup old.values) where
   created-fits : (field : PresentField) → IsLawfulField rules field → (seen : DepsView) → AreDeps seen → (o : Option Val) → IfSome o (IsOf (rules.update_shape field.def.update)) → IsOf (rules.update_shape field.def.update) (unwrap_or o (rules.create field.def.create seen))
@@ -149,7 +145,7 @@ module _ (rules : Rules) (lawful : AreLawful rules) (setup : Setup) (all : IsLaw
   some-or P None d h = absurd h
   some-or P (Some x) d h = h
 
-  pub transition-fits : (transition : Transition) → IsMade transition → Follows transition old.setup setup → (f : ℕ) (field : PresentField) → field_at setup f ≡ Some field → (seen : DepsView) → AreDeps seen
+  pub transition-fits : (transition : Transition) → IsMadeIn old.scene transition → Follows transition old.setup setup → (f : ℕ) (field : PresentField) → field_at setup f ≡ Some field → (seen : DepsView) → AreDeps seen
       → IsOf (rules.update_shape field.def.update) (rule_of rules transition old f field seen)
   transition-fits Enter made follows f field at seen are =
       was-fits field f (created rules field seen) (field_at old.setup f) (λ was there. (follows.agree.fields f was field there at, old_fit f was there))
@@ -157,7 +153,7 @@ module _ (rules : Rules) (lawful : AreLawful rules) (setup : Setup) (all : IsLaw
   transition-fits (Update t) made follows f field at seen are =
       lawful.update_fits field.def.update (unwrap_or (old.values (Field f)) nothing) (heard field.def.listens t) seen (all.fields f field at).update
       (some-or (IsOf (rules.update_shape field.def.update)) (old.values (Field f)) nothing (old_fit f field (sym ((follows.continued t refl).fields f) ∙ at)))
-      (heard-is field.def.listens t made) are
+      (heard-is field.def.listens t made.is) are
 
 -- states of equal parts are equal
 pub state-same : (setup : Setup) (d e : SceneView) (a b : Values) → d ≡ e → a ≡ b → record_state setup d a ≡ record_state setup e b

@@ -12,4 +12,5 @@ pub mod Ordered
 pub mod Places
 pub mod Resolved
 pub mod Rounds
+pub mod Still
 pub mod Unflagged

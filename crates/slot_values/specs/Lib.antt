@@ -10,6 +10,7 @@ pub mod Scenes
 pub mod FacetValues
 pub mod Settling
 pub mod Stepping
+pub mod Making
 pub mod Order
 pub mod Lawful
 pub mod Agreement

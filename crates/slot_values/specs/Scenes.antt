@@ -1,7 +1,7 @@
 -- What rules are shown of a document, a selection and values (Reference Manual, Facet.compute).
 use Rattle.std.specs.Prelude.{ℕ, ◌≤◌, List, [], ◌∷◌, Bool, true, false, cond, length, map, Option, None, Some}
 use Rattle.line_tree.specs.Text.{max_len}
-use Rattle.selection.specs.Selections.{SelectionView, LieIn}
+use Rattle.selection.specs.Selections.{SelectionView, IsSelection, LieIn}
 use Rattle.configuration.specs.declared.dependency.Dependency.{Dependency}
 use Rattle.configuration.specs.declared.dependency.Dependency.TheVariants as dependency
 use Rattle.configuration.specs.declared.vertex.Vertex.{Vertex}
@@ -14,9 +14,10 @@ pub record SceneView : Type 0 where
   pub document : List ℕ
   pub selection : SelectionView
 
--- no document is too long, and the selection lies in it
+-- no document is too long, and the selection is one of it
 pub record IsScene (scene : SceneView) : Type 0 where
   pub short : length scene.document ≤ max_len
+  pub is_selection : IsSelection scene.selection
   pub inside : LieIn (length scene.document) scene.selection.ranges
 
 -- Values: of each facet and field, none for an absent field and for an id that is not known.
