@@ -1,22 +1,21 @@
 -- What a transition finds of what was kept is right, within the calls that are due.
-use Rattle.std.proofs.Common.{◌≡◌, ◌<◌, ◌∙◌, ℕ, List, [], ◌∷◌, Bool, true, false, not, ◌&&◌, ◌||◌, cond, eqb, Option, None, Some, is_none, length, slice_get, map, MatchOption, refl, sym, ap, subst, ⊎_elim, arith, IfSome}
+use Rattle.std.proofs.Common.{◌≡◌, ◌<◌, ◌∙◌, ℕ, List, [], ◌∷◌, Bool, true, false, not, ◌&&◌, ◌||◌, cond, eqb, Option, None, Some, is_none, length, slice_get, map, MatchOption, refl, sym, ap, subst, arith, IfSome}
 use Rattle.std.specs.Option.{option_map, unwrap_or}
 use Rattle.std.specs.List.{list_any, AllByRecursion}
-use Rattle.configuration.specs.declared.node_def.NodeDef.{NodeDef}
 use Rattle.configuration.specs.declared.vertex.Vertex.{Vertex}
 use Rattle.configuration.specs.declared.vertex.Vertex.TheVariants.{Facet, Field}
 use Rattle.configuration.specs.Pairs.{reads_of}
 use Rattle.values.specs.declared.val.Val.{Val}
 use Rattle.values.specs.Rules.{Rules, AreLawful}
 use Rattle.values.specs.Reading.{nothing}
-use Rattle.slot_values.specs.Setups.{Setup, InputNode, PresentFacet, PresentField, facet_at, field_at, order_of}
-use Rattle.slot_values.specs.Scenes.{SceneView, Values, shown}
+use Rattle.slot_values.specs.Setups.{InputNode, PresentFacet, PresentField, facet_at, field_at, order_of}
+use Rattle.slot_values.specs.Scenes.{SceneView, Values}
 use Rattle.slot_values.specs.FacetValues.{outputs, node_outputs, joined, facet_value}
 use Rattle.slot_values.specs.Settling.{field_value}
 use Rattle.slot_values.specs.Stepping.{Transition, rule_of}
 use Rattle.slot_values.specs.Order.{AllReads, AllInputs, AllNeeds, StandsBefore, IsVertex}
 use Rattle.slot_values.specs.Agreement.{NodesAgree}
-use Rattle.slot_values.specs.Keeping.{held, inputs_of, AreKnown, inputs_put}
+use Rattle.slot_values.specs.Keeping.{inputs_of, AreKnown, inputs_put}
 use Rattle.slot_values.specs.Flags.{Flags, SceneKept, Change, any_flagged, find_node, same_outputs, same_value, same_nodes, input_changed, facet_due, facet_flag, field_flag, flag_round, flags_of}
 use Rattle.slot_values.specs.Due.{call_of, inputs_due, inputs_before, facet_calls, calls_due}
 use Rattle.slot_values.specs.Nexts.{kept_outputs, next_from, changed_from, next_outputs, next_changed, next_due, next_count, facet_next_calls, next_calls, IsNextFacet, IsNextField, IsNext}

@@ -1,5 +1,5 @@
 -- The calls that are due: worked numbers.
-use Rattle.std.specs.Prelude.{◌≡◌, ℕ, List, [], ◌∷◌, ◌++◌, Bool, true, false, None, Some, pos, refl, codes, replicate, Option}
+use Rattle.std.specs.Prelude.{◌≡◌, ℕ, List, [], ◌∷◌, Bool, true, false, Some, pos, refl, codes, replicate}
 use Rattle.std.proofs.lemmas.Bool.{ltb-true}
 use Rattle.change_desc.specs.declared.section.Section.{Section}
 use Rattle.change_desc.specs.declared.section.Section.TheVariants as section

@@ -1,12 +1,12 @@
 -- What is kept and what is wanted are the two sides of a change.
-use Rattle.std.proofs.Common.{◌≡◌, ◌∙◌, ℕ, List, Bool, false, Option, None, ap}
+use Rattle.std.proofs.Common.{◌≡◌, ◌∙◌, ℕ, List, Option, ap}
 use Rattle.std.specs.Option.{option_map}
 use Rattle.configuration.specs.declared.vertex.Vertex.TheVariants.{Facet, Field}
 use Rattle.values.specs.declared.val.Val.{Val}
 use Rattle.values.specs.Rules.{Rules}
 use Rattle.slot_values.specs.Setups.{Setup, PresentField, field_at}
 use Rattle.slot_values.specs.Scenes.{SceneView}
-use Rattle.slot_values.specs.Settling.{field_value, values_of}
+use Rattle.slot_values.specs.Settling.{field_value}
 use Rattle.slot_values.specs.Stepping.{Transition, after, rule_of, scene_after}
 use Rattle.slot_values.specs.Order.{IsOrdered}
 use Rattle.slot_values.specs.Lawful.{IsLawful}

@@ -1,5 +1,5 @@
 -- At creation each field, computed input and facet is due once at most.
-use Rattle.std.proofs.Common.{◌≡◌, ◌≤◌, ◌+◌, ◌∙◌, ℕ, List, [], ◌∷◌, Option, None, Some, refl, ap, arith, length, ◌<◌}
+use Rattle.std.proofs.Common.{◌≡◌, ◌≤◌, ◌+◌, ℕ, List, [], ◌∷◌, Option, None, Some, refl, ap, arith}
 use Rattle.std.specs.Option.{option_map, unwrap_or}
 use Rattle.configuration.specs.declared.vertex.Vertex.{Vertex}
 use Rattle.configuration.specs.declared.vertex.Vertex.TheVariants.{Facet, Field}

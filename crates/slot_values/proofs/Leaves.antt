@@ -1,5 +1,5 @@
 -- A field that leaves and comes back: worked examples.
-use Rattle.std.specs.Prelude.{◌≡◌, ℕ, List, [], ◌∷◌, Option, None, Some, pos, refl, codes, true, false}
+use Rattle.std.specs.Prelude.{◌≡◌, ℕ, List, [], ◌∷◌, Option, None, Some, pos, refl, codes, false}
 use Rattle.std.proofs.lemmas.Bool.{ltb-true}
 use Rattle.configuration.specs.declared.dependency.Dependency.TheVariants as dependency
 use Rattle.configuration.specs.declared.node_def.NodeDef.TheVariants as node_def

@@ -4,14 +4,14 @@ use Rattle.std.specs.Option.{option_map, unwrap_or}
 use Rattle.std.proofs.lemmas.List.Sums.{sum_by-cons}
 use Rattle.std.specs.List.{list_any, AllByRecursion}
 use Rattle.configuration.specs.declared.vertex.Vertex.{Vertex}
-use Rattle.configuration.specs.declared.vertex.Vertex.TheVariants.{Facet, Field}
+use Rattle.configuration.specs.declared.vertex.Vertex.TheVariants.{Facet}
 use Rattle.values.specs.declared.val.Val.{Val}
 use Rattle.values.specs.Rules.{Rules, AreLawful}
 use Rattle.values.specs.Vals.{IsOf}
 use Rattle.slot_values.specs.Setups.{Setup, InputNode, PresentFacet, PresentField, facet_at}
 use Rattle.slot_values.specs.Scenes.{SceneView, IsScene, Values}
 use Rattle.slot_values.specs.FacetValues.{node_outputs, joined}
-use Rattle.slot_values.specs.Stepping.{State, Transition, Enter, Update, kept_value, after}
+use Rattle.slot_values.specs.Stepping.{State, Transition, Enter, Update, kept_value}
 use Rattle.slot_values.specs.Lawful.{FitsCombiner}
 use Rattle.slot_values.specs.Flags.{SceneFlags, Flags, same_nodes}
 use Rattle.slot_values.specs.Due.{call_of, field_calls}

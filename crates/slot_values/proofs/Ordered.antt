@@ -2,12 +2,12 @@
 use Rattle.std.proofs.Common.{◌≡◌, ◌≤◌, ◌<◌, ◌+◌, ◌-◌, ◌∙◌, ℕ, zero, suc, List, [], ◌∷◌, ◌++◌, Bool, true, false, cond, nat_lt, Option, None, Some, All, MatchOption, length, slice_get, get_or, map, flat_map, refl, sym, ap, subst, arith, ⊎_elim, ◌⊎◌, inl, inr}
 use Rattle.std.specs.Option.{option_and_then, option_flatten, option_map}
 use Rattle.std.specs.List.{AllByRecursion, range_with_len}
-use Rattle.std.proofs.lemmas.Bool.{cases_Bool, cases_lt, lt-ltb, ltb-true, ltb-false}
+use Rattle.std.proofs.lemmas.Bool.{cases_Bool, cases_lt, lt-ltb, ltb-true}
 use Rattle.std.proofs.lemmas.List.{length-append, length-map}
 use Rattle.std.proofs.lemmas.Option.{slice_get_cases, slice_get-get_or, slice_get-map, slice_get_within}
 use Rattle.id_lists.specs.Members.{In}
 use Rattle.dep_graph.specs.declared.edge.Edge.{Edge}
-use Rattle.dep_graph.specs.Order.{DependsOn, IsOrder, edge}
+use Rattle.dep_graph.specs.Order.{IsOrder, edge}
 use Rattle.dep_graph.proofs.Members.{in-end, in-more}
 use Rattle.configuration.specs.declared.defs.Defs.{Defs}
 use Rattle.configuration.specs.declared.dependency.Dependency.{Dependency}
@@ -17,16 +17,16 @@ use Rattle.configuration.specs.declared.field_def.FieldDef.{FieldDef}
 use Rattle.configuration.specs.declared.node_def.NodeDef.{NodeDef}
 use Rattle.configuration.specs.declared.vertex.Vertex.{Vertex}
 use Rattle.configuration.specs.declared.vertex.Vertex.TheVariants.{Facet, Field}
-use Rattle.configuration.specs.Pairs.{vertex_of, pair_with, read_pair, reads_of, reads_in, input_pairs, facet_pairs_from, field_pairs, field_pairs_from, pairs}
+use Rattle.configuration.specs.Pairs.{pair_with, read_pair, reads_of, reads_in, input_pairs, facet_pairs_from, field_pairs, field_pairs_from, pairs}
 use Rattle.configuration.specs.Vertices.{AreOrdered, vertex_at}
 use Rattle.configuration.proofs.Placing.{numbers-length}
 use Rattle.values.specs.declared.val.Val.{Val}
-use Rattle.slot_values.specs.Setups.{Setup, InputNode, PresentFacet, PresentField, input_node, inputs_at, facet_at, init_of, node_at, field_with, field_at, new_facets, order_of, vertex_count}
+use Rattle.slot_values.specs.Setups.{Setup, PresentFacet, PresentField, input_node, inputs_at, init_of, node_at, field_with, new_facets, order_of, vertex_count}
 use Rattle.slot_values.specs.Order.{AllReads, AllInputs, AllNeeds, StandsBefore, IsVertex, IsOrdered}
 use Rattle.slot_values.specs.Agreement.{IsGrown}
 use Rattle.slot_values.specs.Resolving.{IsResolvedOver, IsResolved}
 use Rattle.slot_values.proofs.Earlier.{earlier, in-place, order-short, place-in}
-use Rattle.slot_values.proofs.Growing.{longer, past-empty, same-inside, stays-got}
+use Rattle.slot_values.proofs.Growing.{longer, past-empty, same-inside}
 use Rattle.slot_values.proofs.Resolved.{inputs-length, fields-length, inputs-defined}
 
 -- places of two lists, one after the other
@@ -232,28 +232,31 @@ module _ (first : Defs Val) (setup : Setup) (over : IsResolvedOver first setup) 
     reads-before (dependency.Facet f ∷ reads) h more =
         let one : In (edge n f) (read_pair (length first.facets) (length first.fields) n (dependency.Facet f)) =
         subst (λ (b : Bool). In (edge n f) (pair_with n (cond b (Some f) None))) (sym (lt-ltb f (length first.facets) h.0)) (inl refl) in
-        let place = before f (more (edge n f) (in-more (read_pair (length first.facets) (length first.fields) n (dependency.Facet f)) (flat_map (read_pair (length first.facets) (length first.fields) n) reads) (edge n f) one)) in
-        ((place.0, place.1, facet-place place.0 f h.0 place.2),
-        reads-before reads h.1 (λ e j. more e (in-end (read_pair (length first.facets) (length first.fields) n (dependency.Facet f)) (flat_map (read_pair (length first.facets) (length first.fields) n) reads) e j)))
+        let place = before f (more (edge n f) (in-more (read_pair (length first.facets) (length first.fields) n (dependency.Facet f)) (flat_map (read_pair (length first.facets) (length first.fields) n) reads) (edge n f) one)) in (
+          (place.0, place.1, facet-place place.0 f h.0 place.2),
+          reads-before reads h.1 (λ e j. more e (in-end (read_pair (length first.facets) (length first.fields) n (dependency.Facet f)) (flat_map (read_pair (length first.facets) (length first.fields) n) reads) e j)),
+        )
     reads-before (dependency.Field f ∷ reads) h more =
         let lt = h.0 in let same = fields-length first setup over in
         let inside : f < length first.fields = omega (arith, lt, same) in
         let one : In (edge n (length first.facets + f)) (read_pair (length first.facets) (length first.fields) n (dependency.Field f)) =
         subst (λ (b : Bool). In (edge n (length first.facets + f)) (pair_with n (cond b (Some (length first.facets + f)) None))) (sym (lt-ltb f (length first.fields) inside)) (inl refl) in
-        let place = before (length first.facets + f) (more (edge n (length first.facets + f)) (in-more (read_pair (length first.facets) (length first.fields) n (dependency.Field f)) (flat_map (read_pair (length first.facets) (length first.fields) n) reads) (edge n (length first.facets + f)) one)) in
-        ((place.0, place.1, field-place place.0 f place.2),
-        reads-before reads h.1 (λ e j. more e (in-end (read_pair (length first.facets) (length first.fields) n (dependency.Field f)) (flat_map (read_pair (length first.facets) (length first.fields) n) reads) e j)))
+        let place = before (length first.facets + f) (more (edge n (length first.facets + f)) (in-more (read_pair (length first.facets) (length first.fields) n (dependency.Field f)) (flat_map (read_pair (length first.facets) (length first.fields) n) reads) (edge n (length first.facets + f)) one)) in (
+          (place.0, place.1, field-place place.0 f place.2),
+          reads-before reads h.1 (λ e j. more e (in-end (read_pair (length first.facets) (length first.fields) n (dependency.Field f)) (flat_map (read_pair (length first.facets) (length first.fields) n) reads) e j)),
+        )
 
     inputs-before : (ids : List ℕ) → AllByRecursion (λ (m : ℕ). m < length first.node_defs) ids → AllInputs (IsVertex (record { defs = first; config = setup.config })) (map (input_node first.node_defs) ids)
         → ((e : Edge) → In e (flat_map (input_pairs (length first.facets) (length first.fields) first.node_defs n) ids) → In e (pairs first.facets first.fields first.node_defs setup.config.inputs setup.config.fields))
         → AllInputs (StandsBefore (order_of setup) i) (map (input_node setup.defs.node_defs) ids)
     inputs-before [] defined h more = tt
-    inputs-before (m ∷ ids) defined h more =
-        (subst (λ (o : Option (NodeDef Val)). AllReads (StandsBefore (order_of setup) i) (reads_of o)) (same-inside first.node_defs setup.defs.node_defs grown.node_defs m defined.0)
-        (reads-before (reads_of (slice_get first.node_defs m)) h.0
-        (λ e j. more e (in-more (input_pairs (length first.facets) (length first.fields) first.node_defs n m) (flat_map (input_pairs (length first.facets) (length first.fields) first.node_defs n) ids) e j))),
-        inputs-before ids defined.1 h.1
-        (λ e j. more e (in-end (input_pairs (length first.facets) (length first.fields) first.node_defs n m) (flat_map (input_pairs (length first.facets) (length first.fields) first.node_defs n) ids) e j)))
+    inputs-before (m ∷ ids) defined h more = (
+      subst (λ (o : Option (NodeDef Val)). AllReads (StandsBefore (order_of setup) i) (reads_of o)) (same-inside first.node_defs setup.defs.node_defs grown.node_defs m defined.0)
+          (reads-before (reads_of (slice_get first.node_defs m)) h.0
+          (λ e j. more e (in-more (input_pairs (length first.facets) (length first.fields) first.node_defs n m) (flat_map (input_pairs (length first.facets) (length first.fields) first.node_defs n) ids) e j))),
+      inputs-before ids defined.1 h.1
+          (λ e j. more e (in-end (input_pairs (length first.facets) (length first.fields) first.node_defs n m) (flat_map (input_pairs (length first.facets) (length first.fields) first.node_defs n) ids) e j)),
+    )
 
     facet-after : n < length first.facets → AllNeeds (StandsBefore (order_of setup) i) setup (Facet n)
     facet-after lt =

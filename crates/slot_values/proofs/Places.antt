@@ -1,10 +1,10 @@
 -- Facets and fields by their ids, and places of an order.
-use Rattle.std.proofs.Common.{◌≡◌, ◌<◌, ◌≤◌, ◌+◌, ◌∙◌, ℕ, List, Option, None, Some, length, get_or, slice_get, drop, sum_by, All, ◌⊎◌, inl, inr, ap, arith, ⊎_elim}
+use Rattle.std.proofs.Common.{◌≡◌, ◌<◌, ◌≤◌, ◌+◌, ℕ, List, Option, None, Some, length, get_or, slice_get, drop, sum_by, All, ◌⊎◌, inl, inr, ap, arith, ⊎_elim}
 use Rattle.std.specs.Option.{option_and_then, option_flatten, option_map}
 use Rattle.std.proofs.lemmas.Option.{slice_get_cases, slice_get-get_or}
 use Rattle.std.proofs.lemmas.List.Sums.{sum_by-drop_more}
 use Rattle.configuration.specs.declared.facet_def.FacetDef.{FacetDef}
-use Rattle.slot_values.specs.Setups.{Setup, PresentFacet, PresentField, inputs_at, facet_at, node_at, field_with, field_at}
+use Rattle.slot_values.specs.Setups.{Setup, PresentFacet, inputs_at, facet_at, field_with, field_at}
 
 module _ (setup : Setup) (f : ℕ) where
   -- a facet that is declared

@@ -1,19 +1,17 @@
 -- A resolved configuration has no place past its definitions, and its nodes are defined.
-use Rattle.std.proofs.Common.{◌≡◌, ◌≤◌, ◌<◌, ◌+◌, ◌∙◌, ℕ, zero, suc, List, [], ◌∷◌, Bool, true, false, cond, Option, None, Some, length, slice_get, get_or, map, filter, find, refl, sym, ap, subst, arith, ⊎_elim}
-use Rattle.std.specs.Option.{option_flatten, option_map, unwrap_or}
+use Rattle.std.proofs.Common.{◌≡◌, ◌≤◌, ◌<◌, ◌+◌, ◌∙◌, ℕ, zero, suc, List, [], ◌∷◌, true, false, cond, Option, Some, length, slice_get, get_or, map, refl, sym, ap, subst, arith, ⊎_elim}
+use Rattle.std.specs.Option.{option_flatten}
 use Rattle.std.specs.List.{AllByRecursion, range_with_len}
-use Rattle.std.proofs.lemmas.Bool.{cases_lt}
-use Rattle.std.proofs.lemmas.Option.{slice_get_cases, slice_get_within}
+use Rattle.std.proofs.lemmas.Option.{slice_get_cases}
 use Rattle.ext_tree.specs.declared.node.Node.{Node}
 use Rattle.ext_tree.specs.Flat.{flat_order}
 use Rattle.configuration.specs.declared.defs.Defs.{Defs}
-use Rattle.configuration.specs.Present.{facet_in, field_in, is_id, inputs_of, node_of_field, input_lists, field_nodes}
+use Rattle.configuration.specs.Present.{facet_in, field_in, is_id, inputs_of, node_of_field}
 use Rattle.configuration.proofs.Placing.{numbers-length}
 use Rattle.values.specs.declared.val.Val.{Val}
 use Rattle.slot_values.specs.Setups.{Setup, node_at}
-use Rattle.slot_values.specs.Agreement.{IsGrown}
 use Rattle.slot_values.specs.Resolving.{IsResolvedOver, IsResolved, IsFormed}
-use Rattle.slot_values.proofs.Growing.{longer, some-same, past-empty}
+use Rattle.slot_values.proofs.Growing.{longer, some-same}
 
 module _ (nodes : List Node) where
   facet-inside : (f n : ℕ) → is_id f (facet_in (slice_get nodes n)) ≡ true → n < length nodes

@@ -10,8 +10,7 @@ use Rattle.configuration.specs.declared.vertex.Vertex.{Vertex}
 use Rattle.configuration.specs.declared.vertex.Vertex.TheVariants.{Facet, Field}
 use Rattle.configuration.specs.Pairs.{reads_of}
 use Rattle.values.specs.declared.val.Val.{Val}
-use Rattle.values.specs.Rules.{Rules, AreLawful}
-use Rattle.values.specs.Reading.{nothing}
+use Rattle.values.specs.Rules.{Rules}
 use Rattle.slot_values.specs.Setups.{Setup, InputNode, PresentFacet, PresentField, facet_at, field_at, order_of, vertex_count}
 use Rattle.slot_values.specs.Scenes.{SceneView, Values, vertices_of, shown}
 use Rattle.slot_values.specs.FacetValues.{outputs, node_outputs, joined, facet_value}

@@ -3,7 +3,6 @@ use Rattle.std.proofs.Common.{◌≡◌, ◌≤◌, ◌<◌, ◌+◌, ◌-◌, �
 use Rattle.std.proofs.lemmas.Bool.{cases_lt, eq-eqb, lt-ltb, ne_eqb}
 use Rattle.std.proofs.lemmas.Bool.Decides.{Decides-eqb, nat_tests}
 use Rattle.std.proofs.lemmas.List.{length-drop, take-append-drop}
-use Rattle.change_desc.specs.declared.map_mode.MapMode.TheVariants.{Simple}
 use Rattle.change_desc.specs.declared.section.Section.{Section}
 use Rattle.change_desc.specs.declared.section.Section.TheVariants.{Keep, Replace}
 use Rattle.change_desc.specs.Places.{place_after}
@@ -14,7 +13,7 @@ use Rattle.change_desc.specs.Sections.{apply, counted, lengths, old_size, spelle
 use Rattle.change_desc.proofs.Merges.{old_size-lengths}
 use Rattle.change_desc.proofs.Moves.{moved-keep_in, moved-keep_on}
 use Rattle.selection.specs.declared.range.Range.{Range}
-use Rattle.selection.specs.Ranges.{cursor, high, low, moved_range, ordered_range, uncrossed}
+use Rattle.selection.specs.Ranges.{cursor, high, low, moved_range, uncrossed}
 use Rattle.selection.specs.Selections.{IsSelection, LieIn, SelectionView, moved_selection, normal_form, single_of}
 use Rattle.selection.proofs.CreatedAgain.{created_again}
 use Rattle.values.specs.Views.{TransactionView}

@@ -1,5 +1,5 @@
 -- The calls that are due: of creators, updaters, computers and combiners.
-use Rattle.std.specs.Prelude.{ℕ, ◌+◌, List, [], ◌∷◌, Bool, true, false, ◌||◌, cond, Option, None, Some, is_none, sum_by}
+use Rattle.std.specs.Prelude.{ℕ, ◌+◌, List, [], ◌∷◌, Bool, ◌||◌, cond, Option, None, Some, is_none, sum_by}
 use Rattle.std.specs.Option.{option_map, unwrap_or}
 use Rattle.configuration.specs.declared.node_def.NodeDef.{NodeDef}
 use Rattle.configuration.specs.declared.node_def.NodeDef.TheVariants.{Compute, ComputeN, From}

@@ -1,5 +1,5 @@
 -- The value of a facet: its present inputs, combined from scratch (Reference Manual, Facet.define, combine).
-use Rattle.std.specs.Prelude.{ℕ, List, [], ◌∷◌, map, Option, Some}
+use Rattle.std.specs.Prelude.{List, [], ◌∷◌, map, Option, Some}
 use Rattle.std.specs.List.{flat_map}
 use Rattle.configuration.specs.declared.dependency.Dependency.TheVariants as dependency
 use Rattle.configuration.specs.declared.node_def.NodeDef.{NodeDef}

@@ -4,13 +4,11 @@ use Rattle.std.specs.List.{list_any}
 use Rattle.change_desc.specs.Ranges.{changes_nothing}
 use Rattle.configuration.specs.declared.dependency.Dependency.{Dependency}
 use Rattle.configuration.specs.declared.dependency.Dependency.TheVariants as dependency
-use Rattle.configuration.specs.declared.node_def.NodeDef.{NodeDef}
 use Rattle.configuration.specs.declared.vertex.Vertex.{Vertex}
 use Rattle.configuration.specs.declared.vertex.Vertex.TheVariants.{Facet, Field}
 use Rattle.configuration.specs.Pairs.{reads_of}
 use Rattle.values.specs.declared.val.Val.{Val}
 use Rattle.values.specs.Rules.{Rules}
-use Rattle.values.specs.Views.{TransactionView}
 use Rattle.slot_values.specs.Setups.{Setup, InputNode, PresentFacet, PresentField, facet_at, field_at}
 use Rattle.slot_values.specs.Scenes.{SceneView}
 use Rattle.slot_values.specs.FacetValues.{node_outputs}

@@ -1,5 +1,5 @@
 -- What a transaction may be that is made of a document and a selection (Reference Manual, Transaction).
-use Rattle.std.specs.Prelude.{◌≡◌, Bool, false, ◌⊎◌, ⊤}
+use Rattle.std.specs.Prelude.{◌≡◌, false, ◌⊎◌, ⊤}
 use Rattle.change_desc.specs.Sections.{lengths, spelled}
 use Rattle.selection.specs.Selections.{SelectionView, moved_selection, single_of}
 use Rattle.values.specs.Views.{IsTransaction, TransactionView}

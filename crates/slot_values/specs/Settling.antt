@@ -1,5 +1,5 @@
 -- The values of all facets and fields, settled in dependency order.
-use Rattle.std.specs.Prelude.{ℕ, zero, suc, Option, None}
+use Rattle.std.specs.Prelude.{ℕ, zero, suc, None}
 use Rattle.std.specs.Option.{option_map}
 use Rattle.configuration.specs.declared.vertex.Vertex.{Vertex}
 use Rattle.configuration.specs.declared.vertex.Vertex.TheVariants.{Facet, Field}
