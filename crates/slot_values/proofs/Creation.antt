@@ -8,24 +8,19 @@ use Rattle.slot_values.specs.Setups.{Setup, InputNode, PresentFacet, PresentFiel
 use Rattle.slot_values.specs.Scenes.{SceneView}
 use Rattle.slot_values.specs.Stepping.{State, Enter, empty_state}
 use Rattle.slot_values.specs.Flags.{SceneFlags, Flags, Change, change_of}
-use Rattle.slot_values.specs.Due.{call_of, inputs_due, facet_calls, field_calls, calls_due}
+use Rattle.slot_values.specs.Due.{call_of, calls_of, inputs_due, facet_calls, field_calls, calls_due}
 use Rattle.slot_values.proofs.Nexting.{one-at-most}
-
--- the computed inputs among some
-abbrev pub computed_count : List InputNode → ℕ
-computed_count [] = 0
-computed_count (i ∷ is) = call_of i.input + computed_count is
 
 -- one for each computed input, and one for the facet
 abbrev pub facet_cost : PresentFacet → ℕ
-facet_cost facet = computed_count facet.inputs + 1
+facet_cost facet = calls_of facet.inputs + 1
 
 abbrev pub cost : Setup → Vertex → ℕ
 cost setup (Facet f) = unwrap_or (option_map facet_cost (facet_at setup f)) 0
 cost setup (Field f) = unwrap_or (option_map (λ (field : PresentField). 1) (field_at setup f)) 0
 
 -- where a facet had no inputs, each computed input is due
-all-due : (moved : SceneFlags) (flags : Flags) (is : List InputNode) → inputs_due moved flags [] is ≡ computed_count is
+all-due : (moved : SceneFlags) (flags : Flags) (is : List InputNode) → inputs_due moved flags [] is ≡ calls_of is
 all-due moved flags [] = refl
 all-due moved flags (i ∷ is) = ap (λ (n : ℕ). call_of i.input + n) (all-due moved flags is)
 

@@ -1,7 +1,6 @@
 -- What is found of a facet, as the next facet.
-use Rattle.std.proofs.Common.{◌≡◌, ◌≤◌, ◌+◌, ◌∙◌, ℕ, List, Bool, true, false, not, ◌&&◌, ◌||◌, cond, Some, is_none, [], ◌∷◌, map, refl, sym, ap, arith, sum_by, All, Option, IsSomeAnd, subst}
+use Rattle.std.proofs.Common.{◌≡◌, ◌≤◌, ◌+◌, ◌∙◌, ℕ, List, Bool, true, false, not, ◌&&◌, ◌||◌, cond, Some, is_none, [], ◌∷◌, map, refl, sym, ap, arith, All, Option, IsSomeAnd, subst}
 use Rattle.std.specs.Option.{option_map, unwrap_or}
-use Rattle.std.proofs.lemmas.List.Sums.{sum_by-cons}
 use Rattle.std.specs.List.{list_any, AllByRecursion}
 use Rattle.configuration.specs.declared.vertex.Vertex.{Vertex}
 use Rattle.configuration.specs.declared.vertex.Vertex.TheVariants.{Facet}
@@ -14,7 +13,7 @@ use Rattle.slot_values.specs.FacetValues.{node_outputs, joined}
 use Rattle.slot_values.specs.Stepping.{State, Transition, Enter, Update, kept_value}
 use Rattle.slot_values.specs.Lawful.{FitsCombiner}
 use Rattle.slot_values.specs.Flags.{SceneFlags, Flags, same_nodes}
-use Rattle.slot_values.specs.Due.{call_of, field_calls}
+use Rattle.slot_values.specs.Due.{call_of, calls_of, field_calls}
 use Rattle.slot_values.specs.Nexts.{next_outputs, next_changed, next_due, next_count, facet_next_calls, next_calls, IsNextFacet, IsNext}
 use Rattle.slot_values.proofs.Fitting.{outputs_fit}
 
@@ -59,9 +58,9 @@ module _ (rules : Rules) (scene : SceneView) (moved : SceneFlags) (flags : Flags
       let single : ℕ = 1 in let one : single ≡ cond all-due 1 0 = ap (λ (b : Bool). cond b 1 0) (due-is changed true e d) in omega (arith, le, one)
 
 -- of a facet that was declared since, each computed input is due
-pub all-new : (moved : SceneFlags) (flags : Flags) (kept : List (List Val)) (is : List InputNode) → next_count moved flags [] kept is ≡ sum_by (λ (node : InputNode). call_of node.input) is
+pub all-new : (moved : SceneFlags) (flags : Flags) (kept : List (List Val)) (is : List InputNode) → next_count moved flags [] kept is ≡ calls_of is
 all-new moved flags kept [] = refl
-all-new moved flags kept (i ∷ is) = ap (λ (n : ℕ). call_of i.input + n) (all-new moved flags kept is) ∙ sym (sum_by-cons (λ (node : InputNode). call_of node.input) i is)
+all-new moved flags kept (i ∷ is) = ap (λ (n : ℕ). call_of i.input + n) (all-new moved flags kept is)
 
 -- what is kept of a facet's inputs fits its combiner
 pub kept_fit : (rules : Rules) → AreLawful rules → (n : ℕ) (scene : SceneView) → IsScene scene → (values : Values) (is : List InputNode) → AllByRecursion (λ (node : InputNode). FitsCombiner rules n node.input) is → AllByRecursion (λ k. All (IsOf (rules.combine_input n)) k) (map (node_outputs rules scene values) is)

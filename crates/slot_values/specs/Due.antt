@@ -19,6 +19,11 @@ call_of (Some (ComputeN rule reads)) = 1
 call_of (Some (From field rule)) = 1
 call_of _ = 0
 
+-- and one for each computed input among some
+abbrev pub calls_of : List InputNode → ℕ
+calls_of [] = 0
+calls_of (i ∷ is) = call_of i.input + calls_of is
+
 -- Input due: it is new to its facet, or a declared dependency is flagged.
 abbrev pub input_due : SceneFlags → Flags → List InputNode → InputNode → Bool
 input_due moved flags was node = is_none (find_node node.node was) || any_flagged moved flags (reads_of node.input)
