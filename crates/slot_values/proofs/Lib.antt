@@ -6,6 +6,7 @@ pub mod Earlier
 pub mod Fitting
 pub mod Growing
 pub mod Kept
+pub mod Laws
 pub mod Leaves
 pub mod Nexting
 pub mod Ordered
