@@ -1,0 +1,17 @@
+pub mod Advance
+pub mod Calls
+pub mod Changing
+pub mod Creation
+pub mod Earlier
+pub mod Fitting
+pub mod Growing
+pub mod Kept
+pub mod Laws
+pub mod Leaves
+pub mod Nexting
+pub mod Ordered
+pub mod Places
+pub mod Resolved
+pub mod Rounds
+pub mod Still
+pub mod Unflagged
