@@ -74,11 +74,11 @@ color_bytes (Some color) code same = both same (number_bytes (number_of color) (
 codes_bytes : (s : Style) → Spells (style_codes s) (style_codes s)
 unfolding encode
 codes_bytes s =
-    let bold : Spells (codes ";1") (codes ";1") = record { is = refl } in
+    let one : Spells (codes ";1") (codes ";1") = record { is = refl } in
     let three : Spells (codes ";3") (codes ";3") = record { is = refl } in
     let four : Spells (codes ";4") (codes ";4") = record { is = refl } in
     let seven : Spells (codes ";7") (codes ";7") = record { is = refl } in
-    both (both (both (both (flag_bytes s.bold _ bold) (flag_bytes s.underline _ four)) (flag_bytes s.reverse _ seven)) (color_bytes s.fg _ three)) (color_bytes s.bg _ four)
+    both (both (both (both (flag_bytes s.bold _ one) (flag_bytes s.underline _ four)) (flag_bytes s.reverse _ seven)) (color_bytes s.fg _ three)) (color_bytes s.bg _ four)
 
 style_same : (s : Style) → Spells (style_bytes s) (style_bytes s)
 unfolding encode

@@ -1,7 +1,8 @@
 //! The bytes that draw rows of runs in a terminal.
 //!
 //! `frame` gives them: a layer above may rely on their being exactly those of `frame` of specs/Frame, which begin at the
-//! first row, erase what is left of each, and put the cursor where it stands.
+//! first row, erase what is left of each, and put the cursor where it stands; and on their reading back as the rows and the
+//! cursor (`ReadsBack` of specs/Reading), where no run has a control character.
 #![tactic(auto)]
 
 mod frame_bytes;
