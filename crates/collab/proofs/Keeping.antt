@@ -142,6 +142,34 @@ taken-version (u ∷ us) c = omega (arith, taken-version us (taken c u))
 pub received-name : (c : ClientView) (from : ℕ) (us : List Update) → (received c from us).name ≡ c.name
 received-name c from us = taken-name (unseen c from us) c
 
+-- updates that are still to come in a client's name are at most its unconfirmed ones
+confirms-count : (us : List Update) (c : ClientView) → Confirms c us → length (numbers_of c.name us) ≤ length c.pending
+confirms-count [] c h = omega arith
+confirms-count (u ∷ us) c h = by (bytes_eq c.name u.client) refl (confirms-count us (taken c u) h.1)
+  where
+    by : (b : Bool) → bytes_eq c.name u.client ≡ b → length (numbers_of c.name us) ≤ length (pending_after c u) →
+        length (cond b (u.number ∷ numbers_of c.name us) (numbers_of c.name us)) ≤ length c.pending
+    by true e k =
+        let p : IsFirst u c.pending = h.0 (same_name c.name u.client e) in
+        omega (arith, k, ap length (own_pending c u e ∙ ap (drop 1) p.1), ap length p.1)
+    by false e k = omega (arith, k, ap length (other_pending c u e), mapped-length c.pending u.changes)
+
+-- the authority has at most as many updates of a client as that made local changes
+pub keeps-count : (a : AuthorityView) (c : ClientView) → KeepsTo a c → length (numbers_of c.name a.updates) ≤ c.made
+keeps-count a c h =
+    let before : List Update = take c.version a.updates in
+    let rest : List Update = drop c.version a.updates in
+    let all : length (numbers_of c.name (before ++ rest)) ≡ length (numbers_of c.name a.updates) =
+    ap (λ us. length (numbers_of c.name us)) (take-append-drop c.version a.updates) in
+    omega (
+      arith,
+      h.count,
+      confirms-count rest c h.confirms,
+      all,
+      ap length (numbers_of-append c.name before rest),
+      length-append (numbers_of c.name before) (numbers_of c.name rest),
+    )
+
 -- what is asked of a call of `receive` holds
 pub can-receive : (a : AuthorityView) (c : ClientView) (from : ℕ) (us : List Update) → IsAuthority a → KeepsTo a c → IsPart a from us → from ≤ c.version →
     CanReceive c (unseen c from us)

@@ -43,6 +43,7 @@ impl World {
         requires short { length text.characters ≤ max_len }
         requires names { AreDistinct names.items }
         ensures value { IfOk result (λ w. w ≡ begun text.characters names.items) }
+        ensures converges { IfOk result (λ w. Converges w) }
     {
         let clients = joined(alloc, &text, names)?;
         let authority = Authority::new(alloc, text)?;
@@ -163,6 +164,7 @@ impl World {
     fn converge(&self)
         ensures { Converges self.now }
     {
+        // For the proof alone: a field is named so that what the type keeps is at hand.
         let _ = &self.authority;
     }
 
