@@ -49,15 +49,6 @@ abbrev pub receiving_refusal : Option ℕ → (from : ℕ) → List Update → L
 receiving_refusal None from updates clients = None
 receiving_refusal (Some i) from updates clients = option_and_then (λ c. receive_refusal c from updates) (slice_get clients i)
 
--- a client after local changes, and after a message that has updates came to it
-abbrev pub changed_client : List Change → Option ClientView → Option ClientView
-changed_client changes c = option_map (after_local changes) c
-
-abbrev pub received_client : Option Message → Option ClientView → Option ClientView
-received_client None c = None
-received_client (Some (Push name version updates)) c = None
-received_client (Some (Updates from updates)) c = option_map (λ x. received x from updates) c
-
 -- the world after a delivery: a Push comes to the authority, and Updates come to the client that is named, if one is
 abbrev pub delivered : Option Message → Option ℕ → WorldView → WorldView
 delivered None to w = w

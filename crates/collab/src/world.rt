@@ -2,7 +2,7 @@ ghost use Rattle.std.specs.Prelude.{◌≡◌, ◌≢◌, ◌+◌, ◌<◌, ◌�
 ghost use Rattle.line_tree.specs.Text.{max_len};
 ghost use Rattle.collab.specs.declared.error.CollabError.TheVariants.{NoMemory};
 ghost use Rattle.collab.specs.Worlds.{AreDistinct, begun, changed_at, with_clients, with_message};
-ghost use Rattle.collab.specs.Stepping.{CanHappen, Exists, HasNumber, HasPlaces, HasRoom, IsEventOf, after_local, changed_client, delivered, delivery_refusal, is_push, local_refusal, published, received_client, sent, step_refusal, stepped};
+ghost use Rattle.collab.specs.Stepping.{CanHappen, Exists, HasNumber, HasPlaces, HasRoom, IsEventOf, after_local, delivered, delivery_refusal, is_push, local_refusal, published, sent, step_refusal, stepped};
 ghost use Rattle.collab.specs.Authorities.{update_count};
 ghost use Rattle.collab.specs.Converging.{Converges};
 
@@ -90,40 +90,6 @@ impl World {
         ensures { result ≡ is_push (slice_get self.now.messages message) }
     {
         self.messages[message as usize].is_push()
-    }
-
-    /// A client that exists as local changes would leave it; the world stays as it is. `Err`: as the event would be refused; or
-    /// out of memory.
-    pub fn changed(&self, client: u32, changes: &[Change]) -> Result<Client, CollabError>
-        requires exists { client < length self.now.clients }
-        requires room { HasNumber (slice_get self.now.clients client) }
-        ensures value { IfOk result (λ next. changed_client changes.now (slice_get self.now.clients client) ≡ Some next) }
-        ensures accepted { OnOk result (option_and_then (local_refusal changes.now) (slice_get self.now.clients client) ≡ None) }
-        ensures refused { IfErr result (λ e. e ≢ NoMemory → option_and_then (local_refusal changes.now) (slice_get self.now.clients client) ≡ Some e) }
-    {
-        Ok(self.clients[client as usize].changed(changes)?)
-    }
-
-    /// A client that exists as a message of updates would leave it; the world stays as it is. `Err`: as the delivery would be
-    /// refused; or out of memory.
-    pub fn received(&self, client: u32, message: u32) -> Result<Client, CollabError>
-        requires exists { client < length self.now.clients }
-        requires message { message < length self.now.messages }
-        requires updates { is_push (slice_get self.now.messages message) ≡ false }
-        ensures value { IfOk result (λ next. received_client (slice_get self.now.messages message) (slice_get self.now.clients client) ≡ Some next) }
-        ensures accepted { OnOk result (delivery_refusal (slice_get self.now.messages message) (Some client) self.now ≡ None) }
-        ensures refused { IfErr result (λ e. e ≢ NoMemory → delivery_refusal (slice_get self.now.messages message) (Some client) self.now ≡ Some e) }
-    {
-        match &self.messages[message as usize] {
-            Message::Push {
-                client: _,
-                version: _,
-                updates: _,
-            } => Err(CollabError::NoMemory),
-            Message::Updates { from, updates } => {
-                self.clients[client as usize].received(*from, updates.as_slice())
-            }
-        }
     }
 
     /// Whether there are still fewer than 2 ^ 32 updates, messages and local changes of each client after an event. Takes no
