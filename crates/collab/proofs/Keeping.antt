@@ -9,7 +9,7 @@ use Rattle.collab.specs.declared.update.Update.{Update}
 use Rattle.collab.specs.Updates.{applied, LeadOn, AllBear, numbers_of, CountOn}
 use Rattle.collab.specs.Lengths.{too_long}
 use Rattle.collab.specs.Authorities.{AuthorityView, CanTake, IsAuthority, latest, pushed, slice_of, update_count}
-use Rattle.collab.specs.Clients.{ClientView, CanReceive, Confirms, IsFirst, all_mapped, all_taken, client_lengths, document, gone_on, joined, local_update, pending_after, received, taken, taking_refusal, unseen, with_local}
+use Rattle.collab.specs.Clients.{CanReceive, ClientView, Confirms, IsFirst, all_taken, client_lengths, crossed, document, joined, local_update, pending_after, received, taken, taking_refusal, unseen, with_local}
 use Rattle.collab.specs.Invariants.{IsPart, KeepsTo, Sent}
 use Rattle.collab.proofs.Names.{same_name, name_test, numbers, numbers-append, numbers_of-append, bear-left, count-left}
 use Rattle.collab.proofs.Texts.{applied-append, leads-left, leads-right}
@@ -205,9 +205,9 @@ confirms-more (u ∷ us) c d more n e h =
                   (ap (drop 1) (e ∙ ap (λ xs. xs ++ more) q.1) ∙ sym (ap (λ xs. xs ++ more) (own_pending c u f ∙ ap (drop 1) q.1))),
             )
         by false f = (
-          all_mapped (gone_on u.changes c.pending) more,
+          (crossed (crossed u.changes c.pending).taken more).updates,
           other_pending d u (ap (λ x. bytes_eq x u.client) n ∙ f) ∙
-              (ap (all_mapped u.changes) e ∙ (mapped-append c.pending more u.changes ∙ sym (ap (λ xs. xs ++ all_mapped (gone_on u.changes c.pending) more) (other_pending c u f)))),
+              (ap (λ us. (crossed u.changes us).updates) e ∙ (mapped-append c.pending more u.changes ∙ sym (ap (λ xs. xs ++ (crossed (crossed u.changes c.pending).taken more).updates) (other_pending c u f)))),
         )
 
 -- a local change

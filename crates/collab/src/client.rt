@@ -7,7 +7,7 @@ ghost use Rattle.change_set.specs.declared.error.ChangesError.TheVariants as cha
 ghost use Rattle.collab.specs.declared.error.CollabError.TheVariants.{NoMemory};
 ghost use Rattle.collab.specs.Lengths.{too_long};
 ghost use Rattle.collab.specs.Updates.{applied};
-ghost use Rattle.collab.specs.Clients.{CanReceive, IsClient, IsFirst, IsLocal, all_mapped, all_taken, client_lengths, document, gone_on, joined, receive_refusal, received, taken, taking_refusal, unseen, with_local};
+ghost use Rattle.collab.specs.Clients.{CanReceive, IsClient, IsFirst, IsLocal, all_taken, client_lengths, crossed, document, joined, receive_refusal, received, taken, taking_refusal, unseen, with_local};
 ghost use Rattle.collab.specs.Stepping.{after_local, local_set, push_of};
 ghost use Rattle.collab.specs.Views.{at_version};
 
@@ -231,8 +231,8 @@ impl Client {
         requires other { bytes_eq self.now.name update.now.client ≡ false }
         requires starts { old_size update.now.changes ≡ length self.now.confirmed }
         requires few { self.now.version + 1 < 2 ^ 32 }
-        requires updates { all.updates.items ≡ all_mapped update.now.changes self.now.pending }
-        requires taken { all.taken ≡ gone_on update.now.changes self.now.pending }
+        requires updates { all.updates.items ≡ (crossed update.now.changes self.now.pending).updates }
+        requires taken { all.taken ≡ (crossed update.now.changes self.now.pending).taken }
         requires short { too_long (client_lengths (taken self.now update.now)) ≡ None }
         ensures taken { IfOk result (λ c. c ≡ taken self.now update.now) }
     {

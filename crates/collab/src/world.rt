@@ -2,7 +2,8 @@ ghost use Rattle.std.specs.Prelude.{◌≡◌, ◌≢◌, ◌+◌, ◌<◌, ◌�
 ghost use Rattle.line_tree.specs.Text.{max_len};
 ghost use Rattle.collab.specs.declared.error.CollabError.TheVariants.{NoMemory};
 ghost use Rattle.collab.specs.Worlds.{AreDistinct, begun, changed_at, with_clients, with_message};
-ghost use Rattle.collab.specs.Stepping.{CanHappen, Exists, HasNumber, HasPlaces, HasRoom, IsEventOf, after_local, delivered, delivery_refusal, is_push, local_refusal, published, sent, step_refusal, stepped};
+ghost use Rattle.collab.specs.Conditions.{CanHappen, Exists, HasNumber, HasPlaces, HasRoom, IsEventOf};
+ghost use Rattle.collab.specs.Stepping.{after_local, delivered, delivery_refusal, is_push, local_refusal, published, step_refusal, stepped, with_push};
 ghost use Rattle.collab.specs.Authorities.{update_count};
 ghost use Rattle.collab.specs.Converging.{Converges};
 
@@ -186,7 +187,7 @@ impl World {
     fn send(&mut self, client: u32) -> Result<(), AllocError>
         requires exists { client < length self.old.clients }
         requires room { length self.old.messages + 1 < 2 ^ 32 }
-        ensures ok { OnOk result (self.new ≡ sent (slice_get self.old.clients client) self.old) }
+        ensures ok { OnOk result (self.new ≡ with_push (slice_get self.old.clients client) self.old) }
         ensures err { OnErr result (self.new ≡ self.old) }
     {
         let push = self.clients[client as usize].push_message()?;
