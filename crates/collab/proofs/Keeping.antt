@@ -9,7 +9,7 @@ use Rattle.collab.specs.declared.update.Update.{Update}
 use Rattle.collab.specs.Updates.{applied, LeadOn, AllBear, numbers_of, CountOn}
 use Rattle.collab.specs.Lengths.{too_long}
 use Rattle.collab.specs.Authorities.{AuthorityView, CanTake, IsAuthority, latest, pushed, slice_of, update_count}
-use Rattle.collab.specs.Clients.{ClientView, CanReceive, Confirms, IsFirst, all_mapped, all_taken, client_lengths, document, gone_on, joined, local_update, pending_after, received, taken, taking_refusal, unseen, with_local}
+use Rattle.collab.specs.Clients.{CanReceive, ClientView, Confirms, IsFirst, all_taken, client_lengths, crossed, document, joined, local_update, pending_after, received, taken, taking_refusal, unseen, with_local}
 use Rattle.collab.specs.Invariants.{IsPart, KeepsTo, Sent}
 use Rattle.collab.proofs.Names.{same_name, name_test, numbers, numbers-append, numbers_of-append, bear-left, count-left}
 use Rattle.collab.proofs.Texts.{applied-append, leads-left, leads-right}
@@ -142,6 +142,34 @@ taken-version (u ∷ us) c = omega (arith, taken-version us (taken c u))
 pub received-name : (c : ClientView) (from : ℕ) (us : List Update) → (received c from us).name ≡ c.name
 received-name c from us = taken-name (unseen c from us) c
 
+-- updates that are still to come in a client's name are at most its unconfirmed ones
+confirms-count : (us : List Update) (c : ClientView) → Confirms c us → length (numbers_of c.name us) ≤ length c.pending
+confirms-count [] c h = omega arith
+confirms-count (u ∷ us) c h = by (bytes_eq c.name u.client) refl (confirms-count us (taken c u) h.1)
+  where
+    by : (b : Bool) → bytes_eq c.name u.client ≡ b → length (numbers_of c.name us) ≤ length (pending_after c u) →
+        length (cond b (u.number ∷ numbers_of c.name us) (numbers_of c.name us)) ≤ length c.pending
+    by true e k =
+        let p : IsFirst u c.pending = h.0 (same_name c.name u.client e) in
+        omega (arith, k, ap length (own_pending c u e ∙ ap (drop 1) p.1), ap length p.1)
+    by false e k = omega (arith, k, ap length (other_pending c u e), mapped-length c.pending u.changes)
+
+-- the authority has at most as many updates of a client as that made local changes
+pub keeps-count : (a : AuthorityView) (c : ClientView) → KeepsTo a c → length (numbers_of c.name a.updates) ≤ c.made
+keeps-count a c h =
+    let before : List Update = take c.version a.updates in
+    let rest : List Update = drop c.version a.updates in
+    let all : length (numbers_of c.name (before ++ rest)) ≡ length (numbers_of c.name a.updates) =
+    ap (λ us. length (numbers_of c.name us)) (take-append-drop c.version a.updates) in
+    omega (
+      arith,
+      h.count,
+      confirms-count rest c h.confirms,
+      all,
+      ap length (numbers_of-append c.name before rest),
+      length-append (numbers_of c.name before) (numbers_of c.name rest),
+    )
+
 -- what is asked of a call of `receive` holds
 pub can-receive : (a : AuthorityView) (c : ClientView) (from : ℕ) (us : List Update) → IsAuthority a → KeepsTo a c → IsPart a from us → from ≤ c.version →
     CanReceive c (unseen c from us)
@@ -177,9 +205,9 @@ confirms-more (u ∷ us) c d more n e h =
                   (ap (drop 1) (e ∙ ap (λ xs. xs ++ more) q.1) ∙ sym (ap (λ xs. xs ++ more) (own_pending c u f ∙ ap (drop 1) q.1))),
             )
         by false f = (
-          all_mapped (gone_on u.changes c.pending) more,
+          (crossed (crossed u.changes c.pending).taken more).updates,
           other_pending d u (ap (λ x. bytes_eq x u.client) n ∙ f) ∙
-              (ap (all_mapped u.changes) e ∙ (mapped-append c.pending more u.changes ∙ sym (ap (λ xs. xs ++ all_mapped (gone_on u.changes c.pending) more) (other_pending c u f)))),
+              (ap (λ us. (crossed u.changes us).updates) e ∙ (mapped-append c.pending more u.changes ∙ sym (ap (λ xs. xs ++ (crossed (crossed u.changes c.pending).taken more).updates) (other_pending c u f)))),
         )
 
 -- a local change

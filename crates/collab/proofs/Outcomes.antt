@@ -12,7 +12,7 @@ use Rattle.collab.specs.Lengths.{lengths_after, too_long}
 use Rattle.collab.specs.Authorities.{AuthorityView, CanTake, latest, push_refusal, pushed, update_count}
 use Rattle.collab.specs.Clients.{CanReceive, ClientView, IsLocal, receive_refusal, received, taking_refusal, unseen}
 use Rattle.collab.specs.Worlds.{WorldView, changed_at, with_authority, with_clients}
-use Rattle.collab.specs.Stepping.{after_local, delivered, delivery_refusal, local_set, received_by, received_client, receiving_refusal}
+use Rattle.collab.specs.Stepping.{after_local, delivered, delivery_refusal, local_set, received_by, receiving_refusal}
 use Rattle.collab.specs.Invariants.{HasSender, IsPart, IsWorld}
 use Rattle.collab.proofs.Keeping.{can-receive, can-take, received-name}
 use Rattle.collab.proofs.Worlds.{client-kept, follows-local, follows-received, push-kept}
@@ -100,15 +100,3 @@ updates-delivered w now i to from us cs e m p =
 pub updates-refused : (w now : WorldView) (i : ℕ) (to : Option ℕ) (from : ℕ) (us : List Update) → w ≡ now →
     slice_get w.messages i ≡ Some (Updates from us) → delivery_refusal (slice_get now.messages i) to now ≡ receiving_refusal to from us w.clients
 updates-refused w now i to from us e m = sym (ap (λ x. delivery_refusal (slice_get x.messages i) to x) e) ∙ ap (λ o. delivery_refusal o to w) m
-
--- a client as a delivery would leave it
-pub received-client : (w now : WorldView) (i j : ℕ) (c : ClientView) (from : ℕ) (us : List Update) → w ≡ now → slice_get w.messages i ≡ Some (Updates from us) →
-    slice_get w.clients j ≡ Some c → received_client (slice_get now.messages i) (slice_get now.clients j) ≡ Some (received c from us)
-received-client w now i j c from us e m k =
-    sym (ap (λ x. received_client (slice_get x.messages i) (slice_get x.clients j)) e) ∙
-    (ap (λ o. received_client o (slice_get w.clients j)) m ∙ ap (received_client (Some (Updates from us))) k)
-
-pub received-refused : (w now : WorldView) (i j : ℕ) (c : ClientView) (from : ℕ) (us : List Update) → w ≡ now → slice_get w.messages i ≡ Some (Updates from us) →
-    slice_get w.clients j ≡ Some c → delivery_refusal (slice_get now.messages i) (Some j) now ≡ receive_refusal c from us
-received-refused w now i j c from us e m k =
-    updates-refused w now i (Some j) from us e m ∙ ap (option_and_then (λ x. receive_refusal x from us)) k

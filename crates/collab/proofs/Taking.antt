@@ -7,7 +7,7 @@ use Rattle.change_set.proofs.Sizes.{length-apply}
 use Rattle.collab.specs.declared.update.Update.{Update}
 use Rattle.collab.specs.Updates.{applied, LeadOn, AllBear, CountOn}
 use Rattle.collab.specs.Lengths.{lengths_after, lengths_with, too_long}
-use Rattle.collab.specs.Clients.{ClientView, CanReceive, IsClient, IsFirst, all_mapped, client_lengths, document, joined, local_update, pending_after, taken, taking_refusal, with_local}
+use Rattle.collab.specs.Clients.{CanReceive, ClientView, IsClient, IsFirst, client_lengths, crossed, document, joined, local_update, pending_after, taken, taking_refusal, with_local}
 use Rattle.collab.specs.Views.{at_version}
 use Rattle.collab.proofs.Names.{same_name, numbers, numbers-append, numbers-length, bear-append, count-append}
 use Rattle.collab.proofs.Texts.{sizes, applied-append, leads-append, lengths-append, lengths-sizes, none-append, rest-within, within}
@@ -19,10 +19,10 @@ with_pending c u us =
     record { name = c.name; version = suc c.version; made = c.made; confirmed = apply u.changes c.confirmed; pending = us }
 
 pub own_pending : (c : ClientView) (u : Update) → bytes_eq c.name u.client ≡ true → pending_after c u ≡ drop 1 c.pending
-own_pending c u e = ap (λ b. cond b (drop 1 c.pending) (all_mapped u.changes c.pending)) e
+own_pending c u e = ap (λ b. cond b (drop 1 c.pending) (crossed u.changes c.pending).updates) e
 
-pub other_pending : (c : ClientView) (u : Update) → bytes_eq c.name u.client ≡ false → pending_after c u ≡ all_mapped u.changes c.pending
-other_pending c u e = ap (λ b. cond b (drop 1 c.pending) (all_mapped u.changes c.pending)) e
+pub other_pending : (c : ClientView) (u : Update) → bytes_eq c.name u.client ≡ false → pending_after c u ≡ (crossed u.changes c.pending).updates
+other_pending c u e = ap (λ b. cond b (drop 1 c.pending) (crossed u.changes c.pending).updates) e
 
 -- the first unconfirmed update is confirmed
 pub confirmed-client : (c : ClientView) (u : Update) (rest : List Update) → c.pending ≡ u ∷ rest → IsClient c → IsClient (with_pending c u rest)
@@ -43,11 +43,11 @@ confirmed-client c u rest e h =
 
 -- all unconfirmed updates are mapped over it
 pub crossed-client : (c : ClientView) (u : Update) → old_size u.changes ≡ length c.confirmed → IsClient c →
-    too_long (client_lengths (with_pending c u (all_mapped u.changes c.pending))) ≡ None → IsClient (with_pending c u (all_mapped u.changes c.pending))
+    too_long (client_lengths (with_pending c u (crossed u.changes c.pending).updates)) ≡ None → IsClient (with_pending c u (crossed u.changes c.pending).updates)
 crossed-client c u s h k =
     record {
       leads =
-          subst (λ n. LeadOn n (all_mapped u.changes c.pending)) (sym (length-apply u.changes c.confirmed s))
+          subst (λ n. LeadOn n (crossed u.changes c.pending).updates) (sym (length-apply u.changes c.confirmed s))
           (crossed-leads c.pending u.changes (subst (λ n. LeadOn n c.pending) (sym s) h.leads));
       short = k;
       bear = mapped-bear c.name c.pending u.changes h.bear;
@@ -69,9 +69,9 @@ confirmed_is c u v s us h p e f g =
 
 pub crossed_is : (c : ClientView) (u : Update) (v : ℕ) (s : List ℕ) (us : List Update) → IsClient c → bytes_eq c.name u.client ≡ false →
     old_size u.changes ≡ length c.confirmed → too_long (client_lengths (taken c u)) ≡ None →
-    v ≡ suc c.version → s ≡ apply u.changes c.confirmed → us ≡ all_mapped u.changes c.pending → IsClient (at_version c v s us)
+    v ≡ suc c.version → s ≡ apply u.changes c.confirmed → us ≡ (crossed u.changes c.pending).updates → IsClient (at_version c v s us)
 crossed_is c u v s us h o d k e f g =
-    subst IsClient (sym (same_client c v (suc c.version) s (apply u.changes c.confirmed) us (all_mapped u.changes c.pending) e f g))
+    subst IsClient (sym (same_client c v (suc c.version) s (apply u.changes c.confirmed) us (crossed u.changes c.pending).updates e f g))
     (crossed-client c u d h (subst (λ ps. too_long (client_lengths (with_pending c u ps)) ≡ None) (other_pending c u o) k))
 
 -- a client that took an update is one
@@ -79,8 +79,8 @@ pub taken-client : (c : ClientView) (u : Update) → IsClient c → old_size u.c
     too_long (client_lengths (taken c u)) ≡ None → IsClient (taken c u)
 taken-client c u h s f k = cases (bytes_eq c.name u.client) refl k
   where
-    cases : (b : Bool) → bytes_eq c.name u.client ≡ b → too_long (client_lengths (with_pending c u (cond b (drop 1 c.pending) (all_mapped u.changes c.pending)))) ≡ None →
-        IsClient (with_pending c u (cond b (drop 1 c.pending) (all_mapped u.changes c.pending)))
+    cases : (b : Bool) → bytes_eq c.name u.client ≡ b → too_long (client_lengths (with_pending c u (cond b (drop 1 c.pending) (crossed u.changes c.pending).updates))) ≡ None →
+        IsClient (with_pending c u (cond b (drop 1 c.pending) (crossed u.changes c.pending).updates))
     cases true e m =
         let p : IsFirst u c.pending = f (same_name c.name u.client e) in
         subst (λ us. IsClient (with_pending c u us)) (sym (ap (drop 1) p.1)) (confirmed-client c u p.0 p.1 h)
@@ -138,14 +138,14 @@ refusal-next c u us h = ap (λ o. option_or o (taking_refusal (taken c u) us)) h
 
 -- the lengths after an update of another, by the lengths of the sets
 pub crossed-lengths : (c : ClientView) (u : Update) → bytes_eq c.name u.client ≡ false → old_size u.changes ≡ length c.confirmed → IsClient c →
-    client_lengths (taken c u) ≡ new_size spelled u.changes ∷ sizes (all_mapped u.changes c.pending)
+    client_lengths (taken c u) ≡ new_size spelled u.changes ∷ sizes (crossed u.changes c.pending).updates
 crossed-lengths c u o d h =
     let e : length (apply u.changes c.confirmed) ≡ new_size spelled u.changes = length-apply u.changes c.confirmed d in
-    let leads : LeadOn (length (apply u.changes c.confirmed)) (all_mapped u.changes c.pending) =
-    subst (λ n. LeadOn n (all_mapped u.changes c.pending)) (sym e) (crossed-leads c.pending u.changes (subst (λ n. LeadOn n c.pending) (sym d) h.leads)) in
+    let leads : LeadOn (length (apply u.changes c.confirmed)) (crossed u.changes c.pending).updates =
+    subst (λ n. LeadOn n (crossed u.changes c.pending).updates) (sym e) (crossed-leads c.pending u.changes (subst (λ n. LeadOn n c.pending) (sym d) h.leads)) in
     ap (λ ps. client_lengths (with_pending c u ps)) (other_pending c u o) ∙
-    (ap (λ n. n ∷ lengths_after (apply u.changes c.confirmed) (all_mapped u.changes c.pending)) e ∙
-    ap (λ ns. new_size spelled u.changes ∷ ns) (lengths-sizes (all_mapped u.changes c.pending) (apply u.changes c.confirmed) leads))
+    (ap (λ n. n ∷ lengths_after (apply u.changes c.confirmed) (crossed u.changes c.pending).updates) e ∙
+    ap (λ ns. new_size spelled u.changes ∷ ns) (lengths-sizes (crossed u.changes c.pending).updates (apply u.changes c.confirmed) leads))
 
 -- a client without updates
 pub joined-client : (name text : List ℕ) → length text ≤ max_len → IsClient (joined name text)

@@ -5,17 +5,17 @@ use Rattle.change_desc.specs.Sections.{Sections}
 use Rattle.collab.specs.declared.message.Message.{Message}
 use Rattle.collab.specs.declared.message.Message.TheVariants.{Push, Updates}
 use Rattle.collab.specs.declared.update.Update.{Update}
-use Rattle.collab.specs.Updates.{applied}
+use Rattle.collab.specs.Updates.{applied, AllBear}
 use Rattle.collab.specs.Lengths.{lengths_after, too_long}
 use Rattle.collab.specs.Authorities.{AuthorityView, CanTake, IsAuthority, latest, opened, pushed, text_at, update_count}
 use Rattle.collab.specs.Clients.{ClientView, IsLocal, joined, received, taking_refusal, unseen, with_local}
-use Rattle.collab.specs.Worlds.{AreDistinct, WorldView, begun, changed_at, with_authority, with_clients, with_message}
+use Rattle.collab.specs.Worlds.{AreDistinct, ComeFrom, IsClientName, WorldView, begun, changed_at, with_authority, with_clients, with_message}
 use Rattle.collab.specs.Invariants.{HasSender, IsPart, IsWorld, KeepsTo, Sent, WasSent}
 use Rattle.collab.specs.Converging.{Converges}
 use Rattle.collab.specs.Stepping.{push_of, published}
 use Rattle.collab.proofs.Names.{same_name, other_name}
 use Rattle.collab.proofs.Texts.{pushed-authority, within}
-use Rattle.collab.proofs.Keeping.{can-take, keeps-joined, keeps-local, keeps-others, keeps-own, keeps-received, part-published, part-pushed, received-name, sent-local, sent-now, sent-received}
+use Rattle.collab.proofs.Keeping.{can-take, keeps-count, keeps-joined, keeps-local, keeps-others, keeps-own, keeps-received, part-published, part-pushed, received-name, sent-local, sent-now, sent-received}
 
 -- a client that takes the place of another
 pub record Follows (a : AuthorityView) (c d : ClientView) : Type 0 where
@@ -62,6 +62,19 @@ names-stay i f [] n = refl
 names-stay zero f (x ∷ cs) n = ap (λ y. y ∷ map (λ (c : ClientView). c.name) cs) (n x)
 names-stay (suc i) f (x ∷ cs) n = ap (λ ys. x.name ∷ ys) (names-stay i f cs n)
 
+-- updates that bear names of clients
+come-on : (cs ds : List ClientView) → ((name : List ℕ) → IsClientName cs name → IsClientName ds name) → (us : List Update) → ComeFrom cs us → ComeFrom ds us
+come-on cs ds f [] h = tt
+come-on cs ds f (u ∷ us) h = (f u.client h.0, come-on cs ds f us h.1)
+
+come-append : (cs : List ClientView) (us vs : List Update) → ComeFrom cs us → ComeFrom cs vs → ComeFrom cs (us ++ vs)
+come-append cs [] vs h k = k
+come-append cs (u ∷ us) vs h k = (h.0, come-append cs us vs h.1 k)
+
+come-bear : (cs : List ClientView) (name : List ℕ) (us : List Update) → IsClientName cs name → AllBear name us → ComeFrom cs us
+come-bear cs name [] k h = tt
+come-bear cs name (u ∷ us) k h = (subst (IsClientName cs) (sym h.0) k, come-bear cs name us k h.1)
+
 -- a client changes
 pub client-kept : (w : WorldView) (i : ℕ) (f : ClientView → ClientView) → IsWorld w → ((c : ClientView) → (f c).name ≡ c.name) →
     ((c : ClientView) → slice_get w.clients i ≡ Some c → Follows w.authority c (f c)) → IsWorld (with_clients (changed_at i f w.clients) w)
@@ -70,10 +83,16 @@ client-kept w i f h n r =
       authority = h.authority;
       clients = λ j d e. (let b : Before w.authority w.clients j d = before w.authority i f w.clients j d r e in b.follows.keeps (h.clients j b.client b.at));
       names = subst AreDistinct (sym (names-stay i f w.clients n)) h.names;
+      senders = come-on w.clients (changed_at i f w.clients) named w.authority.updates h.senders;
       messages = λ j m e. (message m (h.messages j m e));
       few = h.few;
     }
   where
+    named : (name : List ℕ) → IsClientName w.clients name → IsClientName (changed_at i f w.clients) name
+    named name s =
+        let b : After w.authority (changed_at i f w.clients) s.place s.client = after w.authority i f w.clients s.place s.client r s.at in
+        record { place = s.place; client = b.client; at = b.at; same = b.follows.same ∙ s.same }
+
     message : (m : Message) → WasSent w m → WasSent (with_clients (changed_at i f w.clients) w) m
     message (Push name v us) s =
         let b : After w.authority (changed_at i f w.clients) s.place s.client = after w.authority i f w.clients s.place s.client r s.at in
@@ -106,6 +125,7 @@ message-kept w m h s f =
       authority = h.authority;
       clients = h.clients;
       names = h.names;
+      senders = h.senders;
       messages = λ j n e. same n (last-message w.messages m n j (WasSent w) h.messages s e);
       few = omega (arith, length-append w.messages (m ∷ []), f);
     }
@@ -134,6 +154,9 @@ push-kept w name v us h s e k f =
       authority = pushed-authority w.authority s.client.name us h.authority takes k (subst (λ n. n + length us < 2 ^ 32) e f);
       clients = λ j c d. client j c d (bytes_eq c.name s.client.name) refl;
       names = h.names;
+      senders =
+          come-append w.clients w.authority.updates us h.senders
+          (come-bear w.clients s.client.name us (record { place = s.place; client = s.client; at = s.at; same = refl }) takes.bear);
       messages = λ j m d. message m (h.messages j m d);
       few = h.few;
     }
@@ -170,6 +193,7 @@ begun-kept text names h d =
       authority = record { leads = tt; short = within (length text) [] h; numbers = λ n. tt; few = omega arith };
       clients = λ j c e. (let p : (name : List ℕ) × (joined name text ≡ c) = begun-client text names j c e in subst (KeepsTo (opened text)) p.1 (keeps-joined p.0 text h));
       names = subst AreDistinct (sym (joined-names text names)) d;
+      senders = tt;
       messages = λ j m e. cc;
       few = omega arith;
     }
@@ -185,9 +209,12 @@ begun_is text names a cs ms h d e f g =
 pub converges : (w : WorldView) → IsWorld w → Converges w
 converges w h =
     record {
+      seen = λ i c e. (h.clients i c e).seen;
       texts = λ i c e n. ap (λ us. applied us c.confirmed) n ∙ (h.clients i c e).confirmed;
       kept = λ i c e. ap (applied c.pending) (h.clients i c e).confirmed;
       updates = h.authority.numbers;
+      senders = h.senders;
+      counts = λ i c e. keeps-count w.authority c (h.clients i c e);
       alike = λ i j c d e f n m v.
           ap (λ us. applied us c.confirmed) n ∙ ((h.clients i c e).confirmed ∙ (ap (text_at w.authority) v ∙ (sym (h.clients j d f).confirmed ∙ sym (ap (λ us. applied us d.confirmed) m))));
     }

@@ -45,27 +45,25 @@ unfoldable pub set_before : (taken own : Sections) → Sections
 set_before taken own = map_over spelled taken (lengths spelled own) true
 
 -- an unconfirmed update over what the authority took
-abbrev pub mapped_over : Sections → Update → Update
-mapped_over u c = record { client = c.client; number = c.number; changes = set_over u c.changes }
+abbrev pub update_over : Sections → Update → Update
+update_over taken c = record { client = c.client; number = c.number; changes = set_over taken c.changes }
 
--- what the authority took, over an unconfirmed update
-abbrev pub going_on : Sections → Update → Sections
-going_on u c = set_before u c.changes
+-- unconfirmed updates over what the authority took before them, and what it took over all of them
+pub record Crossed : Type 0 where
+  pub updates : List Update
+  pub taken : Sections
 
--- unconfirmed updates over one that the authority took: each in turn is mapped over it, and it goes on over each
-abbrev pub all_mapped : Sections → List Update → List Update
-all_mapped u [] = []
-all_mapped u (c ∷ cs) = mapped_over u c ∷ all_mapped (going_on u c) cs
-
--- what the authority took, over all unconfirmed updates
-abbrev pub gone_on : Sections → List Update → Sections
-gone_on u [] = u
-gone_on u (c ∷ cs) = gone_on (going_on u c) cs
+-- each unconfirmed update in turn is mapped over what the authority took, which goes on over that update
+abbrev pub crossed : Sections → List Update → Crossed
+crossed taken [] = record { updates = []; taken = taken }
+crossed taken (c ∷ cs) =
+    let rest : Crossed = crossed (set_before taken c.changes) cs in
+    record { updates = update_over taken c ∷ rest.updates; taken = rest.taken }
 
 -- the client's unconfirmed updates after one that the authority took: where that bears the client's name the first one is
 -- confirmed, else all are mapped over it
 abbrev pub pending_after : ClientView → Update → List Update
-pending_after c u = cond (bytes_eq c.name u.client) (drop 1 c.pending) (all_mapped u.changes c.pending)
+pending_after c u = cond (bytes_eq c.name u.client) (drop 1 c.pending) (crossed u.changes c.pending).updates
 
 -- Taken: the client after the authority's update at its version.
 abbrev pub taken : ClientView → Update → ClientView

@@ -6,7 +6,7 @@ use Rattle.collab.specs.declared.update.Update.{Update}
 use Rattle.collab.specs.Updates.{numbers_of}
 use Rattle.collab.specs.Authorities.{AuthorityView, IsAuthority, update_count, text_at, slice_of}
 use Rattle.collab.specs.Clients.{ClientView, IsClient, Confirms}
-use Rattle.collab.specs.Worlds.{WorldView, AreDistinct}
+use Rattle.collab.specs.Worlds.{WorldView, AreDistinct, ComeFrom}
 
 -- A client keeps to an authority: it has seen its first updates, among these are the client's own that it counts as confirmed,
 -- and those still to come in its name are its first unconfirmed ones.
@@ -45,5 +45,6 @@ pub record IsWorld (w : WorldView) : Type 0 where
   pub authority : IsAuthority w.authority
   pub clients : (i : ℕ) (c : ClientView) → slice_get w.clients i ≡ Some c → KeepsTo w.authority c
   pub names : AreDistinct (map (λ c. c.name) w.clients)
+  pub senders : ComeFrom w.clients w.authority.updates
   pub messages : (i : ℕ) (m : Message) → slice_get w.messages i ≡ Some m → WasSent w m
   pub few : length w.messages < 2 ^ 32

@@ -15,5 +15,6 @@ pub mod Clients
 pub mod Views
 pub mod Worlds
 pub mod Stepping
+pub mod Conditions
 pub mod Invariants
 pub mod Converging

@@ -1,5 +1,5 @@
 -- What an event does to a world.
-use Rattle.std.specs.Prelude.{◌≡◌, ℕ, ◌+◌, ◌<◌, ◌≤◌, ◌^◌, Bool, true, false, List, length, Option, Some, None, slice_get, option_map, option_and_then}
+use Rattle.std.specs.Prelude.{ℕ, Bool, true, false, List, length, Option, Some, None, slice_get, option_map, option_and_then}
 use Rattle.line_tree.specs.Text.{max_len}
 use Rattle.change_desc.specs.Sections.{Sections, spelled}
 use Rattle.change_desc.specs.Of.{of}
@@ -12,7 +12,7 @@ use Rattle.collab.specs.declared.event.Event.TheVariants.{Local, Send, Publish, 
 use Rattle.collab.specs.declared.message.Message.{Message}
 use Rattle.collab.specs.declared.message.Message.TheVariants.{Push, Updates}
 use Rattle.collab.specs.declared.update.Update.{Update}
-use Rattle.collab.specs.Authorities.{AuthorityView, update_count, slice_of, push_refusal, pushed}
+use Rattle.collab.specs.Authorities.{AuthorityView, slice_of, push_refusal, pushed}
 use Rattle.collab.specs.Clients.{ClientView, document, with_local, receive_refusal, received}
 use Rattle.collab.specs.Errors.{of_changes_error}
 use Rattle.collab.specs.Worlds.{WorldView, changed_at, with_clients, with_authority, with_message}
@@ -36,9 +36,9 @@ push_of c = Push c.name c.version c.pending
 abbrev pub published : (from to : ℕ) → AuthorityView → Message
 published from to a = Updates from (slice_of from to a.updates)
 
-abbrev pub sent : Option ClientView → WorldView → WorldView
-sent None w = w
-sent (Some c) w = with_message (push_of c) w
+abbrev pub with_push : Option ClientView → WorldView → WorldView
+with_push None w = w
+with_push (Some c) w = with_message (push_of c) w
 
 -- the clients after updates come to the one that is named, if one is
 abbrev pub received_by : Option ℕ → (from : ℕ) → List Update → List ClientView → List ClientView
@@ -48,15 +48,6 @@ received_by (Some i) from updates clients = changed_at i (λ c. received c from 
 abbrev pub receiving_refusal : Option ℕ → (from : ℕ) → List Update → List ClientView → Option CollabError
 receiving_refusal None from updates clients = None
 receiving_refusal (Some i) from updates clients = option_and_then (λ c. receive_refusal c from updates) (slice_get clients i)
-
--- a client after local changes, and after a message that has updates came to it
-abbrev pub changed_client : List Change → Option ClientView → Option ClientView
-changed_client changes c = option_map (after_local changes) c
-
-abbrev pub received_client : Option Message → Option ClientView → Option ClientView
-received_client None c = None
-received_client (Some (Push name version updates)) c = None
-received_client (Some (Updates from updates)) c = option_map (λ x. received x from updates) c
 
 -- the world after a delivery: a Push comes to the authority, and Updates come to the client that is named, if one is
 abbrev pub delivered : Option Message → Option ℕ → WorldView → WorldView
@@ -78,7 +69,7 @@ is_push (Some (Updates from updates)) = false
 -- STEPPED: the world after an event that isn't refused.
 abbrev pub stepped : WorldView → Event → WorldView
 stepped w (Local i changes) = with_clients (changed_at i (after_local changes) w.clients) w
-stepped w (Send i) = sent (slice_get w.clients i) w
+stepped w (Send i) = with_push (slice_get w.clients i) w
 stepped w (Publish from to) = with_message (published from to w.authority) w
 stepped w (Deliver m to) = delivered (slice_get w.messages m) to w
 
@@ -88,38 +79,3 @@ step_refusal w (Local i changes) = option_and_then (local_refusal changes) (slic
 step_refusal w (Send i) = None
 step_refusal w (Publish from to) = None
 step_refusal w (Deliver m to) = delivery_refusal (slice_get w.messages m) to w
-
--- the client that a message is delivered to, if one is named, exists
-abbrev pub Exists : Option ℕ → List ClientView → Type 0
-Exists None clients = Unit {0}
-Exists (Some i) clients = i < length clients
-
--- The client and the message of an event exist, and what it publishes is of the authority's list.
-abbrev pub IsEventOf : WorldView → Event → Type 0
-IsEventOf w (Local i changes) = i < length w.clients
-IsEventOf w (Send i) = i < length w.clients
-IsEventOf w (Publish from to) = (from ≤ to) × (to ≤ update_count w.authority)
-IsEventOf w (Deliver m to) = (m < length w.messages) × Exists to w.clients
-
--- a client that makes a local change made fewer than can be counted
-abbrev pub HasNumber : Option ClientView → Type 0
-HasNumber None = Unit {0}
-HasNumber (Some c) = c.made + 1 < 2 ^ 32
-
--- the authority takes no more updates of a message than can be counted
-abbrev pub HasPlaces : Option Message → WorldView → Type 0
-HasPlaces None w = Unit {0}
-HasPlaces (Some (Push name v updates)) w = v ≡ update_count w.authority → v + length updates < 2 ^ 32
-HasPlaces (Some (Updates from updates)) w = Unit {0}
-
--- There are still fewer than 2 ^ 32 updates, messages and local changes of each client after an event.
-abbrev pub HasRoom : WorldView → Event → Type 0
-HasRoom w (Local i changes) = HasNumber (slice_get w.clients i)
-HasRoom w (Send i) = length w.messages + 1 < 2 ^ 32
-HasRoom w (Publish from to) = length w.messages + 1 < 2 ^ 32
-HasRoom w (Deliver m to) = HasPlaces (slice_get w.messages m) w
-
--- what is asked of an event
-pub record CanHappen (w : WorldView) (e : Event) : Type 0 where
-  pub is_of : IsEventOf w e
-  pub room : HasRoom w e

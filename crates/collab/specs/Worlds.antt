@@ -3,6 +3,7 @@ use Rattle.std.specs.Prelude.{◌≡◌, ℕ, zero, suc, cond, List, [], ◌∷�
 use Rattle.std.specs.List.{list_any}
 use Rattle.std.specs.Str.{bytes_eq}
 use Rattle.collab.specs.declared.message.Message.{Message}
+use Rattle.collab.specs.declared.update.Update.{Update}
 use Rattle.collab.specs.Authorities.{AuthorityView, opened}
 use Rattle.collab.specs.Clients.{ClientView, joined}
 
@@ -18,6 +19,18 @@ begun text names = record { authority = opened text; clients = map (λ name. joi
 -- no name stands twice
 abbrev pub AreDistinct : List (List ℕ) → Type 0
 AreDistinct names = (i j : ℕ) (name : List ℕ) → slice_get names i ≡ Some name → slice_get names j ≡ Some name → i ≡ j
+
+-- a name is one of the clients'
+pub record IsClientName (clients : List ClientView) (name : List ℕ) : Type 0 where
+  pub place : ℕ
+  pub client : ClientView
+  pub at : slice_get clients place ≡ Some client
+  pub same : client.name ≡ name
+
+-- each update bears the name of one of the clients
+abbrev pub ComeFrom : List ClientView → List Update → Type 0
+ComeFrom clients [] = Unit {0}
+ComeFrom clients (u ∷ us) = IsClientName clients u.client × ComeFrom clients us
 
 -- of names after others, the first that stands among those before it
 abbrev pub taken_name : (others : List (List ℕ)) → List (List ℕ) → Option (List ℕ)

@@ -1,4 +1,4 @@
-ghost use Rattle.std.specs.Prelude.{◌≡◌, ◌≢◌, ◌+◌, ◌<◌, ◌≤◌, ◌^◌, suc, true, false, length, IfOk, IfErr, OnOk, OnErr, Some, None};
+ghost use Rattle.std.specs.Prelude.{◌≡◌, ◌≢◌, ◌∷◌, ◌+◌, ◌<◌, ◌≤◌, ◌^◌, suc, true, false, length, IfOk, IfErr, OnOk, OnErr, Some, None};
 ghost use Rattle.std.specs.Str.{bytes_eq};
 ghost use Rattle.line_tree.specs.Text.{max_len};
 ghost use Rattle.change_desc.specs.Sections.{spelled, old_size, new_size};
@@ -7,7 +7,7 @@ ghost use Rattle.change_set.specs.declared.error.ChangesError.TheVariants as cha
 ghost use Rattle.collab.specs.declared.error.CollabError.TheVariants.{NoMemory};
 ghost use Rattle.collab.specs.Lengths.{too_long};
 ghost use Rattle.collab.specs.Updates.{applied};
-ghost use Rattle.collab.specs.Clients.{CanReceive, IsClient, IsFirst, IsLocal, all_mapped, all_taken, client_lengths, document, gone_on, joined, receive_refusal, received, taken, taking_refusal, unseen, with_local};
+ghost use Rattle.collab.specs.Clients.{CanReceive, IsClient, IsFirst, IsLocal, all_taken, client_lengths, crossed, document, joined, receive_refusal, received, taken, taking_refusal, unseen, with_local};
 ghost use Rattle.collab.specs.Stepping.{after_local, local_set, push_of};
 ghost use Rattle.collab.specs.Views.{at_version};
 
@@ -15,7 +15,7 @@ use crate::crossing::{AllCrossed, all_crossed};
 use crate::error::CollabError;
 use crate::lengths::long;
 use crate::message::Message;
-use crate::update::{Update, copies, is_same, rest};
+use crate::update::{Update, copies, is_same};
 use change_set::{Change, ChangeSet, ChangesError};
 use cm_plain::Str;
 use line_tree::{MAX_LEN, Text};
@@ -133,31 +133,6 @@ impl Client {
         Ok(())
     }
 
-    /// This client as local changes would leave it; it stays as it is. `Err`: as for `local`.
-    pub fn changed(&self, changes: &[Change]) -> Result<Client, ChangesError>
-        requires { self.now.made + 1 < 2 ^ 32 }
-        ensures value { IfOk result (λ c. c ≡ after_local changes.now self.now) }
-        ensures accepted { OnOk result (refusal (length (document self.now)) max_len changes.now ≡ None) }
-        ensures refused { IfErr result (λ e. e ≢ changes_error.NoMemory → refusal (length (document self.now)) max_len changes.now ≡ Some e) }
-    {
-        let mut next = self.try_copy()?;
-        next.local(changes)?;
-        Ok(next)
-    }
-
-    /// This client as the authority's updates from a position of its list on would leave it; it stays as it is. `Err`: as for
-    /// `receive`.
-    pub fn received(&self, from: u32, updates: &[Update]) -> Result<Client, CollabError>
-        requires { from ≤ self.now.version → CanReceive self.now (unseen self.now from updates.now) }
-        ensures value { IfOk result (λ c. c ≡ received self.now from updates.now) }
-        ensures accepted { OnOk result (receive_refusal self.now from updates.now ≡ None) }
-        ensures refused { IfErr result (λ e. e ≢ NoMemory → receive_refusal self.now from updates.now ≡ Some e) }
-    {
-        let mut next = self.try_copy()?;
-        next.receive(from, updates)?;
-        Ok(next)
-    }
-
     /// Receives the authority's updates from a position of its list on; those that it has seen are passed over. `Err`: they begin
     /// past its version; or else a text would be too long, with the first such length; or out of memory. After an error nothing
     /// has changed.
@@ -235,18 +210,20 @@ impl Client {
         })
     }
 
-    /// This client after its first unconfirmed update was confirmed.
-    fn confirming(&self, update: &Update) -> Result<Client, AllocError>
-        requires own { bytes_eq self.now.name update.now.client ≡ true }
-        requires first { IsFirst update.now self.now.pending }
-        requires starts { old_size update.now.changes ≡ length self.now.confirmed }
-        requires few { self.now.version + 1 < 2 ^ 32 }
-        ensures taken { IfOk result (λ c. c ≡ taken self.now update.now) }
+    /// Its first unconfirmed update was confirmed.
+    fn confirm(&mut self, update: &Update) -> Result<(), AllocError>
+        requires own { bytes_eq self.old.name update.now.client ≡ true }
+        requires first { IsFirst update.now self.old.pending }
+        requires starts { old_size update.now.changes ≡ length self.old.confirmed }
+        requires few { self.old.version + 1 < 2 ^ 32 }
+        ensures taken { OnOk result (self.new ≡ taken self.old update.now) }
+        ensures err { OnErr result (self.new ≡ self.old) }
     {
         let confirmed = update.changes.apply(&self.confirmed)?;
-        let pending = copies(*self.pending.allocator(), rest(self.pending.as_slice()))?;
-        let doc = self.doc.try_copy()?;
-        self.with(self.version + 1, confirmed, pending, doc)
+        self.pending.remove(0);
+        self.version += 1;
+        self.confirmed = confirmed;
+        Ok(())
     }
 
     /// This client over an update that the authority took before its own, which are mapped over it.
@@ -254,8 +231,8 @@ impl Client {
         requires other { bytes_eq self.now.name update.now.client ≡ false }
         requires starts { old_size update.now.changes ≡ length self.now.confirmed }
         requires few { self.now.version + 1 < 2 ^ 32 }
-        requires updates { all.updates.items ≡ all_mapped update.now.changes self.now.pending }
-        requires taken { all.taken ≡ gone_on update.now.changes self.now.pending }
+        requires updates { all.updates.items ≡ (crossed update.now.changes self.now.pending).updates }
+        requires taken { all.taken ≡ (crossed update.now.changes self.now.pending).taken }
         requires short { too_long (client_lengths (taken self.now update.now)) ≡ None }
         ensures taken { IfOk result (λ c. c ≡ taken self.now update.now) }
     {
@@ -281,6 +258,26 @@ impl Client {
         Ok(self.over(update, all)?)
     }
 
+    /// Takes one more of the authority's updates. `Err`: the first text that is too long; or out of memory. After an error nothing
+    /// has changed.
+    fn take(&mut self, update: &Update) -> Result<(), CollabError>
+        requires starts { old_size update.now.changes ≡ length self.old.confirmed }
+        requires confirms { self.old.name ≡ update.now.client → IsFirst update.now self.old.pending }
+        requires few { self.old.version + 1 < 2 ^ 32 }
+        ensures taken { OnOk result (self.new ≡ taken self.old update.now) }
+        ensures short { OnOk result (too_long (client_lengths (taken self.old update.now)) ≡ None) }
+        ensures err { OnErr result (self.new ≡ self.old) }
+        ensures refused { IfErr result (λ e. e ≢ NoMemory → too_long (client_lengths (taken self.old update.now)) ≡ Some e) }
+    {
+        if is_same(&self.name, &update.client) {
+            self.confirm(update)?;
+            return Ok(());
+        }
+        let next = self.crossing(update)?;
+        *self = next;
+        Ok(())
+    }
+
     /// This client after one more of the authority's updates. `Err`: the first text that is too long; or out of memory.
     fn after(&self, update: &Update) -> Result<Client, CollabError>
         requires starts { old_size update.now.changes ≡ length self.now.confirmed }
@@ -291,10 +288,23 @@ impl Client {
         ensures refused { IfErr result (λ e. e ≢ NoMemory → too_long (client_lengths (taken self.now update.now)) ≡ Some e) }
     {
         if is_same(&self.name, &update.client) {
-            Ok(self.confirming(update)?)
+            Ok(self.confirmed(update)?)
         } else {
             self.crossing(update)
         }
+    }
+
+    /// This client once more, after its first unconfirmed update was confirmed.
+    fn confirmed(&self, update: &Update) -> Result<Client, AllocError>
+        requires own { bytes_eq self.now.name update.now.client ≡ true }
+        requires first { IsFirst update.now self.now.pending }
+        requires starts { old_size update.now.changes ≡ length self.now.confirmed }
+        requires few { self.now.version + 1 < 2 ^ 32 }
+        ensures taken { IfOk result (λ c. c ≡ taken self.now update.now) }
+    {
+        let mut next = self.try_copy()?;
+        next.confirm(update)?;
+        Ok(next)
     }
 
     /// This client after more of the authority's updates. `Err`: the first text that is too long; or out of memory.
@@ -304,10 +314,22 @@ impl Client {
         ensures short { IfOk result (λ c. taking_refusal self.now updates.now ≡ None) }
         ensures refused { IfErr result (λ e. e ≢ NoMemory → taking_refusal self.now updates.now ≡ Some e) }
     {
-        let mut client = self.try_copy()?;
-        for update in updates {
-            let next = client.after(update)?;
-            client = next;
+        match updates.split_first() {
+            None => Ok(self.try_copy()?),
+            Some((first, rest)) => self.after_some(first, rest),
+        }
+    }
+
+    /// This client after one more of the authority's updates and the rest. `Err`: as for `after_all`.
+    fn after_some(&self, first: &Update, rest: &[Update]) -> Result<Client, CollabError>
+        requires { CanReceive self.now (first.now ∷ rest.now) }
+        ensures taken { IfOk result (λ c. c ≡ all_taken self.now (first.now ∷ rest.now)) }
+        ensures short { IfOk result (λ c. taking_refusal self.now (first.now ∷ rest.now) ≡ None) }
+        ensures refused { IfErr result (λ e. e ≢ NoMemory → taking_refusal self.now (first.now ∷ rest.now) ≡ Some e) }
+    {
+        let mut client = self.after(first)?;
+        for update in rest {
+            client.take(update)?;
         }
         Ok(client)
     }

@@ -3,7 +3,8 @@ ghost use Rattle.line_tree.specs.Text.{max_len};
 ghost use Rattle.collab.specs.declared.error.CollabError.TheVariants.{NoMemory};
 ghost use Rattle.collab.specs.Clients.{CanReceive, ClientView, IsLocal, joined, receive_refusal, received, unseen};
 ghost use Rattle.collab.specs.Worlds.{changed_at};
-ghost use Rattle.collab.specs.Stepping.{Exists, HasNumber, after_local, local_refusal, local_set, received_by, receiving_refusal};
+ghost use Rattle.collab.specs.Conditions.{Exists, HasNumber};
+ghost use Rattle.collab.specs.Stepping.{after_local, local_refusal, local_set, received_by, receiving_refusal};
 
 use crate::client::Client;
 use crate::error::CollabError;

@@ -5,7 +5,7 @@ ghost use Rattle.change_desc.specs.Map.{map_over};
 ghost use Rattle.collab.specs.declared.error.CollabError.TheVariants.{NoMemory};
 ghost use Rattle.collab.specs.Updates.{LeadOn};
 ghost use Rattle.collab.specs.Lengths.{too_long};
-ghost use Rattle.collab.specs.Clients.{all_mapped, gone_on, going_on, mapped_over};
+ghost use Rattle.collab.specs.Clients.{crossed, set_before, update_over};
 
 use crate::error::CollabError;
 use crate::lengths::long;
@@ -40,8 +40,8 @@ fn crossing(
     requires own { own.now ≡ lengths spelled update.now.changes }
     requires others { others.now ≡ lengths spelled taken.now }
     requires short { new_size counted (map_over counted own.now others.now false) ≤ max_len }
-    ensures update { IfOk result (λ c. c.update ≡ mapped_over taken.now update.now) }
-    ensures taken { IfOk result (λ c. c.taken ≡ going_on taken.now update.now) }
+    ensures update { IfOk result (λ c. c.update ≡ update_over taken.now update.now) }
+    ensures taken { IfOk result (λ c. c.taken ≡ set_before taken.now update.now.changes) }
 {
     let changes = update.changes.map(others, false)?;
     let taken = taken.map(own, true)?;
@@ -59,10 +59,10 @@ fn crossing(
 /// or out of memory.
 fn cross(update: &Update, taken: &ChangeSet) -> Result<Crossed, CollabError>
     requires { old_size update.now.changes ≡ old_size taken.now }
-    ensures update { IfOk result (λ c. c.update ≡ mapped_over taken.now update.now) }
-    ensures taken { IfOk result (λ c. c.taken ≡ going_on taken.now update.now) }
-    ensures short { IfOk result (λ c. too_long (new_size spelled (mapped_over taken.now update.now).changes ∷ []) ≡ None) }
-    ensures refused { IfErr result (λ e. e ≢ NoMemory → too_long (new_size spelled (mapped_over taken.now update.now).changes ∷ []) ≡ Some e) }
+    ensures update { IfOk result (λ c. c.update ≡ update_over taken.now update.now) }
+    ensures taken { IfOk result (λ c. c.taken ≡ set_before taken.now update.now.changes) }
+    ensures short { IfOk result (λ c. too_long (new_size spelled (update_over taken.now update.now).changes ∷ []) ≡ None) }
+    ensures refused { IfErr result (λ e. e ≢ NoMemory → too_long (new_size spelled (update_over taken.now update.now).changes ∷ []) ≡ Some e) }
 {
     let own = update.changes.desc()?;
     let others = taken.desc()?;
@@ -80,10 +80,10 @@ pub(crate) fn all_crossed(
     taken: &ChangeSet,
 ) -> Result<AllCrossed, CollabError>
     requires { LeadOn (old_size taken.now) updates.now }
-    ensures updates { IfOk result (λ c. c.updates.items ≡ all_mapped taken.now updates.now) }
-    ensures taken { IfOk result (λ c. c.taken ≡ gone_on taken.now updates.now) }
-    ensures short { IfOk result (λ c. too_long (map (λ u. new_size spelled u.changes) (all_mapped taken.now updates.now)) ≡ None) }
-    ensures refused { IfErr result (λ e. e ≢ NoMemory → too_long (map (λ u. new_size spelled u.changes) (all_mapped taken.now updates.now)) ≡ Some e) }
+    ensures updates { IfOk result (λ c. c.updates.items ≡ (crossed taken.now updates.now).updates) }
+    ensures taken { IfOk result (λ c. c.taken ≡ (crossed taken.now updates.now).taken) }
+    ensures short { IfOk result (λ c. too_long (map (λ u. new_size spelled u.changes) (crossed taken.now updates.now).updates) ≡ None) }
+    ensures refused { IfErr result (λ e. e ≢ NoMemory → too_long (map (λ u. new_size spelled u.changes) (crossed taken.now updates.now).updates) ≡ Some e) }
 {
     let mut over = taken.try_copy()?;
     let mut mapped = Vec::new(alloc);

@@ -7,7 +7,7 @@ use thiserror::Error;
 
 /// Why an event of collaboration is refused. Positions and lengths are in characters, versions count updates, and indexes count
 /// from 0.
-#[derive(Debug, Drop, Error)]
+#[derive(Debug, PartialEq, Eq, Drop, Error)]
 pub enum CollabError {
     /// The local change with this index has a range that is reversed, or that ends past the client's text.
     #[error("change {index} has the range from {from} to {to} of a document of length {len}")]

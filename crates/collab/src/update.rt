@@ -1,4 +1,4 @@
-ghost use Rattle.std.specs.Prelude.{◌≡◌, ◌++◌, ◌∷◌, [], IfOk, OnOk, drop};
+ghost use Rattle.std.specs.Prelude.{◌≡◌, ◌++◌, ◌∷◌, [], IfOk, OnOk};
 ghost use Rattle.std.specs.Str.{bytes_eq};
 
 use change_set::ChangeSet;
@@ -55,16 +55,6 @@ pub(crate) fn copies(alloc: Global, updates: &[Update]) -> Result<Vec<Update>, A
     let mut all = Vec::new(alloc);
     extend(&mut all, updates)?;
     Ok(all)
-}
-
-/// All updates but the first.
-pub(crate) fn rest(updates: &[Update]) -> &[Update]
-    ensures { result.now ≡ drop 1 updates.now }
-{
-    match updates.split_first() {
-        None => updates,
-        Some((_, others)) => others,
-    }
 }
 
 /// Whether two names are the same.

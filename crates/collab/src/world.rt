@@ -2,7 +2,8 @@ ghost use Rattle.std.specs.Prelude.{◌≡◌, ◌≢◌, ◌+◌, ◌<◌, ◌�
 ghost use Rattle.line_tree.specs.Text.{max_len};
 ghost use Rattle.collab.specs.declared.error.CollabError.TheVariants.{NoMemory};
 ghost use Rattle.collab.specs.Worlds.{AreDistinct, begun, changed_at, with_clients, with_message};
-ghost use Rattle.collab.specs.Stepping.{CanHappen, Exists, HasNumber, HasPlaces, HasRoom, IsEventOf, after_local, changed_client, delivered, delivery_refusal, is_push, local_refusal, published, received_client, sent, step_refusal, stepped};
+ghost use Rattle.collab.specs.Conditions.{CanHappen, Exists, HasNumber, HasPlaces, HasRoom, IsEventOf};
+ghost use Rattle.collab.specs.Stepping.{after_local, delivered, delivery_refusal, is_push, local_refusal, published, step_refusal, stepped, with_push};
 ghost use Rattle.collab.specs.Authorities.{update_count};
 ghost use Rattle.collab.specs.Converging.{Converges};
 
@@ -43,6 +44,7 @@ impl World {
         requires short { length text.characters ≤ max_len }
         requires names { AreDistinct names.items }
         ensures value { IfOk result (λ w. w ≡ begun text.characters names.items) }
+        ensures converges { IfOk result (λ w. Converges w) }
     {
         let clients = joined(alloc, &text, names)?;
         let authority = Authority::new(alloc, text)?;
@@ -91,40 +93,6 @@ impl World {
         self.messages[message as usize].is_push()
     }
 
-    /// A client that exists as local changes would leave it; the world stays as it is. `Err`: as the event would be refused; or
-    /// out of memory.
-    pub fn changed(&self, client: u32, changes: &[Change]) -> Result<Client, CollabError>
-        requires exists { client < length self.now.clients }
-        requires room { HasNumber (slice_get self.now.clients client) }
-        ensures value { IfOk result (λ next. changed_client changes.now (slice_get self.now.clients client) ≡ Some next) }
-        ensures accepted { OnOk result (option_and_then (local_refusal changes.now) (slice_get self.now.clients client) ≡ None) }
-        ensures refused { IfErr result (λ e. e ≢ NoMemory → option_and_then (local_refusal changes.now) (slice_get self.now.clients client) ≡ Some e) }
-    {
-        Ok(self.clients[client as usize].changed(changes)?)
-    }
-
-    /// A client that exists as a message of updates would leave it; the world stays as it is. `Err`: as the delivery would be
-    /// refused; or out of memory.
-    pub fn received(&self, client: u32, message: u32) -> Result<Client, CollabError>
-        requires exists { client < length self.now.clients }
-        requires message { message < length self.now.messages }
-        requires updates { is_push (slice_get self.now.messages message) ≡ false }
-        ensures value { IfOk result (λ next. received_client (slice_get self.now.messages message) (slice_get self.now.clients client) ≡ Some next) }
-        ensures accepted { OnOk result (delivery_refusal (slice_get self.now.messages message) (Some client) self.now ≡ None) }
-        ensures refused { IfErr result (λ e. e ≢ NoMemory → delivery_refusal (slice_get self.now.messages message) (Some client) self.now ≡ Some e) }
-    {
-        match &self.messages[message as usize] {
-            Message::Push {
-                client: _,
-                version: _,
-                updates: _,
-            } => Err(CollabError::NoMemory),
-            Message::Updates { from, updates } => {
-                self.clients[client as usize].received(*from, updates.as_slice())
-            }
-        }
-    }
-
     /// Whether there are still fewer than 2 ^ 32 updates, messages and local changes of each client after an event. Takes no
     /// memory.
     pub fn has_room(&self, event: &Event) -> bool
@@ -163,6 +131,7 @@ impl World {
     fn converge(&self)
         ensures { Converges self.now }
     {
+        // For the proof alone: a field is named so that what the type keeps is at hand.
         let _ = &self.authority;
     }
 
@@ -218,7 +187,7 @@ impl World {
     fn send(&mut self, client: u32) -> Result<(), AllocError>
         requires exists { client < length self.old.clients }
         requires room { length self.old.messages + 1 < 2 ^ 32 }
-        ensures ok { OnOk result (self.new ≡ sent (slice_get self.old.clients client) self.old) }
+        ensures ok { OnOk result (self.new ≡ with_push (slice_get self.old.clients client) self.old) }
         ensures err { OnErr result (self.new ≡ self.old) }
     {
         let push = self.clients[client as usize].push_message()?;

@@ -1,7 +1,7 @@
 use Rattle.std.proofs.Common.{◌≡◌, ◌+◌, suc, length, sym, ap, subst, ◌∙◌, arith}
 use Rattle.change_desc.specs.Sections.{apply, old_size}
 use Rattle.collab.specs.Updates.{applied}
-use Rattle.collab.specs.Clients.{IsClient, document, gone_on}
+use Rattle.collab.specs.Clients.{IsClient, crossed, document}
 use Rattle.collab.proofs.Crossings.{crossed-texts, gone-old}
 use Rattle.collab.proofs.Taking.{crossed_is}
 use Rattle.collab.proofs.client.Client.over.Goals as goal
@@ -22,7 +22,7 @@ with-requires-clause-doc c =
     let f : c.in_ok-confirmed.confirmed.characters ≡ apply u now.confirmed = c.in_ok-confirmed.ensures ∙ ap (λ x. apply u x.confirmed) c.self.view_is in
     c.in_ok-doc.ensures ∙
     (ap (λ s. apply s c.self.inside.doc.characters) c.requires.taken ∙
-    (ap (apply (gone_on u now.pending)) d ∙
+    (ap (apply (crossed u now.pending).taken) d ∙
     (sym (crossed-texts now.pending u now.confirmed c.requires.starts h.leads) ∙
     (sym (ap (λ us. applied us (apply u now.confirmed)) c.requires.updates) ∙ sym (ap (applied c.args.all.updates.items) f)))))
 

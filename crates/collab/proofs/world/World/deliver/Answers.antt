@@ -2,7 +2,7 @@ use Rattle.std.proofs.Common.{◌≡◌, ◌<◌, Some, length, slice_get, sym, 
 use Rattle.std.proofs.lemmas.Result.{on_ok_weaker, MatchResult-weaker}
 use Rattle.collab.specs.declared.message.Message.TheVariants.{Push, Updates}
 use Rattle.collab.specs.Worlds.{WorldView}
-use Rattle.collab.specs.Stepping.{HasPlaces}
+use Rattle.collab.specs.Conditions.{HasPlaces}
 use Rattle.collab.specs.Invariants.{HasSender, IsPart}
 use Rattle.collab.proofs.Outcomes.{push-can, push-delivered, push-outcome, push-refused, read_item, updates-can, updates-delivered, updates-outcome, updates-refused}
 use Rattle.collab.proofs.world.World.deliver.Goals as goal

@@ -2,7 +2,7 @@ use Rattle.std.proofs.Common.{◌≡◌, ◌+◌, ◌<◌, ◌^◌, ◌++◌, �
 use Rattle.collab.specs.declared.message.Message.{Message}
 use Rattle.collab.specs.Clients.{ClientView}
 use Rattle.collab.specs.Worlds.{WorldView, with_message}
-use Rattle.collab.specs.Stepping.{push_of, sent}
+use Rattle.collab.specs.Stepping.{push_of, with_push}
 use Rattle.collab.specs.Invariants.{IsWorld}
 use Rattle.collab.proofs.Worlds.{message-kept, sends}
 use Rattle.collab.proofs.Outcomes.{read_item}
@@ -30,4 +30,4 @@ returns-clause-ok c =
     c.in_ok-push-2.ensures.items ∙ ap (λ m. w.messages ++ m ∷ []) c.in_ok-push.ensures in
     let made : record { authority = w.authority; clients = w.clients; messages = c.push.new.self.items } ≡ with_message (push_of x) w =
     ap (λ (ms : List Message). record { authority = w.authority; clients = w.clients; messages = ms }) items in
-    made ∙ (sym (ap (λ o. sent o w) at) ∙ ap (λ y. sent (slice_get y.clients c.args.client) y) c.self.view_is)
+    made ∙ (sym (ap (λ o. with_push o w) at) ∙ ap (λ y. with_push (slice_get y.clients c.args.client) y) c.self.view_is)
