@@ -1,0 +1,2 @@
+pub use Rattle.values.specs.Shipped
+pub mod Lawful

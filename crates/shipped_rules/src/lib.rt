@@ -1,0 +1,2 @@
+//! The shipped rules.
+#![tactic(auto)]
