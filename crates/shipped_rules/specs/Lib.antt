@@ -1,2 +1,3 @@
 pub use Rattle.values.specs.Shipped
 pub mod Lawful
+pub mod Greatest
