@@ -20,7 +20,7 @@ use Rattle.values.specs.declared.val.Val.TheVariants.{Plain, Ranges, Layers, His
 use Rattle.values.specs.Vals.{is_of, IsOf}
 use Rattle.values.specs.Views.{AreDeps, DepsView, IsInside, IsShort, IsTransaction, TransactionView}
 use Rattle.line_tree.specs.Text.{max_len}
-use Rattle.line_tree.specs.Lines.{line_texts, is_break}
+use Rattle.line_tree.specs.Lines.{line_texts, lines_of, numbered, is_break}
 use Rattle.selection.specs.declared.range.Range.{Range}
 use Rattle.selection.specs.Selections.{SelectionView, LieIn}
 use Rattle.std.specs.List.{onto_first}
@@ -208,9 +208,16 @@ split-le : (b : Bool) (x : ℕ) (ls : List (List ℕ)) (n : ℕ) → length ls �
 split-le true x ls n h k = omega (arith, h)
 split-le false x ls n h k = let e : length (onto_first x ls) ≤ n = onto-le x ls n h k in omega (arith, e)
 
-lines-le : (cs : List ℕ) → length (line_texts cs) ≤ length cs + 1
+pub lines-le : (cs : List ℕ) → length (line_texts cs) ≤ length cs + 1
 lines-le [] = omega arith
 lines-le (c ∷ cs) = let e : length (cond (is_break c) ([] ∷ line_texts cs) (onto_first c (line_texts cs))) ≤ length cs + 1 + 1 = split-le (is_break c) c (line_texts cs) (length cs + 1) (lines-le cs) (omega arith) in omega (arith, e)
+
+numbered-length : (n from : ℕ) (ls : List (List ℕ)) → length (numbered n from ls) ≡ length ls
+numbered-length n from [] = refl
+numbered-length n from (l ∷ ls) = let e : length (numbered (n + 1) (from + length l + 1) ls) ≡ length ls = numbered-length (n + 1) (from + length l + 1) ls in omega (arith, e)
+
+pub lines_of-length : (cs : List ℕ) → length (lines_of cs) ≡ length (line_texts cs)
+lines_of-length cs = numbered-length 1 0 (line_texts cs)
 
 lines-fit : (d : Option (List ℕ)) → IsShort d → IsOf any_int (length_or_zero (option_map (λ document. length (line_texts document)) d))
 lines-fit None h = refl

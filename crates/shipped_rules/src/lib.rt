@@ -5,6 +5,7 @@
 #![tactic(auto)]
 
 mod comparing;
+mod computing;
 mod creating;
 mod effect_mapping;
 mod extending;
@@ -15,6 +16,7 @@ mod shapes;
 mod shipped;
 
 pub use comparing::compare;
+pub use computing::compute;
 pub use creating::create;
 pub use effect_mapping::map_effect;
 pub use extending::extend;
