@@ -18,7 +18,12 @@ pub fn map_effect(
     ensures { IfOk result (λ mapped. mapped ≡ map_effect number value changes.now) }
 {
     match value {
-        Val::Plain(plain) => match mapped_value(alloc, KeptMap::of_number(number), &plain, changes)? {
+        Val::Plain(plain) => match mapped_value(
+            alloc,
+            KeptMap::of_number(number),
+            &plain,
+            changes,
+        )? {
             Some(mapped) => Ok(Some(Val::Plain(mapped))),
             None => Ok(None),
         },

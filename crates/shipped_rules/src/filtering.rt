@@ -101,7 +101,7 @@ fn greatest_item(items: &[Plain]) -> Option<i64>
 }
 
 /// The greater of a number found before, if there is one, and another.
-fn greater(found: Option<i64>, number: i64) -> i64
+pub(crate) fn greater(found: Option<i64>, number: i64) -> i64
     ensures { Some result ≡ greater_of found number }
 {
     match found {

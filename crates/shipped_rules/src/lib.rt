@@ -4,6 +4,7 @@
 //! may rely on its answer being the row of that number in the tables, or out of memory.
 #![tactic(auto)]
 
+mod combining;
 mod comparing;
 mod computing;
 mod creating;
@@ -15,6 +16,7 @@ mod reading;
 mod shapes;
 mod shipped;
 
+pub use combining::combine;
 pub use comparing::compare;
 pub use computing::compute;
 pub use creating::create;
