@@ -1,5 +1,6 @@
 pub mod Covering
 pub mod Gathering
+pub mod Ruled
 pub mod SameText
 pub mod Shades
 pub mod Walks

@@ -6,3 +6,4 @@ pub mod Items
 pub mod ItemOrder
 pub mod Pieces
 pub mod Blocks
+pub mod Rules

@@ -1,4 +1,4 @@
--- The pieces of a block.
+-- A block, its clusters, and what is shown of it item by item. Its pieces by the rules are those of Rules.
 use Rattle.std.specs.Prelude.{ℕ, ◌+◌, ◌-◌, nat_le, min, max, false, List, [], ◌∷◌, ◌++◌, length, get_or, if◌then◌else◌}
 use Rattle.range_set.specs.declared.ranged.Ranged.{Ranged}
 use Rattle.decoration.specs.declared.deco.Deco.{Deco}
@@ -6,10 +6,10 @@ use Rattle.decoration.specs.declared.style.Style.{Style}
 use Rattle.selection.specs.declared.range.Range.{Range}
 use Rattle.line_tree.specs.Text.{slice}
 use Rattle.cells.specs.Layout.{clusters}
-use Rattle.pieces.specs.Piece.{PieceView, PiecesView}
+use Rattle.pieces.specs.Piece.{PieceView}
 use Rattle.pieces.specs.Shading.{block_style, style_at, style_ranges}
 use Rattle.pieces.specs.Styles.{plain}
-use Rattle.pieces.specs.Items.{ItemView, item_piece, items_of}
+use Rattle.pieces.specs.Items.{ItemView, item_piece}
 
 -- the style of the character at place p, where the first of the styles is that of the place `base`
 abbrev pub style_in : List Style → (base p : ℕ) → Style
@@ -40,18 +40,14 @@ run b at end = by_clusters b.style_of (at - b.from) (clusters (slice at (min end
 abbrev pub up_to : BlockView → (at : ℕ) → ItemView → List PieceView
 up_to b at x = if nat_le at x.place then run b at x.place ++ item_piece b.from b.style x ∷ [] else []
 
--- what is shown from the place `at` of the document on, where items stand between the characters, each hides what it replaces,
+-- for private clauses: what is shown from the place `at` of the document on, where items stand between the characters, each hides what it replaces,
 -- and none shows its text that starts before `at`
 unfoldable pub walked : BlockView → (at : ℕ) → List ItemView → List PieceView
 walked b at [] = run b at b.to
 walked b at (x ∷ xs) = up_to b at x ++ walked b (max at x.to) xs
 
--- The pieces of the block from one place to another, and its style.
+-- the block of a text from one place to another, under the layers and the ranges of the selection
 abbrev pub block_of : List ℕ → (from to : ℕ) → List (List (Ranged Deco)) → List Range → BlockView
 block_of text from to layers ranges =
     let style = block_style from layers in
     record { text = text; from = from; to = to; style = style; style_of = λ p. style_at style (style_ranges from to layers ranges) (from + p) }
-
-abbrev pub pieces_of : List ℕ → (from to : ℕ) → List (List (Ranged Deco)) → List Range → PiecesView
-pieces_of text from to layers ranges =
-    record { style = block_style from layers; pieces = walked (block_of text from to layers ranges) from (items_of from to layers) }

@@ -3,8 +3,9 @@ ghost use Rattle.std.specs.Prelude.{false, ◌≡◌, ◌+◌, ◌-◌, ◌<◌,
 ghost use Rattle.std.specs.String.{string_bytes};
 ghost use Rattle.line_tree.specs.Text.{slice};
 ghost use Rattle.cells.specs.Layout.{clusters};
-ghost use Rattle.pieces.specs.Pieces.{block_of, by_clusters, cluster_piece, pieces_of, run, style_in, up_to, walked};
+ghost use Rattle.pieces.specs.Pieces.{block_of, by_clusters, run, style_in, up_to, walked};
 ghost use Rattle.pieces.specs.Blocks.{shown_block};
+ghost use Rattle.pieces.specs.Rules.{pieces_of};
 
 use crate::item::Item;
 use crate::items::items_of;
@@ -43,7 +44,8 @@ pub fn pieces(
 {
     let block = block_of(alloc, text, from, to, layers, selection)?;
     let items = items_of(alloc, layers, from, to)?;
-    walked(alloc, &block, items)
+    let pieces = walked(alloc, &block, items)?;
+    Ok(pieces)
 }
 
 fn block_of<'a>(

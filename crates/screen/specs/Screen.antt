@@ -9,7 +9,7 @@ use Rattle.viewport.specs.Window.{Window}
 use Rattle.viewport.specs.Reveal.{Shows}
 use Rattle.blocks.specs.Hiding.{blocks_of}
 use Rattle.pieces.specs.Piece.{PiecesView}
-use Rattle.pieces.specs.Pieces.{pieces_of}
+use Rattle.pieces.specs.Rules.{pieces_of}
 use Rattle.pieces.specs.SamePieces.{same_pieces}
 use Rattle.pieces.specs.Styles.{plain}
 use Rattle.line_rows.specs.Column.{column_of}
