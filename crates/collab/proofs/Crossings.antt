@@ -3,7 +3,7 @@ use Rattle.std.proofs.Common.{◌≡◌, ℕ, zero, suc, true, false, List, [], 
 use Rattle.change_desc.specs.declared.section.Section.{Section}
 use Rattle.change_desc.specs.Sections.{Sections, spelled, counted, lengths, apply, old_size, new_size}
 use Rattle.change_desc.specs.Columns.{along_old}
-use Rattle.change_desc.specs.Algebra.{map_over}
+use Rattle.change_desc.specs.Map.{map_over}
 use Rattle.change_desc.proofs.Lengths.{spelled_sizes, map_over-lengths}
 use Rattle.change_desc.proofs.Merges.{apply-map_over, merged-swap, old_size-map_over, old_size-lengths, new_size-lengths}
 use Rattle.change_set.proofs.Sizes.{length-apply}

@@ -4,7 +4,7 @@ use Rattle.std.specs.Option.{option_or}
 use Rattle.std.specs.Str.{bytes_eq}
 use Rattle.line_tree.specs.Text.{max_len}
 use Rattle.change_desc.specs.Sections.{Sections, spelled, lengths, apply, old_size, new_size}
-use Rattle.change_desc.specs.Algebra.{map_over}
+use Rattle.change_desc.specs.Map.{map_over}
 use Rattle.collab.specs.declared.error.CollabError.{CollabError}
 use Rattle.collab.specs.declared.error.CollabError.TheVariants.{Ahead}
 use Rattle.collab.specs.declared.update.Update.{Update}

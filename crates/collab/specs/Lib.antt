@@ -1,6 +1,10 @@
 pub use Rattle.line_tree.specs.Text
 pub use Rattle.change_desc.specs.Sections
-pub use Rattle.change_desc.specs.Algebra
+pub use Rattle.change_desc.specs.Pieces
+pub use Rattle.change_desc.specs.Compose
+pub use Rattle.change_desc.specs.Map
+pub use Rattle.change_desc.specs.Of
+pub use Rattle.change_desc.specs.Filter
 pub use Rattle.change_set.specs.Changes
 pub use Rattle.change_set.specs.Refusals
 pub mod Updates
