@@ -73,7 +73,7 @@ bounds inputs = bounds_of (filter_map pair_in inputs)
 -- Combine: by the rule's number.
 abbrev pub combine : ℕ → List Val → Val
 combine n =
-    row n (first_or nothing)
+    row n list_of_inputs
     ((1, list_of_inputs)
     ∷ (2, first_or nothing)
     ∷ (3, some_true)

@@ -5,13 +5,13 @@ use Rattle.std.specs.Coded.{Coded, codes}
 use Rattle.std.proofs.Common.{sym, ◌∙◌, ap}
 use Rattle.std.proofs.lemmas.Bool.Decides.{Decides-eqb}
 use base.Stored.{Gv, gnil, gnum, gcons}
-use Rattle.cm_plain.specs.Datum.{Datum, coded_datum, items-data}
+use Rattle.cm_plain.specs.Datum.{Datum, coded_datum}
 use Rattle.cm_plain.specs.Plain.{datum_of}
 use Rattle.cm_plain.specs.declared.plain.Plain.{Plain as PlainData}
 use Rattle.cm_plain.specs.declared.plain.Plain.TheVariants as plain
 use Rattle.values.specs.declared.val.Val.{Val}
 use Rattle.values.specs.declared.val.Val.TheVariants.{Plain, Ranges, Layers, History}
-use Rattle.values.specs.Reading.{value_of}
+use Rattle.values.specs.Reading.{value_of, value-datum}
 
 -- whether two codes are the same
 abbrev pub alike : Gv → Gv → Bool
@@ -54,13 +54,6 @@ coded_val = hlevel (codes, coded_datum)
 abbrev pub equal : Val → Val → Bool
 equal (Plain p) (Plain q) = alike (coded_datum.code (datum_of p)) (coded_datum.code (datum_of q))
 equal a b = alike (coded_val.code a) (coded_val.code b)
-
-value-datum : (p : PlainData) → value_of (datum_of p) ≡ p
-value-datum plain.Unit = refl
-value-datum (plain.Bool b) = refl
-value-datum (plain.Int z) = refl
-value-datum (plain.Text s) = refl
-value-datum (plain.List ds) = ap plain.List (items-data ds)
 
 plain-equal : (p q : PlainData) → alike (coded_datum.code (datum_of p)) (coded_datum.code (datum_of q)) ≡ true → p ≡ q
 plain-equal p q h =

@@ -64,8 +64,8 @@ break_at place =
     }
 
 -- the transaction and a break at the new end; nothing where it changes nothing
-abbrev pub with_break : TransactionView → Val → Filtering
-with_break t given = cond (changes_nothing t.changes) Keep (Also (break_at (length t.document) ∷ []))
+abbrev pub with_break : TransactionView → Filtering
+with_break t = cond (changes_nothing t.changes) Keep (Also (break_at (length t.document) ∷ []))
 
 -- the number that an item is
 abbrev pub number_item : Datum → Option ℤ
@@ -86,7 +86,7 @@ filter n =
     row n (λ t given. Keep)
     ((1, λ t given. Keep)  -- the transaction stays
     ∷ (2, λ t given. Instead [])  -- nothing is done
-    ∷ (3, with_break)
+    ∷ (3, λ t given. with_break t)
     ∷ (4, unless_long)
     ∷ [])
 
@@ -97,21 +97,21 @@ nothing_more = record { effects = []; annotations = [] }
 abbrev pub touched : Annotation
 touched = record { kind = codes "touched"; value = plain.Bool true }
 
-abbrev pub touched_note : TransactionView → Val → Extension
-touched_note t given = cond (changes_nothing t.changes) nothing_more (record { effects = []; annotations = touched ∷ [] })
+abbrev pub touched_note : TransactionView → Extension
+touched_note t = cond (changes_nothing t.changes) nothing_more (record { effects = []; annotations = touched ∷ [] })
 
 -- the effect kind `note`, the first that is declared
 abbrev pub note_kind : ℕ
 note_kind = 0
 
-abbrev pub start_length : TransactionView → Val → Extension
-start_length t given = record { effects = Kind note_kind (int (pos (length t.start))) ∷ []; annotations = [] }
+abbrev pub start_length : TransactionView → Extension
+start_length t = record { effects = Kind note_kind (int (pos (length t.start))) ∷ []; annotations = [] }
 
 -- Extend: by the rule's number.
 abbrev pub extend : ℕ → TransactionView → (filter_data : Val) → Extension
 extend n =
     row n (λ t given. nothing_more)
     ((1, λ t given. nothing_more)
-    ∷ (2, touched_note)
-    ∷ (3, start_length)
+    ∷ (2, λ t given. touched_note t)
+    ∷ (3, λ t given. start_length t)
     ∷ [])

@@ -2,8 +2,9 @@
 use Rattle.std.specs.Prelude.{ℕ, zero, suc, ◌-◌, Bool, true, false, cond, eqb, ltb, ℤ, pos, negsuc, List, [], ◌∷◌, map, fold, filter_map, slice_get, Option, Some, None}
 use Rattle.std.specs.Option.{option_flatten, unwrap_or}
 use Rattle.std.specs.Int.{saturate_signed, w64}
-use Rattle.std.specs.Prelude.{◌+ℤ◌}
-use Rattle.cm_plain.specs.Datum.{Datum, unit, boolean, number, text, list, depth, max_depth, items_of}
+use Rattle.std.specs.Prelude.{◌+ℤ◌, ◌≡◌, refl}
+use Rattle.std.proofs.Common.{ap}
+use Rattle.cm_plain.specs.Datum.{Datum, unit, boolean, number, text, list, depth, max_depth, items_of, items-data}
 use Rattle.cm_plain.specs.Form.{Form, numbers}
 use Rattle.cm_plain.specs.Plain.{datum_of}
 use Rattle.cm_plain.specs.declared.plain.Plain.{Plain as PlainData}
@@ -37,6 +38,14 @@ value_of (boolean b) = plain.Bool b
 value_of (number z) = plain.Int z
 value_of (text cs) = plain.Text cs
 value_of (list ds) = plain.List (items_of ds)
+
+-- a plain value is the one that its datum is
+pub value-datum : (p : PlainData) → value_of (datum_of p) ≡ p
+value-datum plain.Unit = refl
+value-datum (plain.Bool b) = refl
+value-datum (plain.Int z) = refl
+value-datum (plain.Text s) = refl
+value-datum (plain.List ds) = ap plain.List (items-data ds)
 
 abbrev pub int : ℤ → Val
 int z = Plain (plain.Int z)

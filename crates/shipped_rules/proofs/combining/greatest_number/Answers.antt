@@ -1,0 +1,8 @@
+use Rattle.std.proofs.Common.{arith}
+use Rattle.std.proofs.lemmas.Grind.{common_steps}
+use Rattle.std.proofs.lemmas.List.Elements.{filter_map-append}
+use Rattle.shipped_rules.specs.Greatest.{greatest-push}
+use Rattle.shipped_rules.proofs.combining.greatest_number.Goals as goal
+
+pub loop-input-preserved : goal.loop-input-preserved
+loop-input-preserved c = grind (arith, common_steps, filter_map-append, greatest-push)
