@@ -56,3 +56,12 @@ narrowest-push (p ∷ ps) q = let e = firsts-push p.0 ps q in let f = seconds-pu
 pub bounds-narrowest : (ps : List (ℤ × ℤ)) → bounds_of ps ≡ bounds_or (narrowest ps)
 bounds-narrowest [] = refl
 bounds-narrowest (p ∷ ps) = refl
+
+-- items of one list after those of another
+pub items-append : (ds es : List Datum) → AreItems ds → AreItems es → AreItems (ds ++ es)
+items-append [] es h k = k
+items-append (d ∷ ds) es h k = let e : AreItems ds = omega (arith, h) in omega (arith, h, items-append ds es e k)
+
+pub plains-shallow : (ps : List PlainData) → AreItems (map item ps)
+plains-shallow [] = omega arith
+plains-shallow (p ∷ ps) = omega (arith, item-shallow p, plains-shallow ps)

@@ -142,7 +142,7 @@ fn list_of_inputs(alloc: Global, inputs: &[Val]) -> Result<Val, AllocError>
 }
 
 /// The list of items, none of which is of the greatest depth.
-fn listed(items: Vec<Plain>) -> Val
+pub(crate) fn listed(items: Vec<Plain>) -> Val
     requires { AreItems (map datum_of items.items) }
     ensures { result ≡ Val.Plain (plain.List (map datum_of items.items)) }
 {
@@ -165,7 +165,7 @@ fn items_of(alloc: Global, inputs: &[Val]) -> Result<Vec<Plain>, AllocError>
 }
 
 /// A value as an item of a list: Unit where it isn't plain or of the greatest depth.
-fn item_of(alloc: Global, value: &Val) -> Result<Plain, AllocError>
+pub(crate) fn item_of(alloc: Global, value: &Val) -> Result<Plain, AllocError>
     ensures { IfOk result (λ p. datum_of p ≡ item (plain_or_unit value.now)) }
 {
     match value {

@@ -12,9 +12,11 @@ mod effect_mapping;
 mod extending;
 mod filtering;
 mod guarding;
+mod listing;
 mod reading;
 mod shapes;
 mod shipped;
+mod updating;
 
 pub use combining::combine;
 pub use comparing::compare;
@@ -24,4 +26,6 @@ pub use effect_mapping::map_effect;
 pub use extending::extend;
 pub use filtering::filter;
 pub use guarding::guard;
+pub use listing::compute_list;
 pub use shipped::Shipped;
+pub use updating::{collected, counted_up, last_effect};

@@ -1,0 +1,112 @@
+ghost use Rattle.std.specs.Prelude.{◌≡◌, ◌++◌, IfOk, map, option_copied};
+ghost use Rattle.cm_plain.specs.Plain.{datum_of};
+ghost use Rattle.values.specs.Computing.{items_in};
+ghost use Rattle.values.specs.Reading.{item};
+ghost use Rattle.values.specs.Updating.{collected, counted_up, last_effect, number_or_zero, plain_values};
+ghost use Rattle.shipped_rules.specs.Items.{AreItems};
+ghost use Rattle.shipped_rules.specs.Effects.{last_of};
+
+use crate::combining::{item_of, listed};
+use crate::reading::number_in;
+use cm_plain::Plain;
+use std::alloc::{AllocError, Global};
+use values::{ShownEffect, UpdateView, Val};
+
+/// The second shipped updater: the old number and 1 more where the changes aren't empty; it stops at the end of 64 bits.
+/// `Err`: out of memory.
+pub fn counted_up(alloc: Global, old: &Val, view: &UpdateView) -> Result<Val, AllocError>
+    ensures { IfOk result (λ v. v ≡ counted_up old.now view.now.transaction view.now.deps) }
+{
+    if view.transaction.changes().is_empty() {
+        return old.try_copy(alloc);
+    }
+    Ok(Val::Plain(Plain::Int(number_or_zero(old).saturating_add(1))))
+}
+
+/// The number that a value is, or 0.
+fn number_or_zero(value: &Val) -> i64
+    ensures { result ≡ number_or_zero value.now }
+{
+    match number_in(value) {
+        Some(number) => number,
+        None => 0,
+    }
+}
+
+/// The third shipped updater: the value of the last listened effect that is plain, else the old one. `Err`: out of memory.
+pub fn last_effect(alloc: Global, old: &Val, view: &UpdateView) -> Result<Val, AllocError>
+    ensures { IfOk result (λ v. v ≡ last_effect old.now view.now.transaction view.now.deps) }
+{
+    match last_plain(view.transaction.effects()) {
+        Some(plain) => Ok(Val::Plain(plain.try_copy(alloc)?)),
+        None => old.try_copy(alloc),
+    }
+}
+
+/// The last plain value of effects, if there is one.
+fn last_plain(effects: &[ShownEffect]) -> Option<&Plain>
+    ensures { option_copied result ≡ last_of (plain_values effects.now) }
+{
+    let mut last = None;
+    for effect in effects {
+        if let Val::Plain(plain) = &effect.value {
+            last = Some(plain);
+        }
+    }
+    last
+}
+
+/// The seventh shipped updater: the items of the old list, and then the plain values of the listened effects. `Err`: out of
+/// memory.
+pub fn collected(alloc: Global, old: &Val, view: &UpdateView) -> Result<Val, AllocError>
+    ensures { IfOk result (λ v. v ≡ collected old.now view.now.transaction view.now.deps) }
+{
+    let items = items_in(alloc, old)?;
+    let items = with_values(alloc, items, view.transaction.effects())?;
+    Ok(listed(items))
+}
+
+/// The items of a value that is a list, else none.
+fn items_in(alloc: Global, value: &Val) -> Result<Vec<Plain>, AllocError>
+    ensures items { IfOk result (λ items. map datum_of items.items ≡ items_in value.now) }
+    ensures shallow { IfOk result (λ items. AreItems (map datum_of items.items)) }
+{
+    match value {
+        Val::Plain(Plain::List(items)) => {
+            // The proof takes from this line that no item is of the greatest depth.
+            let _deepest = items.deepest();
+            copied(alloc, items.as_slice())
+        }
+        _ => Ok(Vec::new(alloc)),
+    }
+}
+
+/// The same items once more.
+fn copied(alloc: Global, items: &[Plain]) -> Result<Vec<Plain>, AllocError>
+    ensures { IfOk result (λ copies. copies.items ≡ items.now) }
+{
+    let mut copies = Vec::with_capacity(alloc, items.len())?;
+    for item in items {
+        copies.push(item.try_copy(alloc)?)?;
+    }
+    Ok(copies)
+}
+
+/// Items, and after them the plain values of effects.
+fn with_values(
+    alloc: Global,
+    items: Vec<Plain>,
+    effects: &[ShownEffect],
+) -> Result<Vec<Plain>, AllocError>
+    requires { AreItems (map datum_of items.items) }
+    ensures items { IfOk result (λ all. map datum_of all.items ≡ map datum_of items.items ++ map item (plain_values effects.now)) }
+    ensures shallow { IfOk result (λ all. AreItems (map datum_of all.items)) }
+{
+    let mut all = items;
+    for effect in effects {
+        if let Val::Plain(_) = &effect.value {
+            all.push(item_of(alloc, &effect.value)?)?;
+        }
+    }
+    Ok(all)
+}
