@@ -1,4 +1,5 @@
 ghost use Rattle.std.specs.Prelude.{MatchOption};
+ghost use Rattle.rule_kit.specs.Numbered.{HasNumbers};
 ghost use Rattle.rule_kit.specs.Whole.{HasAll, IsFirstGap};
 
 use crate::change_guard::ChangeGuard;
@@ -57,6 +58,18 @@ fn gap_in<M: Meanings>(lists: &RuleLists<M>) -> Option<Gap>
             number,
         });
     }
+    later_gap(lists)
+}
+
+/// The first sort from updaters on, and the least number of it, without a rule, where no sort before has a gap.
+fn later_gap<M: Meanings>(lists: &RuleLists<M>) -> Option<Gap>
+    requires combiners { HasNumbers (λ c. c.number) M.rules.combiners lists.now.combiners.items }
+    requires comparers { HasNumbers (λ c. c.number) M.rules.comparers lists.now.comparers.items }
+    requires computers { HasNumbers (λ c. c.number) M.rules.computers lists.now.computers.items }
+    requires list_computers { HasNumbers (λ c. c.number) M.rules.list_computers lists.now.list_computers.items }
+    requires creators { HasNumbers (λ c. c.number) M.rules.creators lists.now.creators.items }
+    ensures { MatchOption result (HasAll M.rules lists.now) (λ gap. IsFirstGap M.rules lists.now gap) }
+{
     if let Some(number) = first_gap(lists.updaters.as_slice(), M::updaters()) {
         return Some(Gap {
             sort: Sort::Update,
