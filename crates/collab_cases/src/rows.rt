@@ -5,7 +5,8 @@ use collab::Update;
 pub(crate) struct Row(pub char, pub u32, pub u32, pub u32);
 
 fn is(update: &Update, row: Row) -> bool {
-    update.client.chars() == [row.0].as_slice()
+    let name = row.0;
+    update.client.chars() == [name].as_slice()
         && update.number == row.1
         && update.changes.len() == row.2
         && update.changes.new_len() == row.3
