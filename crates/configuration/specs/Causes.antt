@@ -16,7 +16,5 @@ of_extensions (extension.CompartmentLoop path) = config.CompartmentLoop path
 -- cause of an error of ordering: its members are the circle that the pairs have
 abbrev pub IsOrderCause : ℕ → ℕ → List Edge → ConfigError → Type 0
 IsOrderCause facets count es config.NoMemory = ⊤
-IsOrderCause facets count es (config.UnknownExt id) = ⊥
-IsOrderCause facets count es (config.DuplicateCompartment compartment first second) = ⊥
-IsOrderCause facets count es (config.CompartmentLoop path) = ⊥
 IsOrderCause facets count es (config.Cycle members) = AreCircle facets count es members
+IsOrderCause facets count es e = ⊥

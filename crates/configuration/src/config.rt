@@ -44,9 +44,7 @@ impl Model for Config {
 fn copied(alloc: Global, ids: &[ExtId]) -> Result<Vec<ExtId>, AllocError>
     ensures { IfOk result (λ copy. copy.items ≡ ids.now) }
 {
-    let mut copy = Vec::new(alloc);
-    copy.extend_from_slice(ids)?;
-    Ok(copy)
+    ids.to_vec(alloc)
 }
 
 impl Config {

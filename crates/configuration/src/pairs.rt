@@ -69,6 +69,7 @@ fn push_node<V>(
         Some(NodeDef::From { field, .. }) => {
             push_reads(counts, facet, &[Dependency::Field(*field)], edges)
         }
+        // Other nodes declare nothing; the proof wants that pushed as the others are.
         _ => push_reads(counts, facet, &[], edges),
     }
 }

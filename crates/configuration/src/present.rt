@@ -42,6 +42,7 @@ pub fn inputs_by_facet(
     ensures { IfOk result (λ inputs. inputs.items ≡ input_lists nodes.now facets order.now) }
 {
     let mut inputs = Vec::new(alloc);
+    // One by one, since a list can't be copied without memory.
     for _facet in 0..facets {
         inputs.push(Listed::new(Vec::new(alloc)))?;
     }

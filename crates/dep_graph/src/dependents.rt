@@ -18,6 +18,7 @@ pub fn listed(alloc: Global, count: u32, edges: &[Edge]) -> Result<Vec<Dependent
     ensures { IfOk result (λ all. AreDependents count edges.now all.items) }
 {
     let mut all = Vec::new(alloc);
+    // One by one, since a list can't be copied without memory.
     for _vertex in 0..count {
         all.push(Dependents {
             vertices: Vec::new(alloc),

@@ -2,6 +2,7 @@
 use Rattle.std.specs.Prelude.{ℕ, List, [], ◌∷◌, ◌++◌, Bool, cond, eqb, nat_lt, ◌&&◌, ◌||◌, map, filter, flat_map, slice_get}
 use Rattle.std.specs.List.{list_any}
 use Rattle.ext_tree.specs.declared.precedence.Precedence.{Precedence}
+use Rattle.ext_tree.specs.declared.precedence.TheConstants.{PRECEDENCES}
 use Rattle.ext_tree.specs.declared.precedence.Precedence.TheVariants as precedence
 use Rattle.ext_tree.specs.declared.visit.Visit.{Visit}
 use Rattle.ext_tree.specs.Tree.{Tree, is_leaf_in}
@@ -17,7 +18,7 @@ level precedence.Lowest = 4
 
 -- how many precedences there are
 abbrev pub precedences : ℕ
-precedences = 5
+precedences = PRECEDENCES
 
 -- levels: those of all precedences, highest first
 abbrev pub levels : List ℕ

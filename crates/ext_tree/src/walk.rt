@@ -75,6 +75,7 @@ fn push_following(tree: &Tree, visit: Visit, tasks: &mut Vec<Task>) -> Result<()
         Some(Node::Field(field)) | Some(Node::Init(field)) => {
             push_all(tree.links.provided(*field), precedence, tasks)
         }
+        // A node that isn't there is followed by nothing; the proof wants it pushed as the others are.
         None => push_all(&[], precedence, tasks),
     }
 }

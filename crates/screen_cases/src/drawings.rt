@@ -5,7 +5,7 @@ ghost use Rattle.screen.specs.Screen.{ShowsHead, shown_view};
 use cm_plain::Str;
 use decoration::{Color, Deco, DecoSet, Inclusive, Layers, Style};
 use line_rows::{Cursor, Run, runs_of};
-use line_tree::Text;
+use line_tree::{Text, cut_len};
 use range_set::{RangeSet, Ranged};
 use screen::{Screen, View, reveal};
 use selection::{Selection, first_outside};
@@ -100,7 +100,7 @@ fn layers_of(alloc: Global, given: &[&[Given]]) -> Result<Layers, Fail> {
 
 fn document(alloc: Global, text: &str) -> Result<Text, Fail> {
     let characters: Vec<char> = text.chars().collect(alloc)?;
-    if characters.len() > 1000 {
+    if cut_len(characters.as_slice()) > 1000 {
         return Err("a short text".into());
     }
     Ok(Text::of(alloc, characters.as_slice())?)

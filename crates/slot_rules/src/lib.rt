@@ -1,6 +1,6 @@
-//! What rules are shown of a state, and what they give: of one input, one facet and one field.
+//! What rules are shown of a state, and what they give: of one input and of one facet.
 //!
-//! A layer above may rely on this: a rule is shown what it declares, and nothing else; an input, a facet and a field get the
+//! A layer above may rely on this: a rule is shown what it declares, and nothing else; an input and a facet get the
 //! values that the definitions of `slot_values` say, from the values that were found so far; and each call of a rule is counted.
 #![tactic(auto)]
 

@@ -6,6 +6,7 @@ use Rattle.change_desc.specs.declared.section.Section.TheVariants as section
 use Rattle.configuration.specs.declared.dependency.Dependency.TheVariants as dependency
 use Rattle.configuration.specs.declared.node_def.NodeDef.TheVariants as node_def
 use Rattle.configuration.specs.declared.vertex.Vertex.TheVariants.{Facet, Field}
+use Rattle.selection.specs.declared.range.Range.{Range}
 use Rattle.values.specs.Reading.{int}
 use Rattle.values.specs.Shipped.{shipped}
 use Rattle.values.specs.Views.{TransactionView}
@@ -14,8 +15,11 @@ use Rattle.slot_values.specs.Scenes.{SceneView}
 use Rattle.slot_values.specs.Stepping.{Enter, Update, empty_state, creation}
 use Rattle.slot_values.specs.Due.{transition_calls}
 
+abbrev cursor : Range
+cursor = record { anchor = 0; head = 0 }
+
 abbrev ab : SceneView
-ab = record { document = codes "ab"; selection = record { ranges = []; main = 0 } }
+ab = record { document = codes "ab"; selection = record { ranges = cursor ∷ []; main = 0 } }
 
 -- Facet 0 is the length of the document, facet 1 reads facet 0, facet 2 has a fixed input, and ten more have no input. Field 0
 -- counts the updates.
@@ -51,8 +55,8 @@ transaction changes document given =
       changes = changes;
       start = codes "ab";
       document = document;
-      start_selection = record { ranges = []; main = 0 };
-      selection = record { ranges = []; main = 0 };
+      start_selection = record { ranges = cursor ∷ []; main = 0 };
+      selection = record { ranges = cursor ∷ []; main = 0 };
       given = given;
       effects = [];
       inverted = [];

@@ -54,7 +54,7 @@ module _ (rules : Rules) (lawful : AreLawful rules) (c : Change) (change : IsCha
       ∙ ap (λ (xs : List (List Val)). Some (rules.combine facet.def.combine (joined xs))) ins
       ∙ sym (change.new_combined f ∙ ap (λ (o : Option PresentFacet). option_map (facet_value rules c.new.scene c.new.values) o) at)
 
--- A field's value after a transaction is its updater's answer on the value before: over a list of transactions it is the fold.
+-- A field's value after a transaction is its updater's answer on the value before.
 pub field-folds : (rules : Rules) (setup : Setup) → IsOrdered setup → (old : State) (t : TransactionView) (f : ℕ) (field : PresentField) → field_at setup f ≡ Some field
     → (next rules old setup t).values (Field f)
     ≡ Some (rules.update field.def.update (unwrap_or (old.values (Field f)) nothing) (heard field.def.listens t) (shown (next rules old setup t).scene (next rules old setup t).values field.def.reads))

@@ -1,10 +1,11 @@
 -- A field that leaves and comes back: worked examples.
-use Rattle.std.specs.Prelude.{◌≡◌, ℕ, List, [], ◌∷◌, Option, None, Some, pos, refl, codes, false}
+use Rattle.std.specs.Prelude.{◌≡◌, ℕ, List, [], ◌∷◌, length, Option, None, Some, pos, refl, codes, false}
 use Rattle.std.proofs.lemmas.Bool.{ltb-true}
 use Rattle.configuration.specs.declared.dependency.Dependency.TheVariants as dependency
 use Rattle.configuration.specs.declared.node_def.NodeDef.TheVariants as node_def
 use Rattle.configuration.specs.declared.vertex.Vertex.TheVariants.{Field}
 use Rattle.change_desc.specs.declared.section.Section.TheVariants as section
+use Rattle.selection.specs.declared.range.Range.{Range}
 use Rattle.values.specs.Reading.{int}
 use Rattle.values.specs.Shipped.{shipped}
 use Rattle.values.specs.Views.{TransactionView}
@@ -12,24 +13,32 @@ use Rattle.slot_values.specs.Setups.{Setup}
 use Rattle.slot_values.specs.Scenes.{SceneView}
 use Rattle.slot_values.specs.Stepping.{State, Stays, Becomes, creation, step}
 
+-- the cursor at the start of a document
+abbrev cursor : Range
+cursor = record { anchor = 0; head = 0 }
+
 -- a document with the cursor at its start
 abbrev scene : List ℕ → SceneView
-scene document = record { document = document; selection = record { ranges = []; main = 0 } }
+scene document = record { document = document; selection = record { ranges = cursor ∷ []; main = 0 } }
 
 -- the insertion of a text at the end of a document
 abbrev insertion : List ℕ → List ℕ → List ℕ → TransactionView
 insertion start text document =
     record {
-      changes = section.Replace 0 text ∷ [];
+      changes = section.Keep (length start) ∷ section.Replace 0 text ∷ [];
       start = start;
       document = document;
-      start_selection = record { ranges = []; main = 0 };
-      selection = record { ranges = []; main = 0 };
+      start_selection = record { ranges = cursor ∷ []; main = 0 };
+      selection = record { ranges = cursor ∷ []; main = 0 };
       given = false;
       effects = [];
       inverted = [];
       annotations = [];
     }
+
+-- a transaction that changes nothing in a document
+abbrev unchanged : List ℕ → TransactionView
+unchanged start = record (insertion start [] start) { changes = section.Keep (length start) ∷ [] }
 
 -- one field, created as the length of the document, to which each update adds one; its nodes are 0, without a first value, and
 -- 1, which gives it 7
@@ -53,7 +62,7 @@ created-is = refl
 
 -- it leaves, and is absent
 abbrev left : State
-left = step shipped (creation shipped (with_node (Some 0)) (scene (codes "ab"))) (Becomes (with_node None)) (insertion (codes "ab") [] (codes "ab"))
+left = step shipped (creation shipped (with_node (Some 0)) (scene (codes "ab"))) (Becomes (with_node None)) (unchanged (codes "ab"))
 
 pub left-is : left.values (Field 0) ≡ None
 left-is = refl
