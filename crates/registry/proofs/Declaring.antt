@@ -18,9 +18,9 @@ use Rattle.values.specs.Vals.{is_of}
 use Rattle.registry.specs.declared.rule_sort.RuleSort.{RuleSort}
 use Rattle.registry.specs.declared.rule_sort.RuleSort.TheVariants.{Combine, Compare, Compute, ComputeN, Create, Update, EffectMap}
 use Rattle.registry.specs.declared.id_sort.IdSort.TheVariants.{Compartment, Effect, Facet, Field, Node as NodeSort}
-use Rattle.registry.specs.Declarations.{Declarations, is_placed, nothing, with_compartment, with_effect, with_facet, with_field, with_node, with_placed}
-use Rattle.registry.specs.Refusals.{Passes, has_room, compartment_refusals, compute_n_refusals, compute_refusals, computed_names, computed_refusals, computes, effect_refusals, facet_refusals, field_names, field_refusals, from_refusals, group_refusals, init_fits, init_refusals, input_refusals, map_known, max_count, first_of, output_fits, pair_refusals, place_refusals, prec_refusals, slot_refusals, value_fits}
-use Rattle.registry.specs.Lawful.{IsComputed, IsInit, IsInput, IsLawful, IsMap}
+use Rattle.values.specs.Declarations.{Declarations, is_placed, nothing, with_compartment, with_effect, with_facet, with_field, with_node, with_placed, max_count}
+use Rattle.registry.specs.Refusals.{Passes, has_room, compartment_refusals, compute_n_refusals, compute_refusals, computed_names, computed_refusals, computes, effect_refusals, facet_refusals, field_names, field_refusals, from_refusals, group_refusals, init_fits, init_refusals, input_refusals, map_known, first_of, output_fits, pair_refusals, place_refusals, prec_refusals, slot_refusals, value_fits}
+use Rattle.values.specs.Lawful.{IsComputed, IsInit, IsInput, IsLawful, IsMap}
 use Rattle.registry.proofs.Passing.{are-known, are-reads, holds, is-known, is-rule, none-of, room}
 use Rattle.registry.proofs.Lawfulness.{lawful-compartment, lawful-effect, lawful-facet, lawful-field, lawful-node}
 use Rattle.registry.proofs.Placing.{lawful-placed}

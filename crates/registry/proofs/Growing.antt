@@ -8,8 +8,8 @@ use Rattle.configuration.specs.declared.node_def.NodeDef.TheVariants as defs
 use Rattle.ext_tree.specs.declared.node.Node.{Node}
 use Rattle.ext_tree.specs.declared.node.Node.TheVariants as nodes
 use Rattle.values.specs.declared.val.Val.{Val}
-use Rattle.registry.specs.Declarations.{Declarations, is_placed, with_compartment, with_effect, with_facet, with_field, with_node, with_pair, with_placed}
-use Rattle.registry.specs.Growth.{IsGrowth}
+use Rattle.values.specs.Declarations.{Declarations, is_placed, with_compartment, with_effect, with_facet, with_field, with_node, with_pair, with_placed}
+use Rattle.values.specs.Growth.{IsGrowth}
 use Rattle.registry.proofs.Lists.{get-kept, get_or-default}
 use Rattle.registry.proofs.Linking.{mark-kept}
 

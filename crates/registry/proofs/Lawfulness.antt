@@ -12,9 +12,8 @@ use Rattle.ext_tree.specs.declared.node.Node.TheVariants as nodes
 use Rattle.ext_tree.specs.Tree.{IsOlder, linked, listed}
 use Rattle.values.specs.declared.val.Val.{Val}
 use Rattle.values.specs.Rules.{Rules}
-use Rattle.registry.specs.Declarations.{Declarations, is_placed, with_compartment, with_effect, with_facet, with_field, with_node, with_pair}
-use Rattle.registry.specs.Refusals.{max_count}
-use Rattle.registry.specs.Lawful.{AreKnown, IsDefined, IsLawful, IsLawfulFacet, IsLawfulField, IsMap}
+use Rattle.values.specs.Declarations.{Declarations, is_placed, with_compartment, with_effect, with_facet, with_field, with_node, with_pair, max_count}
+use Rattle.values.specs.Lawful.{AreKnown, IsDefined, IsLawful, IsLawfulFacet, IsLawfulField, IsMap}
 use Rattle.registry.proofs.Lists.{All-map, all-pushed, at-pushed, both-pushed, get-kept, get_or-default}
 use Rattle.registry.proofs.Linking.{enabled-kept, facet-known, listed-pushed, node-pushed, provided-kept}
 use Rattle.registry.proofs.Widening.{Widens, defined-widens, field-widens}

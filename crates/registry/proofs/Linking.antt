@@ -11,8 +11,8 @@ use Rattle.ext_tree.specs.Tree.{linked}
 use Rattle.configuration.specs.Present.{field_in}
 use Rattle.values.specs.declared.val.Val.{Val}
 use Rattle.values.specs.Rules.{Rules}
-use Rattle.registry.specs.Declarations.{Declarations}
-use Rattle.registry.specs.Lawful.{IsDefined, IsInput}
+use Rattle.values.specs.Declarations.{Declarations}
+use Rattle.values.specs.Lawful.{IsDefined, IsInput}
 use Rattle.registry.proofs.Lists.{get_or-default}
 
 -- each list of links, where one is added

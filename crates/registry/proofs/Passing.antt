@@ -11,9 +11,9 @@ use Rattle.transaction.specs.Numbers.{IsNumber}
 use Rattle.registry.specs.declared.id_sort.IdSort.{IdSort}
 use Rattle.registry.specs.declared.rule_sort.RuleSort.{RuleSort}
 use Rattle.registry.specs.declared.registry_error.RegistryError.{RegistryError}
-use Rattle.registry.specs.Declarations.{Declarations}
-use Rattle.registry.specs.Refusals.{all_known, first_of, has_room, known, max_count, read_known, rule_known, unless}
-use Rattle.registry.specs.Lawful.{IsRead}
+use Rattle.values.specs.Declarations.{Declarations, max_count}
+use Rattle.registry.specs.Refusals.{all_known, first_of, has_room, known, read_known, rule_known, unless}
+use Rattle.values.specs.Lawful.{IsRead}
 
 pub or-first : {X : Type 0} (a b : Option X) → option_or a b ≡ None → a ≡ None
 or-first None b e = refl

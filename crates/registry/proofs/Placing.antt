@@ -8,9 +8,8 @@ use Rattle.configuration.specs.Present.{field_in}
 use Rattle.ext_tree.specs.declared.node.Node.TheVariants as nodes
 use Rattle.ext_tree.specs.Tree.{IsOlder, listed}
 use Rattle.values.specs.Rules.{Rules}
-use Rattle.registry.specs.Declarations.{Declarations, is_placed, with_placed}
-use Rattle.registry.specs.Refusals.{max_count}
-use Rattle.registry.specs.Lawful.{IsLawful}
+use Rattle.values.specs.Declarations.{Declarations, is_placed, with_placed, max_count}
+use Rattle.values.specs.Lawful.{IsLawful}
 use Rattle.registry.proofs.Linking.{listed-set, mark-kept, provided-set}
 use Rattle.registry.proofs.Lawfulness.{lawful-node}
 use Rattle.registry.proofs.Widening.{Widens, defined-widens, field-widens}

@@ -13,9 +13,9 @@ use Rattle.ext_tree.specs.Tree.{IsOlder}
 use Rattle.values.specs.declared.val.Val.{Val}
 use Rattle.cm_plain.specs.Form.{Form}
 use Rattle.values.specs.Rules.{Rules}
-use Rattle.registry.specs.Declarations.{Declarations}
-use Rattle.registry.specs.Lawful.{IsComputed, IsDefined, IsInit, IsInput, IsLawfulField, IsRead}
-use Rattle.registry.specs.Growth.{Keeps}
+use Rattle.values.specs.Declarations.{Declarations}
+use Rattle.values.specs.Lawful.{IsComputed, IsDefined, IsInit, IsInput, IsLawfulField, IsRead}
+use Rattle.values.specs.Growth.{Keeps}
 use Rattle.registry.proofs.Lists.{All-map}
 
 -- wider: facets and fields keep their definitions, and there are no fewer of any kind

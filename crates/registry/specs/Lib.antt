@@ -1,7 +1,4 @@
-pub mod Declarations
 pub mod Refusals
-pub mod Lawful
-pub mod Growth
 pub mod Predeclared
 pub use Rattle.configuration.specs.Present
 pub use Rattle.ext_tree.specs.Links
@@ -9,3 +6,6 @@ pub use Rattle.ext_tree.specs.Tree
 pub use Rattle.transaction.specs.Numbers
 pub use Rattle.values.specs.Rules
 pub use Rattle.values.specs.Vals
+pub use Rattle.values.specs.Declarations
+pub use Rattle.values.specs.Lawful
+pub use Rattle.values.specs.Growth

@@ -3,7 +3,7 @@ use Rattle.std.specs.Prelude.{ℕ, List, [], ◌∷◌, Bool, true, false, None}
 use Rattle.configuration.specs.declared.dependency.Dependency.TheVariants as reads
 use Rattle.configuration.specs.declared.facet_def.FacetDef.{FacetDef}
 use Rattle.configuration.specs.declared.field_def.FieldDef.{FieldDef}
-use Rattle.registry.specs.Declarations.{Declarations, nothing, with_effect, with_facet, with_field, with_placed}
+use Rattle.values.specs.Declarations.{Declarations, nothing, with_effect, with_facet, with_field, with_placed}
 
 -- with some facets, in order, none of which enables anything
 abbrev pub with_facets : Declarations → List FacetDef → Declarations

@@ -16,11 +16,7 @@ use Rattle.registry.specs.declared.rule_sort.RuleSort.{RuleSort}
 use Rattle.registry.specs.declared.rule_sort.RuleSort.TheVariants.{Combine, Compare, Compute, ComputeN, Create, Update, EffectMap}
 use Rattle.registry.specs.declared.registry_error.RegistryError.{RegistryError}
 use Rattle.registry.specs.declared.registry_error.RegistryError.TheVariants.{NoMemory, UnknownId, UnknownRule, StaticFacet, WrongShape, AlreadyPlaced, BadInverse, InverseTaken, TooMany}
-use Rattle.registry.specs.Declarations.{Declarations, is_placed}
-
--- how many there may be of each kind
-abbrev pub max_count : ℕ
-max_count = 1048576
+use Rattle.values.specs.Declarations.{Declarations, is_placed, max_count}
 
 -- refused as this error unless a condition holds
 abbrev pub unless : Bool → RegistryError → Option RegistryError

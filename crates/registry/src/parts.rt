@@ -1,8 +1,7 @@
 // What a registry holds.
 ghost use Rattle.std.specs.Prelude.{◌≡◌, ◌<◌, ◌≤◌, length, slice_get, is_none, Some, IfOk, OnOk, OnErr};
 ghost use Rattle.transaction.specs.Effects.{map_of};
-ghost use Rattle.registry.specs.Refusals.{max_count};
-ghost use Rattle.registry.specs.Declarations.{AreDefs, is_placed, nothing, with_compartment, with_effect, with_facet, with_field, with_node, with_pair, with_placed};
+ghost use Rattle.values.specs.Declarations.{AreDefs, is_placed, nothing, with_compartment, with_effect, with_facet, with_field, with_node, with_pair, with_placed, max_count};
 
 use crate::linked;
 use crate::undo::push_both;
@@ -28,7 +27,7 @@ pub(crate) struct Parts {
 impl Model for Parts {
     ghost use Rattle.std.specs.Coded.{codes};
     ghost use Rattle.cm_plain.specs.Datum.{coded_datum};
-    ghost use Rattle.registry.specs.Declarations.{Declarations};
+    ghost use Rattle.values.specs.Declarations.{Declarations};
 
     ghost Value = { Declarations };
 

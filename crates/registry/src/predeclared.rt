@@ -1,6 +1,6 @@
 // What is declared from the start.
 ghost use Rattle.std.specs.Prelude.{◌≡◌, ◌∷◌, [], None, IfOk, OnOk};
-ghost use Rattle.registry.specs.Declarations.{nothing, with_effect, with_facet, with_field, with_placed};
+ghost use Rattle.values.specs.Declarations.{nothing, with_effect, with_facet, with_field, with_placed};
 ghost use Rattle.registry.specs.Predeclared.{combined_by, history_def, predeclared, with_facets};
 
 use crate::registry::Registry;

@@ -4,9 +4,9 @@ ghost use Rattle.configuration.specs.declared.node_def.NodeDef.TheVariants as de
 ghost use Rattle.ext_tree.specs.Tree.{AreLinksOlder};
 ghost use Rattle.ext_tree.specs.declared.node.Node.TheVariants as nodes;
 ghost use Rattle.values.specs.Rules.{Rules};
-ghost use Rattle.registry.specs.Declarations.{AreDefs, nothing, with_compartment, with_effect, with_facet, with_field, with_node, with_pair, with_placed};
-ghost use Rattle.registry.specs.Growth.{IsGrowth};
-ghost use Rattle.registry.specs.Lawful.{IsLawful};
+ghost use Rattle.values.specs.Declarations.{AreDefs, nothing, with_compartment, with_effect, with_facet, with_field, with_node, with_pair, with_placed};
+ghost use Rattle.values.specs.Growth.{IsGrowth};
+ghost use Rattle.values.specs.Lawful.{IsLawful};
 ghost use Rattle.registry.specs.Refusals.{IsRefused, Passes, compartment_refusals, compute_n_refusals, compute_refusals, effect_refusals, facet_refusals, field_refusals, from_refusals, group_refusals, init_refusals, input_refusals, pair_refusals, place_refusals, prec_refusals, slot_refusals};
 
 use crate::id_sort::IdSort;
@@ -39,13 +39,13 @@ pub struct Registry<M: Meanings> {
 impl<M: Meanings> Model for Registry<M> {
     ghost use Rattle.std.specs.Coded.{codes};
     ghost use Rattle.cm_plain.specs.Datum.{coded_datum};
-    ghost use Rattle.registry.specs.Declarations.{Declarations};
+    ghost use Rattle.values.specs.Declarations.{Declarations};
 
     ghost Value = { Declarations };
 
     ghost coded = { Prim.hlevel (codes, coded_datum) };
 
-    ghost use Rattle.registry.specs.Lawful.{IsLawful};
+    ghost use Rattle.values.specs.Lawful.{IsLawful};
 
     ghost view = { λ r. r.parts };
 

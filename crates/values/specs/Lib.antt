@@ -4,6 +4,9 @@ pub use Rattle.cm_plain.specs.Form
 pub use Rattle.cm_plain.specs.Shape
 pub use Rattle.selection.specs.Selections
 pub use Rattle.transaction.specs.Numbers
+pub use Rattle.configuration.specs.Present
+pub use Rattle.ext_tree.specs.Links
+pub use Rattle.ext_tree.specs.Tree
 pub mod Vals
 pub mod Views
 pub mod Transactions
@@ -18,3 +21,9 @@ pub mod Updating
 pub mod EffectMapping
 pub mod Guarding
 pub mod Shipped
+pub mod Numbered
+pub mod Stored
+pub mod Whole
+pub mod Declarations
+pub mod Lawful
+pub mod Growth

@@ -1,0 +1,104 @@
+// What rules are shown.
+ghost use Rattle.std.specs.Prelude.{◌≡◌, IfOk, map, cond, slice_get, Some, None, option_map};
+ghost use Rattle.std.specs.Option.{option_flatten};
+ghost use Rattle.facet_slots.specs.Scenes.{IsScene, reads_document, reads_selection, shown as shown_of, vertices_of};
+ghost use Rattle.facet_slots.specs.Keeping.{held};
+ghost use Rattle.facet_slots.specs.Found.{scene_of};
+
+use crate::shelf::Shelf;
+use configuration::Dependency;
+use line_tree::Text;
+use listed::Listed;
+use selection::Selection;
+use std::alloc::{AllocError, Global};
+use values::{Deps, Scene, Val};
+
+/// The value at a place, once more.
+fn copy_at(alloc: Global, values: &[Option<Val>], place: u32) -> Result<Option<Val>, AllocError>
+    ensures { IfOk result (λ v. v ≡ option_flatten (slice_get values.now place)) }
+{
+    match values.get(place as usize) {
+        Some(Some(value)) => Ok(Some(value.try_copy(alloc)?)),
+        _ => Ok(None),
+    }
+}
+
+/// The values of the declared facets and fields.
+fn values_read(
+    alloc: Global,
+    reads: &[Dependency],
+    shelf: &Shelf,
+) -> Result<Listed<Option<Val>>, AllocError>
+    ensures { IfOk result (λ vs. vs ≡ map (held shelf.now.facets.items shelf.now.fields.items) (vertices_of reads.now)) }
+{
+    let mut values = Listed::empty(alloc);
+    for read in reads {
+        match *read {
+            Dependency::Doc => {}
+            Dependency::Selection => {}
+            Dependency::Facet(facet) => values.push(copy_at(alloc, &shelf.facets, facet)?)?,
+            Dependency::Field(field) => values.push(copy_at(alloc, &shelf.fields, field)?)?,
+        }
+    }
+    Ok(values)
+}
+
+/// Whether the document is declared.
+fn is_document_read(reads: &[Dependency]) -> bool
+    ensures { result ≡ reads_document reads.now }
+{
+    for read in reads {
+        if let Dependency::Doc = *read {
+            return true;
+        }
+    }
+    false
+}
+
+/// Whether the selection is declared.
+fn is_selection_read(reads: &[Dependency]) -> bool
+    ensures { result ≡ reads_selection reads.now }
+{
+    for read in reads {
+        if let Dependency::Selection = *read {
+            return true;
+        }
+    }
+    false
+}
+
+fn document_read(scene: &Scene, reads: &[Dependency]) -> Result<Option<Text>, AllocError>
+    ensures { IfOk result (λ t. option_map (λ text. text.characters) t ≡ cond (reads_document reads.now) (Some scene.now.document.characters) None) }
+{
+    if is_document_read(reads) {
+        Ok(Some(scene.document.try_copy()?))
+    } else {
+        Ok(None)
+    }
+}
+
+fn selection_read(scene: &Scene, reads: &[Dependency]) -> Result<Option<Selection>, AllocError>
+    ensures { IfOk result (λ s. s ≡ cond (reads_selection reads.now) (Some scene.now.selection) None) }
+{
+    if is_selection_read(reads) {
+        Ok(Some(scene.selection.try_copy()?))
+    } else {
+        Ok(None)
+    }
+}
+
+/// What a rule that declares these dependencies reads. `Err`: out of memory.
+pub fn shown(
+    alloc: Global,
+    scene: &Scene,
+    reads: &[Dependency],
+    shelf: &Shelf,
+) -> Result<Deps, AllocError>
+    requires { IsScene (scene_of scene.now) }
+    ensures { IfOk result (λ deps. deps ≡ shown_of (scene_of scene.now) (held shelf.now.facets.items shelf.now.fields.items) reads.now) }
+{
+    let document = document_read(scene, reads)?;
+    let selection = selection_read(scene, reads)?;
+    let values = values_read(alloc, reads, shelf)?;
+    Ok(Deps::new(document, selection, values))
+}

@@ -1,0 +1,188 @@
+// What inputs give, and the value of a facet.
+ghost use Rattle.std.specs.Prelude.{◌≡◌, ◌+◌, ◌≤◌, ◌++◌, ◌∷◌, [], IfOk, OnOk, map, slice_get};
+ghost use Rattle.values.specs.Whole.{IsWhole};
+ghost use Rattle.facet_slots.specs.Setups.{input_node};
+ghost use Rattle.facet_slots.specs.Scenes.{IsScene, shown as shown_of};
+ghost use Rattle.facet_slots.specs.FacetValues.{facet_value, joined as joined_of, node_outputs as node_outputs_of};
+ghost use Rattle.facet_slots.specs.Keeping.{held};
+ghost use Rattle.facet_slots.specs.Lawful.{FitsCombiner, IsLawfulFacet};
+ghost use Rattle.facet_slots.specs.Due.{call_of, calls_of};
+ghost use Rattle.transaction.specs.Numbers.{IsNumber};
+ghost use Rattle.facet_slots.specs.Found.{facet_of, scene_of};
+
+use crate::deps::shown;
+use crate::shelf::Shelf;
+use configuration::{Dependency, FacetDef, NodeDef};
+use listed::Listed;
+use values::Kit;
+use std::alloc::{AllocError, Global};
+use std::sync::ledger::Ledger;
+use steps::Steps;
+use values::{Meanings, Scene, Val};
+
+/// A list of one value.
+fn one(alloc: Global, value: Val) -> Result<Listed<Val>, AllocError>
+    ensures { IfOk result (λ values. values ≡ value ∷ []) }
+{
+    let mut values = Listed::empty(alloc);
+    values.push(value)?;
+    Ok(values)
+}
+
+/// The input that a rule computes from what it declares.
+fn computed<M: Meanings, L: Ledger>(
+    alloc: Global,
+    kit: &Kit<M>,
+    scene: &Scene,
+    rule: u32,
+    reads: &[Dependency],
+    shelf: &Shelf,
+    calls: &mut Steps<L>,
+) -> Result<Listed<Val>, AllocError>
+    requires whole { IsWhole M.rules kit.now }
+    requires scene { IsScene (scene_of scene.now) }
+    requires number { IsNumber M.rules.computers rule }
+    ensures value { IfOk result (λ values. values ≡ M.rules.compute rule (shown_of (scene_of scene.now) (held shelf.now.facets.items shelf.now.fields.items) reads.now) ∷ []) }
+    ensures cost { calls.new ≤ calls.old + 1 }
+{
+    let deps = shown(alloc, scene, reads, shelf)?;
+    one(alloc, kit.computer(rule).call(&deps, calls)?)
+}
+
+/// The inputs that a rule computes from what it declares.
+fn computed_list<M: Meanings, L: Ledger>(
+    alloc: Global,
+    kit: &Kit<M>,
+    scene: &Scene,
+    rule: u32,
+    reads: &[Dependency],
+    shelf: &Shelf,
+    calls: &mut Steps<L>,
+) -> Result<Listed<Val>, AllocError>
+    requires whole { IsWhole M.rules kit.now }
+    requires scene { IsScene (scene_of scene.now) }
+    requires number { IsNumber M.rules.list_computers rule }
+    ensures value { IfOk result (λ values. values ≡ M.rules.compute_list rule (shown_of (scene_of scene.now) (held shelf.now.facets.items shelf.now.fields.items) reads.now)) }
+    ensures cost { calls.new ≤ calls.old + 1 }
+{
+    let deps = shown(alloc, scene, reads, shelf)?;
+    kit.computer_n(rule).call(&deps, calls)
+}
+
+/// The inputs that a node gives its facet. `Err`: out of memory.
+pub fn node_outputs<M: Meanings, L: Ledger>(
+    alloc: Global,
+    kit: &Kit<M>,
+    scene: &Scene,
+    node_defs: &[NodeDef<Val>],
+    node: u32,
+    combiner: u32,
+    shelf: &Shelf,
+    calls: &mut Steps<L>,
+) -> Result<Listed<Val>, AllocError>
+    requires whole { IsWhole M.rules kit.now }
+    requires scene { IsScene (scene_of scene.now) }
+    requires lawful { FitsCombiner M.rules combiner (slice_get node_defs.now node) }
+    ensures value { IfOk result (λ values. values ≡ node_outputs_of M.rules (scene_of scene.now) (held shelf.now.facets.items shelf.now.fields.items) (input_node node_defs.now node)) }
+    ensures cost { calls.new ≤ calls.old + call_of (slice_get node_defs.now node) }
+{
+    match node_defs.get(node as usize) {
+        Some(NodeDef::Of(value)) => one(alloc, value.try_copy(alloc)?),
+        Some(NodeDef::Compute { rule, reads }) => {
+            computed(alloc, kit, scene, *rule, reads.as_slice(), shelf, calls)
+        }
+        Some(NodeDef::ComputeN { rule, reads }) => {
+            computed_list(alloc, kit, scene, *rule, reads.as_slice(), shelf, calls)
+        }
+        Some(NodeDef::From { field, rule }) => {
+            let reads = [Dependency::Field(*field)];
+            computed(alloc, kit, scene, *rule, &reads, shelf, calls)
+        }
+        _ => Ok(Listed::empty(alloc)),
+    }
+}
+
+/// What each input of a facet gives, in flat order.
+fn all_outputs<M: Meanings, L: Ledger>(
+    alloc: Global,
+    kit: &Kit<M>,
+    scene: &Scene,
+    facet: &FacetDef,
+    node_defs: &[NodeDef<Val>],
+    nodes: &[u32],
+    shelf: &Shelf,
+    calls: &mut Steps<L>,
+) -> Result<Listed<Listed<Val>>, AllocError>
+    requires whole { IsWhole M.rules kit.now }
+    requires scene { IsScene (scene_of scene.now) }
+    requires lawful { IsLawfulFacet M.rules (facet_of facet.now node_defs.now nodes.now) }
+    ensures value { IfOk result (λ found. found ≡ map (node_outputs_of M.rules (scene_of scene.now) (held shelf.now.facets.items shelf.now.fields.items)) (map (input_node node_defs.now) nodes.now)) }
+    ensures cost { calls.new ≤ calls.old + calls_of (map (input_node node_defs.now) nodes.now) }
+{
+    let mut found = Listed::empty(alloc);
+    for node in nodes {
+        found.push(node_outputs(
+            alloc,
+            kit,
+            scene,
+            node_defs,
+            *node,
+            facet.combine,
+            shelf,
+            calls,
+        )?)?;
+    }
+    Ok(found)
+}
+
+/// Adds copies of more values.
+fn append(alloc: Global, values: &mut Vec<Val>, more: &[Val]) -> Result<(), AllocError>
+    ensures { OnOk result (values.new.items ≡ values.old.items ++ more.now) }
+{
+    for value in more {
+        values.push(value.try_copy(alloc)?)?;
+    }
+    Ok(())
+}
+
+/// Lists joined in order.
+pub fn joined(alloc: Global, lists: &[Listed<Val>]) -> Result<Vec<Val>, AllocError>
+    ensures { IfOk result (λ values. values.items ≡ joined_of lists.now) }
+{
+    let mut values = Vec::new(alloc);
+    for list in lists {
+        append(alloc, &mut values, list.as_slice())?;
+    }
+    Ok(values)
+}
+
+/// The value of a facet, and what each of its inputs gave, in flat order.
+#[derive(Drop)]
+pub struct FacetFound {
+    pub inputs: Listed<Listed<Val>>,
+    pub value: Val,
+}
+
+/// A facet found anew from these input nodes. `Err`: out of memory.
+pub fn facet_found<M: Meanings, L: Ledger>(
+    alloc: Global,
+    kit: &Kit<M>,
+    scene: &Scene,
+    facet: &FacetDef,
+    node_defs: &[NodeDef<Val>],
+    nodes: &[u32],
+    shelf: &Shelf,
+    calls: &mut Steps<L>,
+) -> Result<FacetFound, AllocError>
+    requires whole { IsWhole M.rules kit.now }
+    requires scene { IsScene (scene_of scene.now) }
+    requires lawful { IsLawfulFacet M.rules (facet_of facet.now node_defs.now nodes.now) }
+    ensures value { IfOk result (λ found. found.value ≡ facet_value M.rules (scene_of scene.now) (held shelf.now.facets.items shelf.now.fields.items) (facet_of facet.now node_defs.now nodes.now)) }
+    ensures inputs { IfOk result (λ found. found.inputs ≡ map (node_outputs_of M.rules (scene_of scene.now) (held shelf.now.facets.items shelf.now.fields.items)) (map (input_node node_defs.now) nodes.now)) }
+    ensures cost { calls.new ≤ calls.old + (calls_of (map (input_node node_defs.now) nodes.now) + 1) }
+{
+    let inputs = all_outputs(alloc, kit, scene, facet, node_defs, nodes, shelf, calls)?;
+    let values = joined(alloc, inputs.as_slice())?;
+    let value = kit.combiner(facet.combine).call(&values, calls)?;
+    Ok(FacetFound { inputs, value })
+}

@@ -1,6 +1,0 @@
-use Rattle.std.proofs.Common.{◌≤◌, ℕ}
-use Rattle.rule_kit.specs.Numbered.{HasNumber}
-use Rattle.rule_kit.proofs.numbered.first_gap.Given as goal
-
-abbrev pub invariant-loop-below : goal.invariant-loop-below
-invariant-loop-below g l = (m : ℕ) → 1 ≤ m → m ≤ l.below → HasNumber g.T.Numbered.number_of l.list m

@@ -1,6 +1,0 @@
-use Rattle.std.proofs.Common.{◌≡◌, drop}
-use Rattle.slot_values.specs.Scenes.{reads_document}
-use Rattle.slot_rules.proofs.deps.is_document_read.Given as goal
-
-abbrev pub invariant-loop-read : goal.invariant-loop-read
-invariant-loop-read l = reads_document (drop l.read-index l.reads) ≡ reads_document l.reads

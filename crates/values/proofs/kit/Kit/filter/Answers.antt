@@ -1,0 +1,10 @@
+use Rattle.std.proofs.Common.{◌<◌, length}
+use Rattle.values.proofs.kit.Kit.filter.Goals as goal
+
+pub unreachable-requires : goal.unreachable-requires
+unreachable-requires g c = c.in-None.ensures (rw c.as_slice.ensures.value (c.requires.whole.all.filters.each c.args.number c.requires.number))
+
+pub returns-clause-meant : goal.returns-clause-meant
+returns-clause-meant g c =
+    let inside : c.in-Some.place < length c.args.self.now.lists.filters.items = rw (← c.as_slice.ensures.value) c.in-Some.ensures.inside in
+    rw c.index.ensures (c.requires.whole.answers.filters c.in-Some.place c.index.result.now inside)

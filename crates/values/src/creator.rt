@@ -1,0 +1,80 @@
+use crate::deps::Deps;
+use crate::meanings::Meanings;
+use crate::numbered::Numbered;
+use crate::val::Val;
+use std::alloc::AllocError;
+use std::marker::PhantomData;
+use std::sync::ledger::Ledger;
+use steps::Steps;
+
+/// The rule of a stored `Creator`.
+pub type CreateBox = Box<dyn Fn(&Deps) -> Result<Val, AllocError>>;
+
+/// A rule with its number: it makes the first value of a field from what it reads.
+#[derive(Drop)]
+pub struct Creator<M> {
+    number: u32,
+    rule: CreateBox,
+    meanings: PhantomData<M>,
+    ghost callable: { CreateBox.IsAlwaysCallable rule },
+}
+
+impl<M: Meanings> Creator<M> {
+    ghost use Rattle.std.specs.Prelude.{◌≡◌, ◌+◌, IfOk, Result};
+    ghost use Rattle.std.specs.Borrow.{Bor};
+    ghost use Rattle.std.specs.Result.{ForOk};
+    ghost use Rattle.std.specs.declared.alloc.AllocError.{AllocError};
+    ghost use Rattle.values.specs.Stored.{Creates};
+    ghost use Rattle.values.specs.Views.{AreDeps, DepsView};
+
+    /// A rule of this number, whose answers are the number's meaning.
+    pub fn new(number: u32, rule: CreateBox) -> Creator<M>
+        requires callable { CreateBox.IsAlwaysCallable rule }
+        requires meant { (p : Bor DepsView) (r : Result Val AllocError) → AreDeps p.now → CreateBox.post rule p r → ForOk r (λ v. v ≡ M.rules.create number p.now) }
+        ensures number { result.number ≡ number }
+        ensures creates { Creates M.rules result }
+    {
+        Creator {
+            number,
+            rule,
+            meanings: PhantomData,
+        }
+    }
+
+    /// Its number.
+    pub fn number(&self) -> u32
+        ensures { result ≡ self.now.number }
+    {
+        self.number
+    }
+
+    /// The first value of a field that reads this. It counts as one call. `Err`: out of memory.
+    pub fn call<L: Ledger>(&self, deps: &Deps, calls: &mut Steps<L>) -> Result<Val, AllocError>
+        requires creates { Creates M.rules self.now }
+        ensures value { IfOk result (λ v. v ≡ M.rules.create self.now.number deps.now) }
+        ensures counted { calls.new ≡ calls.old + 1 }
+    {
+        deps.known();
+        calls.tick();
+        self.answer(deps)
+    }
+
+    /// What the rule answers.
+    fn answer(&self, deps: &Deps) -> Result<Val, AllocError>
+        requires meant { Creates M.rules self.now }
+        requires known { AreDeps deps.now }
+        ensures { IfOk result (λ v. v ≡ M.rules.create self.now.number deps.now) }
+    {
+        (self.rule)(deps)
+    }
+}
+
+impl<M> Numbered for Creator<M> {
+    ghost use Rattle.std.specs.Prelude.{◌≡◌, ◌↔◌, IsTrue};
+
+    ghost number_of = { λ c. c.number };
+
+    fn has_number(&self, number: u32) -> bool {
+        self.number == number
+    }
+}

@@ -1,0 +1,70 @@
+use crate::answers::Extension;
+use crate::meanings::Meanings;
+use crate::numbered::Numbered;
+use crate::tr_view::TrView;
+use crate::val::Val;
+use std::alloc::AllocError;
+use std::marker::PhantomData;
+
+/// The rule of a stored `Extender`.
+pub type ExtendBox = Box<dyn Fn(&TrView, &Val) -> Result<Extension, AllocError>>;
+
+/// A rule with its number: it adds effects and annotations to a transaction, from the transaction and the value of the facet `filterData`.
+#[derive(Drop)]
+pub struct Extender<M> {
+    number: u32,
+    rule: ExtendBox,
+    meanings: PhantomData<M>,
+    ghost callable: { ExtendBox.IsAlwaysCallable rule },
+}
+
+impl<M: Meanings> Extender<M> {
+    ghost use Rattle.std.specs.Prelude.{◌≡◌, IfOk, Result};
+    ghost use Rattle.std.specs.Borrow.{Bor};
+    ghost use Rattle.std.specs.Result.{ForOk};
+    ghost use Rattle.std.specs.declared.alloc.AllocError.{AllocError};
+    ghost use Rattle.values.specs.declared.answers.Extension.{Extension};
+    ghost use Rattle.values.specs.declared.val.Val.{Val};
+    ghost use Rattle.values.specs.Stored.{Extends};
+    ghost use Rattle.values.specs.Views.{IsTransaction, TransactionView};
+
+    /// A rule of this number, whose answers are the number's meaning.
+    pub fn new(number: u32, rule: ExtendBox) -> Extender<M>
+        requires callable { ExtendBox.IsAlwaysCallable rule }
+        requires meant { (t : Bor TransactionView) (v : Bor Val) (r : Result Extension AllocError) → IsTransaction t.now → ExtendBox.post rule t v r → ForOk r (λ a. a ≡ M.rules.extend number t.now v.now) }
+        ensures number { result.number ≡ number }
+        ensures extends { Extends M.rules result }
+    {
+        Extender {
+            number,
+            rule,
+            meanings: PhantomData,
+        }
+    }
+
+    /// Its number.
+    pub fn number(&self) -> u32
+        ensures { result ≡ self.now.number }
+    {
+        self.number
+    }
+
+    /// What is added to the transaction. `Err`: out of memory.
+    pub fn call(&self, transaction: &TrView, filter_data: &Val) -> Result<Extension, AllocError>
+        requires extends { Extends M.rules self.now }
+        ensures value { IfOk result (λ v. v ≡ M.rules.extend self.now.number transaction.now filter_data.now) }
+    {
+        transaction.known();
+        (self.rule)(transaction, filter_data)
+    }
+}
+
+impl<M> Numbered for Extender<M> {
+    ghost use Rattle.std.specs.Prelude.{◌≡◌, ◌↔◌, IsTrue};
+
+    ghost number_of = { λ c. c.number };
+
+    fn has_number(&self, number: u32) -> bool {
+        self.number == number
+    }
+}
