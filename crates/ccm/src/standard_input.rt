@@ -9,6 +9,7 @@ use std::io::Read;
 pub struct StandardInput<R: Read> {
     inner: R,
     given: u64,
+    asked: u64,
     faults: u64,
 }
 
@@ -18,6 +19,7 @@ impl<R: Read> StandardInput<R> {
         StandardInput {
             inner,
             given: 0,
+            asked: 0,
             faults: 0,
         }
     }
@@ -28,9 +30,12 @@ impl<R: Read> Source for StandardInput<R> {
 
     ghost given = { λ s. s.given };
 
+    ghost asked = { λ s. s.asked };
+
     ghost faults = { λ s. s.faults };
 
     fn read(&mut self, room: &mut [u8]) -> Result<usize, Failed> {
+        self.asked = self.given;
         if self.given <= u64::MAX - room.len() as u64 {
             if let Ok(count) = self.inner.read(room) {
                 self.given += count as u64;

@@ -6,7 +6,7 @@ use Rattle.cm_outside.specs.Lines.{HasNoBreak}
 use Rattle.cm_outside.specs.declared.line_reader.Filled.TheVariants.{More, Ended, Failing, Past}
 use Rattle.cm_outside.specs.declared.reading.Reading.{Reading}
 use Rattle.cm_outside.specs.declared.reading.Reading.TheVariants.{Line, TooLong, End, Failed, Budget}
-use Rattle.cm_outside.specs.Progress.{Progress, pending, left_of, IsNextLine, Reads, Advances, TakesOf, LastRead, ReadsLate, read_room}
+use Rattle.cm_outside.specs.Progress.{Progress, pending, left_of, IsNextLine, Reads, Advances, TakesOf, AskedLate, ReadsLate, read_room}
 use Rattle.cm_outside.specs.Filling.{IsLineOrTooLong, SameCounts, CutsLine, TakesRest, Fills, FillsFrom}
 use Rattle.cm_outside.proofs.Breaks.{take_prefix}
 
@@ -218,43 +218,36 @@ end_advances Budget kept old now new told t s empty fills limit some = tt
 
 -- ---- when a read is made
 
--- nothing was read yet, and what stood ready first stands so still; or no break stood ready first
-abbrev pub Ready : {S : Type 0} → Progress → Progress → S → S → Type 0
-Ready old now source source_now = ((now.rest ≡ old.rest) × (source_now ≡ source)) ⊎ HasNoBreak old.rest
-
-pub late_nothing : (old : Progress) (told : Option (List ℕ)) → IfSome told (LastRead old old)
-late_nothing old None = tt
-late_nothing old (Some input) = record { before = 0; none = λ h. absurd (omega arith); within = omega arith }
+-- nothing was read yet, and what stood ready first stands so still; or the source was last read where no whole line was left
+abbrev pub Late : {S : Type 0} → (given asked : S → ℕ) → (old now : Progress) → (source source_now : S) → Option (List ℕ) → Type 0
+Late given asked old now source source_now told = ((now.rest ≡ old.rest) × (source_now ≡ source)) ⊎ AskedLate given asked old source source_now told
 
 -- before the next read
-pub late_before : {S : Type 0} (old now new : Progress) (source source_now : S) (told : Option (List ℕ)) → SameCounts now new → Ready old now source source_now → IfSome told (LastRead old now) → ReadsLate old new source source_now told
-late_before old now new source source_now told same ready last = record { ready = at ready; last = within told last } where
-  at : Ready old now source source_now → ¬ HasNoBreak old.rest → source_now ≡ source
-  at (inl h) broken = h.1
-  at (inr h) broken = absurd (broken h)
-
-  within : (o : Option (List ℕ)) → IfSome o (LastRead old now) → IfSome o (LastRead old new)
-  within None h = tt
-  within (Some input) h = record { before = h.before; none = h.none; within = omega (arith, h.within, same.taken) }
+pub late_before : {S : Type 0} (given asked : S → ℕ) (old now : Progress) (source source_now : S) (told : Option (List ℕ)) → Late given asked old now source source_now told → ReadsLate given asked old source source_now told
+late_before given asked old now source source_now told (inl h) = inl h.1
+late_before given asked old now source source_now told (inr h) = inr h
 
 -- all that stood ready has no break, so a read is made
-pub first_without : {S : Type 0} (old now : Progress) (source source_now : S) → Ready old now source source_now → HasNoBreak now.rest → HasNoBreak old.rest
-first_without old now source source_now (inl h) one = subst HasNoBreak h.0 one
-first_without old now source source_now (inr h) one = h
+first_without : {S : Type 0} (given asked : S → ℕ) (old now : Progress) (source source_now : S) (told : Option (List ℕ)) → Late given asked old now source source_now told → HasNoBreak now.rest → HasNoBreak old.rest
+first_without given asked old now source source_now told (inl h) one = subst HasNoBreak h.0 one
+first_without given asked old now source source_now told (inr h) one = h.ready
 
-pub last_read : (kept : List ℕ) (old now new : Progress) (told t : Option (List ℕ)) → Scanned kept old now told t → now.rest ≡ [] → new.taken ≤ now.taken + read_room → IfSome told (LastRead old new)
-last_read kept old now new told t s empty once = at told s.bytes where
-  at : (o : Option (List ℕ)) → IfSome o (λ i. s.part ++ now.rest ≡ pending old now i) → IfSome o (LastRead old new)
+-- what a read finds and leaves
+pub record IsRead {S : Type 0} (given asked : S → ℕ) (old now : Progress) (source source_now source_new : S) : Type 0 where
+  pub counted : given source_now + old.taken ≡ given source + now.taken
+  pub last : asked source_new ≡ given source_now
+  pub once : given source_new ≤ asked source_new + read_room
+
+pub late_after : {S : Type 0} (given asked : S → ℕ) (kept : List ℕ) (old first now : Progress) (source source_now source_new : S) (told t : Option (List ℕ)) → Scanned kept old now told t × (now.rest ≡ []) × HasNoBreak first.rest
+    → Late given asked old first source source_now told → IsRead given asked old now source source_now source_new → AskedLate given asked old source source_new told
+late_after given asked kept old first now source source_now source_new told t s late read = record {
+  ready = first_without given asked old first source source_now told late s.2;
+  taken = at told s.0.bytes;
+  within = read.once;
+} where
+  count : asked source_new - given source ≡ now.taken - old.taken
+  count = omega (arith, read.counted, read.last, s.0.later)
+
+  at : (o : Option (List ℕ)) → IfSome o (λ i. s.0.part ++ now.rest ≡ pending old now i) → IfSome o (λ i. HasNoBreak (old.rest ++ take (asked source_new - given source) i))
   at None h = tt
-  at (Some input) h = record {
-    before = now.taken - old.taken;
-    none = λ _. subst HasNoBreak (sym (append-nil s.part) ∙ ap (λ r. s.part ++ r) (sym empty) ∙ h) s.one;
-    within = omega (arith, once, s.later);
-  }
-
-pub late_after : {S : Type 0} (kept : List ℕ) (old first now new : Progress) (source source_now source_new : S) (told t : Option (List ℕ)) → Scanned kept old now told t × (now.rest ≡ []) × HasNoBreak first.rest
-    → Ready old first source source_now → new.taken ≤ now.taken + read_room → ReadsLate old new source source_new told
-late_after kept old first now new source source_now source_new told t s ready once = record {
-  ready = λ broken. absurd (broken (first_without old first source source_now ready s.2));
-  last = last_read kept old now new told t s.0 s.1 once;
-}
+  at (Some input) h = subst HasNoBreak (sym (append-nil s.0.part) ∙ ap (λ r. s.0.part ++ r) (sym s.1) ∙ h ∙ ap (λ n. old.rest ++ take n input) (sym count)) s.0.one

@@ -2,11 +2,12 @@
 use Rattle.std.specs.Prelude.{ℕ, ◌+◌, ◌-◌, ◌^◌, List, ◌++◌, drop, length, min, Bool, ◌&&◌, nat_eq, nat_lt, nat_le}
 use Rattle.std.specs.List.{list_any}
 
--- A source over bytes in memory: the bytes left, how many it gave, the most that it gives at once, the numbers of
+-- A source over bytes in memory: the bytes left, how many it gave, how many it had given when it was last read, the most that it gives at once, the numbers of
 -- the calls that fail, how many calls there were, and how many of them failed.
 pub record MemSourceView : Type 0 where
   pub left : List ℕ
   pub given : ℕ
+  pub asked : ℕ
   pub piece : ℕ
   pub failing : List ℕ
   pub calls : ℕ
@@ -35,11 +36,11 @@ count_given s room = min (min (length s.left) s.piece) room
 
 -- a source that gave this many bytes
 abbrev pub source_after : MemSourceView → ℕ → MemSourceView
-source_after s count = record s { left = drop count s.left; given = s.given + count; calls = counted s.calls }
+source_after s count = record s { left = drop count s.left; given = s.given + count; asked = s.given; calls = counted s.calls }
 
 -- a source whose call failed
 abbrev pub source_after_failure : MemSourceView → MemSourceView
-source_after_failure s = record s { calls = counted s.calls; faults = counted s.faults }
+source_after_failure s = record s { asked = s.given; calls = counted s.calls; faults = counted s.faults }
 
 -- a sink has no room left for a piece of this length, which isn't empty
 abbrev pub is_full_for : MemSinkView → ℕ → Bool

@@ -70,14 +70,13 @@ pub record TakesOf (old new : Progress) (input : List ℕ) (now : Option (List �
 abbrev pub read_room : ℕ
 read_room = 8192
 
--- so many bytes were taken before the last read: none, or some without a break, also with those that stood ready
-pub record LastRead (old new : Progress) (input : List ℕ) : Type 0 where
-  pub before : ℕ
-  pub none : 0 < before → HasNoBreak (old.rest ++ take before input)
-  pub within : new.taken - old.taken ≤ before + read_room
+-- what stood ready has no break, nor has it with what was taken before the source was last read, which gave at most `read_room` bytes
+pub record AskedLate {S : Type 0} (given asked : S → ℕ) (old : Progress) (source now : S) (left : Option (List ℕ)) : Type 0 where
+  pub ready : HasNoBreak old.rest
+  pub taken : IfSome left (λ input. HasNoBreak (old.rest ++ take (asked now - given source) input))
+  pub within : given now ≤ asked now + read_room
 
--- What a call shows of its reads. Where a whole line stands ready the source stays as it is; and all that the call took,
--- but for its last `read_room` bytes at most, has no break.
-pub record ReadsLate {S : Type 0} (old new : Progress) (source source_now : S) (left : Option (List ℕ)) : Type 0 where
-  pub ready : ¬ HasNoBreak old.rest → source_now ≡ source
-  pub last : IfSome left (LastRead old new)
+-- The source stands as it was. Or, where the source was last read, no whole line was left; so each read of the call was made
+-- where none was, since what was taken before an earlier read is a prefix.
+abbrev pub ReadsLate : {S : Type 0} → (given asked : S → ℕ) → Progress → (source now : S) → (left : Option (List ℕ)) → Type 0
+ReadsLate given asked old source now left = (now ≡ source) ⊎ AskedLate given asked old source now left

@@ -84,6 +84,7 @@ fn read_prefix<S: Source>(source: &mut S, buffer: &mut [u8], most: u128) -> Resu
     ensures bound { count_of result ≤ length buffer.new }
     ensures most { count_of result ≤ most }
     ensures given { S.given source.new ≡ S.given source.old + count_of result }
+    ensures asked { S.asked source.new ≡ S.given source.old }
     ensures bytes { IfSome (S.left source.old) (λ input. Gives input (S.left source.new) buffer.new result) }
     ensures cause { HasCause (S.faults source.old) (S.faults source.new) result }
 {
@@ -154,7 +155,8 @@ impl LineReader {
         ensures limit { self.new.limit ≡ self.old.limit }
         ensures counted { S.given source.new + self.old.taken ≡ S.given source.old + self.new.taken }
         ensures fills { Fills result self.old self.new }
-        ensures once { self.new.taken ≤ self.old.taken + read_room }
+        ensures asked { S.asked source.new ≡ S.given source.old }
+        ensures once { S.given source.new ≤ S.asked source.new + read_room }
         ensures left { IfSome (S.left source.old) (λ input. TakesOf self.old self.new input (S.left source.new)) }
         ensures told { IfSome (S.left source.old) (FillsFrom result self.old self.new) }
         ensures later { S.faults source.old ≤ S.faults source.new }
@@ -204,7 +206,7 @@ impl LineReader {
         ensures reads { IfOk result (λ r. IfSome (S.left source.old) (Reads r self.old self.new)) }
         ensures advances { IfOk result (λ r. Advances r self.old self.new) }
         ensures budget { IfOk result (λ r. KeepsLimit r self.new) }
-        ensures late { ReadsLate self.old self.new source.old source.new (S.left source.old) }
+        ensures late { ReadsLate S.given S.asked self.old source.old source.new (S.left source.old) }
         ensures memory { OnErr result (self.new.taken ≤ self.new.limit) }
         ensures later { S.faults source.old ≤ S.faults source.new }
         ensures cause { result ≡ Ok Reading.Failed → Rose (S.faults source.old) (S.faults source.new) }

@@ -14,6 +14,7 @@ use std::marker::Model;
 pub struct MemSource {
     bytes: Vec<u8>,
     at: usize,
+    asked: usize,
     piece: Piece,
     failing: Vec<u64>,
     calls: u64,
@@ -29,6 +30,7 @@ impl Model for MemSource {
     ghost view = { λ s. record {
       left = drop s.at s.bytes.items;
       given = s.at;
+      asked = s.asked;
       piece = s.piece;
       failing = s.failing.items;
       calls = s.calls;
@@ -45,6 +47,7 @@ impl MemSource {
         ensures { result ≡ record {
           left = bytes.items;
           given = 0;
+          asked = 0;
           piece = piece;
           failing = failing.items;
           calls = 0;
@@ -54,6 +57,7 @@ impl MemSource {
         MemSource {
             bytes,
             at: 0,
+            asked: 0,
             piece,
             failing,
             calls: 0,
@@ -67,11 +71,14 @@ impl Source for MemSource {
 
     ghost given = { λ s. s.given };
 
+    ghost asked = { λ s. s.asked };
+
     ghost faults = { λ s. s.faults };
 
     fn read(&mut self, room: &mut [u8]) -> Result<usize, Failed>
         ensures bound { count_of result ≤ length room.new }
         ensures given { self.new.given ≡ self.old.given + count_of result }
+        ensures asked { self.new.asked ≡ self.old.given }
         ensures bytes { Gives self.old.left (Some self.new.left) room.new result }
         ensures cause { HasCause self.old.faults self.new.faults result }
         // The calls that fail are those that are named, and the others give as much as there is room for.
@@ -82,6 +89,7 @@ impl Source for MemSource {
             (λ e. self.new ≡ source_after_failure self.old) }
     {
         let call = self.calls;
+        self.asked = self.at;
         self.calls = self.calls.saturating_add(1);
         if self.failing.contains(&call) {
             self.faults = self.faults.saturating_add(1);

@@ -10,6 +10,8 @@ pub trait Source {
     ghost left: { Self → Option (List ℕ) };
     /// How many bytes it gave since it was made.
     ghost given: { Self → ℕ };
+    /// How many bytes it had given when it was last read.
+    ghost asked: { Self → ℕ };
     /// How often it failed. The count never falls.
     ghost faults: { Self → ℕ };
 
@@ -18,6 +20,7 @@ pub trait Source {
     fn read(&mut self, room: &mut [u8]) -> Result<usize, Failed>
         ensures bound { count_of result ≤ length room.new }
         ensures given { given self.new ≡ given self.old + count_of result }
+        ensures asked { asked self.new ≡ given self.old }
         ensures bytes { IfSome (left self.old) (λ input. Gives input (left self.new) room.new result) }
         ensures cause { HasCause (faults self.old) (faults self.new) result };
 }

@@ -1,6 +1,6 @@
 use Rattle.std.proofs.Common.{rules, ap, arith, length, inr}
 use Rattle.std.proofs.lemmas.List.{length-take}
-use Rattle.cm_outside.proofs.Scanning.{then_takes, rest_scanned, at_break, same_left, at_end, at_nothing, at_failure, at_budget, end_advances, filled, late_before, late_after, first_without, last_read}
+use Rattle.cm_outside.proofs.Scanning.{then_takes, rest_scanned, at_break, same_left, at_end, at_nothing, at_failure, at_budget, end_advances, filled, late_before, late_after}
 use Rattle.cm_outside.proofs.line_reader.LineReader.read_line.Goals as goal
 
 pub cut-requires : goal.cut-requires
@@ -21,8 +21,8 @@ loop-line-preserved g c =
     record {
       scanned = filled _ _ _ _ _ _ _ s.0 s.1 c.fill.ensures.limit c.in-More.ensures.fills c.in-More.ensures.left c.in-More.ensures.told;
       counted = omega (arith, c.loop-line.invariant.counted, c.fill.ensures.counted, c.cut.ensures.counts.taken, s.0.later);
-      ready = inr (first_without c.args.self.now c.loop-line.self c.args.source.now c.loop-line.source c.loop-line.invariant.ready s.2);
-      last = last_read _ _ c.cut.new.self _ _ _ s.0 s.1 c.fill.ensures.once;
+      late = inr (late_after g.S.Source.given g.S.Source.asked _ c.args.self.now c.loop-line.self c.cut.new.self c.args.source.now c.loop-line.source c.fill.new.source _ _ s c.loop-line.invariant.late
+          (record { counted = omega (arith, c.loop-line.invariant.counted, c.cut.ensures.counts.taken); last = c.fill.ensures.asked; once = c.fill.ensures.once }));
       later = omega (arith, c.fill.ensures.later);
     }
 
@@ -81,31 +81,35 @@ returns-in-Past-clause-reads g c =
     at_budget _ _ c.cut.new.self c.fill.new.self _ _ s.0 s.1 c.in-Past.ensures.fills
 
 pub returns-in_err-cut-clause-late : goal.returns-in_err-cut-clause-late
-returns-in_err-cut-clause-late g c = late_before c.args.self.now c.loop-line.self c.cut.new.self c.args.source.now c.loop-line.source (g.S.Source.left c.args.source.now) c.cut.ensures.counts c.loop-line.invariant.ready c.loop-line.invariant.last
+returns-in_err-cut-clause-late g c = late_before g.S.Source.given g.S.Source.asked c.args.self.now c.loop-line.self c.args.source.now c.loop-line.source (g.S.Source.left c.args.source.now) c.loop-line.invariant.late
 
 pub returns-then-branch-clause-late : goal.returns-then-branch-clause-late
-returns-then-branch-clause-late g c = late_before c.args.self.now c.loop-line.self c.cut.new.self c.args.source.now c.loop-line.source (g.S.Source.left c.args.source.now) c.cut.ensures.counts c.loop-line.invariant.ready c.loop-line.invariant.last
+returns-then-branch-clause-late g c = late_before g.S.Source.given g.S.Source.asked c.args.self.now c.loop-line.self c.args.source.now c.loop-line.source (g.S.Source.left c.args.source.now) c.loop-line.invariant.late
 
 pub returns-in-Ended-clause-late : goal.returns-in-Ended-clause-late
 returns-in-Ended-clause-late g c =
     let s = rest_scanned c.loop-line.line.items c.cut.new.line.items c.args.self.now c.loop-line.self c.cut.new.self (g.S.Source.left c.args.source.now) (g.S.Source.left c.loop-line.source) c.in_ok-cut.field-0
     c.loop-line.invariant.scanned c.cut.ensures.counts c.in_ok-cut.ensures.cut c.if-branch.false in
-    late_after _ c.args.self.now c.loop-line.self c.cut.new.self c.fill.new.self c.args.source.now c.loop-line.source c.fill.new.source _ _ s c.loop-line.invariant.ready c.fill.ensures.once
+    inr (late_after g.S.Source.given g.S.Source.asked _ c.args.self.now c.loop-line.self c.cut.new.self c.args.source.now c.loop-line.source c.fill.new.source _ _ s c.loop-line.invariant.late
+    (record { counted = omega (arith, c.loop-line.invariant.counted, c.cut.ensures.counts.taken); last = c.fill.ensures.asked; once = c.fill.ensures.once }))
 
 pub returns-in-Ended-2-clause-late : goal.returns-in-Ended-2-clause-late
 returns-in-Ended-2-clause-late g c =
     let s = rest_scanned c.loop-line.line.items c.cut.new.line.items c.args.self.now c.loop-line.self c.cut.new.self (g.S.Source.left c.args.source.now) (g.S.Source.left c.loop-line.source) c.in_ok-cut.field-0
     c.loop-line.invariant.scanned c.cut.ensures.counts c.in_ok-cut.ensures.cut c.if-branch.false in
-    late_after _ c.args.self.now c.loop-line.self c.cut.new.self c.fill.new.self c.args.source.now c.loop-line.source c.fill.new.source _ _ s c.loop-line.invariant.ready c.fill.ensures.once
+    inr (late_after g.S.Source.given g.S.Source.asked _ c.args.self.now c.loop-line.self c.cut.new.self c.args.source.now c.loop-line.source c.fill.new.source _ _ s c.loop-line.invariant.late
+    (record { counted = omega (arith, c.loop-line.invariant.counted, c.cut.ensures.counts.taken); last = c.fill.ensures.asked; once = c.fill.ensures.once }))
 
 pub returns-in-Failing-clause-late : goal.returns-in-Failing-clause-late
 returns-in-Failing-clause-late g c =
     let s = rest_scanned c.loop-line.line.items c.cut.new.line.items c.args.self.now c.loop-line.self c.cut.new.self (g.S.Source.left c.args.source.now) (g.S.Source.left c.loop-line.source) c.in_ok-cut.field-0
     c.loop-line.invariant.scanned c.cut.ensures.counts c.in_ok-cut.ensures.cut c.if-branch.false in
-    late_after _ c.args.self.now c.loop-line.self c.cut.new.self c.fill.new.self c.args.source.now c.loop-line.source c.fill.new.source _ _ s c.loop-line.invariant.ready c.fill.ensures.once
+    inr (late_after g.S.Source.given g.S.Source.asked _ c.args.self.now c.loop-line.self c.cut.new.self c.args.source.now c.loop-line.source c.fill.new.source _ _ s c.loop-line.invariant.late
+    (record { counted = omega (arith, c.loop-line.invariant.counted, c.cut.ensures.counts.taken); last = c.fill.ensures.asked; once = c.fill.ensures.once }))
 
 pub returns-in-Past-clause-late : goal.returns-in-Past-clause-late
 returns-in-Past-clause-late g c =
     let s = rest_scanned c.loop-line.line.items c.cut.new.line.items c.args.self.now c.loop-line.self c.cut.new.self (g.S.Source.left c.args.source.now) (g.S.Source.left c.loop-line.source) c.in_ok-cut.field-0
     c.loop-line.invariant.scanned c.cut.ensures.counts c.in_ok-cut.ensures.cut c.if-branch.false in
-    late_after _ c.args.self.now c.loop-line.self c.cut.new.self c.fill.new.self c.args.source.now c.loop-line.source c.fill.new.source _ _ s c.loop-line.invariant.ready c.fill.ensures.once
+    inr (late_after g.S.Source.given g.S.Source.asked _ c.args.self.now c.loop-line.self c.cut.new.self c.args.source.now c.loop-line.source c.fill.new.source _ _ s c.loop-line.invariant.late
+    (record { counted = omega (arith, c.loop-line.invariant.counted, c.cut.ensures.counts.taken); last = c.fill.ensures.asked; once = c.fill.ensures.once }))

@@ -1,14 +1,12 @@
 use Rattle.std.proofs.Common.{◌≡◌, ◌+◌, ◌-◌, ◌≤◌, IfSome}
-use Rattle.cm_outside.specs.Progress.{LastRead}
-use Rattle.cm_outside.proofs.Scanning.{Scanned, Ready}
+use Rattle.cm_outside.proofs.Scanning.{Scanned, Late}
 use Rattle.cm_outside.proofs.line_reader.LineReader.read_line.Given as goal
 
 abbrev pub invariant-loop-line : goal.invariant-loop-line
 invariant-loop-line g l = record {
   scanned : Scanned l.line.items l.initial.self l.self (g.S.Source.left l.initial.source) (g.S.Source.left l.source);
   counted : g.S.Source.given l.source + l.initial.self.taken ≡ g.S.Source.given l.initial.source + l.self.taken;
-  ready : Ready l.initial.self l.self l.initial.source l.source;
-  last : IfSome (g.S.Source.left l.initial.source) (LastRead l.initial.self l.self);
+  late : Late g.S.Source.given g.S.Source.asked l.initial.self l.self l.initial.source l.source (g.S.Source.left l.initial.source);
   later : g.S.Source.faults l.initial.source ≤ g.S.Source.faults l.source;
 }
 
