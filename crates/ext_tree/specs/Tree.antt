@@ -49,10 +49,11 @@ IsOlder n m = m < n
 abbrev pub IsArena : List Node → Type 0
 IsArena nodes = (n : ℕ) → n < length nodes → AllByRecursion (IsOlder n) (named (slice_get nodes n))
 
--- made: a node stands at the end of an arena, and its id is its place
+-- made: a node stands at the end of an arena, its id is its place, and each older node keeps its own
 pub record IsMade (old new : List Node) (id : ℕ) (node : Node) : Type 0 where
   pub id_is : id ≡ length old
   pub nodes_are : new ≡ old ++ node ∷ []
+  pub grows : (n : ℕ) (older : Node) → slice_get old n ≡ Some older → slice_get new n ≡ Some older
 
 -- older links: what each leaf is followed by is older than it
 abbrev pub AreLinksOlder : List Node → LinkLists → Type 0

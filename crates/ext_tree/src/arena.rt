@@ -1,5 +1,5 @@
 // The arena of nodes.
-ghost use Rattle.std.specs.Prelude.{◌≡◌, ◌<◌, ◌^◌, ◌++◌, ◌∷◌, [], length, slice_get, Some, None, OnOk, IfOk, OnErr, IfErr, IfSome};
+ghost use Rattle.std.specs.Prelude.{◌≡◌, ◌<◌, ◌^◌, ◌++◌, ◌∷◌, [], length, slice_get, take, Some, None, OnOk, IfOk, OnErr, IfErr, IfSome};
 ghost use Rattle.std.specs.List.{AllByRecursion};
 ghost use Rattle.ext_tree.specs.Tree.{IsArena, IsMade, IsOlder, named};
 ghost use Rattle.ext_tree.specs.Refusal.{unknown, refusal_of};
@@ -14,8 +14,8 @@ use crate::unknown::least_unknown;
 use std::alloc::Global;
 use std::marker::Model;
 
-/// An arena of nodes. It only grows, and each node names older nodes alone. Contracts see it as the list of its nodes;
-/// a node's id is its place.
+/// An arena of nodes. It grows at its end, and each node names older nodes alone; the latest nodes can be taken away again.
+/// Contracts see it as the list of its nodes; a node's id is its place.
 #[derive(Drop)]
 pub struct Arena {
     nodes: Vec<Node>,
@@ -157,5 +157,12 @@ impl Arena {
         ensures refuses { IfErr result (λ error. error ≡ NoMemory) }
     {
         self.add(Node::Init(field))
+    }
+
+    /// Takes away the nodes from a count on, which the caller made and gives up. Takes no memory.
+    pub fn truncate(&mut self, count: usize)
+        ensures { self.new ≡ take count self.old }
+    {
+        self.nodes.truncate(count);
     }
 }

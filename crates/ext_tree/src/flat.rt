@@ -1,9 +1,9 @@
 // The flat order of the extensions that some roots lead to.
-ghost use Rattle.std.specs.Prelude.{◌≡◌, IfOk, OnOk, IfErr, IfSome, Some, None};
+ghost use Rattle.std.specs.Prelude.{◌≡◌, length, IfOk, OnOk, IfErr, IfSome, Some, None};
 ghost use Rattle.std.specs.List.{AllByRecursion};
-ghost use Rattle.ext_tree.specs.Tree.{AreLinksOlder, tree_of};
+ghost use Rattle.ext_tree.specs.Tree.{AreLinksOlder, IsOlder, tree_of};
 ghost use Rattle.ext_tree.specs.Unfolding.{unfolding_of, UnfoldsOnce};
-ghost use Rattle.ext_tree.specs.Refusal.{first_refusal, refusal_of, slots_met};
+ghost use Rattle.ext_tree.specs.Refusal.{first_refusal, ids_of, refusal_of, slots_met};
 ghost use Rattle.ext_tree.specs.Flat.{flat_order};
 ghost use Rattle.ext_tree.specs.Taking.{flat};
 ghost use Rattle.ext_tree.specs.Marks.{IsWithin};
@@ -65,6 +65,7 @@ pub fn flatten(
     links: &Links,
 ) -> Result<Flat, ExtError>
     requires { AreLinksOlder arena.now links.now }
+    ensures known { OnOk result (AllByRecursion (IsOlder (length arena.now)) (ids_of (tree_of arena.now contents.now links.now) roots.now)) }
     ensures passes { OnOk result (first_refusal (tree_of arena.now contents.now links.now) roots.now ≡ None) }
     ensures order { IfOk result (λ found. found.order.items ≡ flat_order (tree_of arena.now contents.now links.now) roots.now) }
     ensures unfolds { OnOk result (UnfoldsOnce (tree_of arena.now contents.now links.now)) }

@@ -1,7 +1,7 @@
 //! The extension tree: an arena of nodes, and the flat order of the leaves that some roots lead to.
 //!
-//! A layer above may rely on this: an arena only grows, a node keeps its id and names older nodes alone. `flatten`
-//! answers the flat order of the plain unfolding, and the first slot node of each compartment that was met; or it is
+//! A layer above may rely on this: an arena grows at its end, a node keeps its id and names older nodes alone, and only
+//! the latest nodes can be taken away again. `flatten` answers the flat order of the plain unfolding, and the first slot node of each compartment that was met; or it is
 //! refused with the first of the causes that the definition names. It walks a node at most once for each precedence, and
 //! what a facet enables or a field provides no more often, which is not proved.
 #![tactic(auto)]

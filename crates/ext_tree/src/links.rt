@@ -1,5 +1,5 @@
 // What leaves are followed by.
-ghost use Rattle.std.specs.Prelude.{◌≡◌, ◌<◌, ◌++◌, ◌∷◌, [], length, set, Some, IfOk, OnOk, OnErr, true, false};
+ghost use Rattle.std.specs.Prelude.{◌≡◌, ◌<◌, ◌++◌, ◌∷◌, [], length, set, take, Some, IfOk, OnOk, OnErr, true, false};
 ghost use Rattle.std.specs.List.{AllByRecursion};
 ghost use Rattle.ext_tree.specs.Tree.{listed, linked, IsOlder, AreLinksOlder};
 ghost use Rattle.ext_tree.specs.Shared.{is_list_walked};
@@ -64,6 +64,13 @@ impl Links {
         ensures { self.new ≡ record { enabled = self.old.enabled; provided = set self.old.provided field nodes } }
     {
         self.provided[field as usize] = nodes;
+    }
+
+    /// Takes away the fields from a count on. Takes no memory.
+    pub fn truncate_fields(&mut self, count: usize)
+        ensures { self.new ≡ record { enabled = self.old.enabled; provided = take count self.old.provided } }
+    {
+        self.provided.truncate(count);
     }
 
     /// No marks on these lists, for a walk.

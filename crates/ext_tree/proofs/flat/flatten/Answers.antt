@@ -10,7 +10,7 @@ use Rattle.ext_tree.specs.declared.visit.Visit.{Visit}
 use Rattle.ext_tree.specs.Flat.{leaves}
 use Rattle.ext_tree.specs.Taking.{flat}
 use Rattle.ext_tree.specs.Refusal.{Refusal, refusal_of, refusal, first_refusal}
-use Rattle.ext_tree.proofs.Known.{IsKnownCall, known-call}
+use Rattle.ext_tree.proofs.Known.{IsKnownCall, all-known, known-call}
 use Rattle.ext_tree.proofs.Choosing.{flat-sorted}
 use Rattle.ext_tree.proofs.Enough.{unfold_once}
 use Rattle.ext_tree.proofs.flat.flatten.Goals as goal
@@ -58,3 +58,8 @@ returns-clause-unfolds c =
     subst (λ (ns : List Node). UnfoldsOnce (tree_of ns c.args.contents.now c.args.links.now)) c.nodes.ensures.nodes
     (unfold_once (tree_of c.nodes.result.now c.args.contents.now c.args.links.now)
     (called c.args.arena.now c.nodes.result.now c.args.contents.now c.args.links.now c.args.roots.now c.len.result c.nodes.ensures.nodes c.nodes.ensures.older c.requires c.len.ensures c.in_default.ensures).tree)
+
+pub returns-clause-known : goal.returns-clause-known
+returns-clause-known c =
+    let ids : List ℕ = c.args.roots.now ++ content_nodes c.args.contents.now in
+    all-known (length c.args.arena.now) ids (sym (subst (λ (n : ℕ). None ≡ least_unknown n ids) c.len.ensures c.in_default.ensures))

@@ -1,4 +1,4 @@
-use Rattle.std.proofs.Common.{◌≡◌, ◌<◌, ◌+◌, ◌∙◌, ℕ, zero, suc, List, [], ◌∷◌, drop, fold, refl, arith}
+use Rattle.std.proofs.Common.{◌≡◌, ◌<◌, ◌+◌, ◌∙◌, ℕ, zero, suc, List, drop, fold, refl, arith}
 use Rattle.ext_tree.specs.declared.visit.Visit.{Visit}
 use Rattle.ext_tree.specs.Flat.{levels}
 use Rattle.ext_tree.specs.Taking.{take_level}

@@ -6,7 +6,7 @@ use Rattle.ext_tree.specs.declared.visit.Visit.{Visit}
 use Rattle.ext_tree.specs.declared.task.Task.{Task}
 use Rattle.ext_tree.specs.declared.task.Task.TheVariants.{Enter, Leave}
 use Rattle.ext_tree.specs.declared.walk.Walk.{Walk}
-use Rattle.ext_tree.specs.Unfolding.{Occurrence, compartment_of, following, path_below}
+use Rattle.ext_tree.specs.Unfolding.{Occurrence, compartment_of, path_below}
 use Rattle.ext_tree.specs.Refusal.{Refusal, refusal_of, refused, refused_as, meet}
 use Rattle.ext_tree.specs.Flat.{leaf}
 use Rattle.ext_tree.specs.Memo.{is_walked}
