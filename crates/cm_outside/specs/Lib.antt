@@ -6,3 +6,6 @@ pub mod Sink
 pub mod Memory
 pub mod Progress
 pub mod Filling
+pub mod Files
+pub mod MemFiles
+pub mod Times

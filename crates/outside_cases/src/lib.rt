@@ -1,6 +1,8 @@
-//! Tests of lists, of the outside in memory, and of runs over lines.
+//! Tests of lists, of the outside in memory (sources, sinks, files, clocks), and of runs over lines.
 #![tactic(auto)]
 
+#[cfg(test)]
+mod files;
 #[cfg(test)]
 mod lists;
 #[cfg(test)]

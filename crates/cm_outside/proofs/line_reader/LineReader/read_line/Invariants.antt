@@ -1,4 +1,4 @@
-use Rattle.std.proofs.Common.{◌≡◌, ◌+◌, ◌-◌, ◌≤◌, IfSome}
+use Rattle.std.proofs.Common.{◌≡◌, ◌+◌, ◌-◌, ◌≤◌}
 use Rattle.cm_outside.proofs.Scanning.{Scanned, Late}
 use Rattle.cm_outside.proofs.line_reader.LineReader.read_line.Given as goal
 
