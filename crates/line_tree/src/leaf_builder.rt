@@ -255,7 +255,16 @@ impl LeafBuilder {
         Ok(())
     }
 
-    /// Adds some characters of a chunk, and shares it where it is added whole and has pieces enough.
+    /// Whether a chunk of so many pieces stays a chunk of its own: where one ends before it, or where the pieces since then are
+    /// too many to go into one with it.
+    fn stays_apart(&self, count: usize) -> bool {
+        if self.pieces.is_empty() && self.last.is_empty() {
+            return true;
+        }
+        count > CHUNK_LEN.saturating_sub(self.pieces.len())
+    }
+
+    /// Adds some characters of a chunk, and shares it where it is added whole and stays a chunk of its own.
     fn push_chunk_part(
         &mut self,
         chunk: &Chunk,
@@ -270,7 +279,7 @@ impl LeafBuilder {
             return Ok(());
         }
         let pieces = chunk.pieces();
-        if count == chunk.len() as usize && self.pieces.len() + pieces.len() > CHUNK_LEN / 2 {
+        if count == chunk.len() as usize && self.stays_apart(pieces.len()) {
             self.share_chunk(chunk)
         } else {
             self.push_pieces(pieces, from, count)
