@@ -218,7 +218,12 @@ impl LeafBuilder {
     }
 
     /// Adds some characters of a piece, and shares it where it is added whole and long enough.
-    fn push_part(&mut self, piece: &Piece, from: usize, count: usize) -> Result<(), AllocError>
+    fn push_piece_slice(
+        &mut self,
+        piece: &Piece,
+        from: usize,
+        count: usize,
+    ) -> Result<(), AllocError>
         requires within { from + count ≤ length piece.now }
         requires fits { length self.old + count < 2 ^ 32 }
         ensures { OnOk result (self.new ≡ self.old ++ take count (drop from piece.now)) }
@@ -248,7 +253,7 @@ impl LeafBuilder {
             let len = piece.len() as usize;
             let start = skip.min(len);
             let now = left.min(len - start);
-            self.push_part(piece, start, now)?;
+            self.push_piece_slice(piece, start, now)?;
             skip -= start;
             left -= now;
         }
@@ -265,7 +270,7 @@ impl LeafBuilder {
     }
 
     /// Adds some characters of a chunk, and shares it where it is added whole and stays a chunk of its own.
-    fn push_chunk_part(
+    fn push_chunk_slice(
         &mut self,
         chunk: &Chunk,
         from: usize,
@@ -287,7 +292,12 @@ impl LeafBuilder {
     }
 
     /// Adds some characters of a leaf.
-    pub(crate) fn push_leaf(&mut self, leaf: &Leaf, from: u32, count: u32) -> Result<(), AllocError>
+    pub(crate) fn push_leaf_slice(
+        &mut self,
+        leaf: &Leaf,
+        from: u32,
+        count: u32,
+    ) -> Result<(), AllocError>
         requires within { from + count ≤ length leaf.now }
         requires fits { length self.old + count < 2 ^ 32 }
         ensures { OnOk result (self.new ≡ self.old ++ take count (drop from leaf.now)) }
@@ -301,7 +311,7 @@ impl LeafBuilder {
             let len = chunk.len() as usize;
             let start = skip.min(len);
             let now = left.min(len - start);
-            self.push_chunk_part(chunk, start, now)?;
+            self.push_chunk_slice(chunk, start, now)?;
             skip -= start;
             left -= now;
         }
@@ -309,11 +319,11 @@ impl LeafBuilder {
     }
 
     /// Adds a leaf.
-    pub(crate) fn push_whole(&mut self, leaf: &Leaf) -> Result<(), AllocError>
+    pub(crate) fn push_leaf(&mut self, leaf: &Leaf) -> Result<(), AllocError>
         requires { length self.old + length leaf.now < 2 ^ 32 }
         ensures { OnOk result (self.new ≡ self.old ++ leaf.now) }
     {
-        self.push_leaf(leaf, 0, leaf.len())
+        self.push_leaf_slice(leaf, 0, leaf.len())
     }
 
     /// The leaf of what was added so far.
@@ -353,12 +363,12 @@ impl LeafBuilder {
 
 impl Leaf {
     /// Some of the characters, as a leaf of their own.
-    pub(crate) fn part(&self, from: u32, count: u32) -> Result<Leaf, AllocError>
+    pub(crate) fn slice(&self, from: u32, count: u32) -> Result<Leaf, AllocError>
         requires { from + count ≤ length self.now }
         ensures { IfOk result (λ l. l ≡ take count (drop from self.now)) }
     {
         let mut builder = LeafBuilder::new(self.alloc());
-        builder.push_leaf(self, from, count)?;
+        builder.push_leaf_slice(self, from, count)?;
         builder.finish()
     }
 }

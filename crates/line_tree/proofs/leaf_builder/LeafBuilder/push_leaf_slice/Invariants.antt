@@ -1,6 +1,6 @@
 use Rattle.std.proofs.Common.{◌≡◌, ◌++◌, ◌+◌, ◌<◌, ◌≤◌, ◌^◌, length, take, drop}
 use Rattle.std.specs.List.{concat}
-use Rattle.line_tree.proofs.leaf_builder.LeafBuilder.push_leaf.Given as goal
+use Rattle.line_tree.proofs.leaf_builder.LeafBuilder.push_leaf_slice.Given as goal
 
 abbrev pub invariant-loop-chunk : goal.invariant-loop-chunk
 invariant-loop-chunk l = record {
