@@ -20,12 +20,7 @@ fn run_len(is_taken: bool, count: u32, text_len: u32) -> u32
 
 /// How long the new text of a half is over the deleted characters of a section from one place to another, where its text is
 /// counted already. So many ranges end at or before the first place; how many end at or before the second is answered first.
-fn runs_len(
-    by: Filter,
-    known: usize,
-    from: u32,
-    end: u32,
-) -> (usize, u64)
+fn runs_len(by: Filter, known: usize, from: u32, end: u32) -> (usize, u64)
     requires order { from ≤ end }
     requires within { end ≤ by.len }
     requires ended { HasEnded by.ranges.now known from }
@@ -47,13 +42,7 @@ fn runs_len(
 }
 
 /// The same over a section that deletes characters, with its text.
-fn deletion_len(
-    by: Filter,
-    known: usize,
-    at: u32,
-    gone: u32,
-    text: &InsertedText,
-) -> (usize, u64)
+fn deletion_len(by: Filter, known: usize, at: u32, gone: u32, text: &InsertedText) -> (usize, u64)
     requires some { 0 < gone }
     requires within { at + gone ≤ by.len }
     requires ended { HasEnded by.ranges.now known at }
@@ -71,12 +60,7 @@ fn deletion_len(
 }
 
 /// The same over a section.
-fn section_len(
-    by: Filter,
-    known: usize,
-    at: u32,
-    section: &Section<InsertedText>,
-) -> (usize, u64)
+fn section_len(by: Filter, known: usize, at: u32, section: &Section<InsertedText>) -> (usize, u64)
     requires within { at + old_of section.now ≤ by.len }
     requires apart { Apart 0 by.ranges.now }
     requires ended { HasEnded by.ranges.now known at }
