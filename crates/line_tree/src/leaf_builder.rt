@@ -291,20 +291,15 @@ impl LeafBuilder {
         }
     }
 
-    /// Adds some characters of a leaf.
-    pub(crate) fn push_leaf_slice(
-        &mut self,
-        leaf: &Leaf,
-        from: u32,
-        count: u32,
-    ) -> Result<(), AllocError>
-        requires within { from + count ≤ length leaf.now }
+    /// Adds some characters of chunks in a row.
+    fn push_chunks(&mut self, chunks: &[Chunk], from: usize, count: usize) -> Result<(), AllocError>
+        requires within { from + count ≤ length (concat chunks.now) }
         requires fits { length self.old + count < 2 ^ 32 }
-        ensures { OnOk result (self.new ≡ self.old ++ take count (drop from leaf.now)) }
+        ensures { OnOk result (self.new ≡ self.old ++ take count (drop from (concat chunks.now))) }
     {
-        let mut skip = from as usize;
-        let mut left = count as usize;
-        for chunk in &leaf.chunks {
+        let mut skip = from;
+        let mut left = count;
+        for chunk in chunks {
             if left == 0 {
                 return Ok(());
             }
@@ -316,6 +311,26 @@ impl LeafBuilder {
             left -= now;
         }
         Ok(())
+    }
+
+    /// Adds some characters of a leaf.
+    pub(crate) fn push_leaf_slice(
+        &mut self,
+        leaf: &Leaf,
+        from: u32,
+        count: u32,
+    ) -> Result<(), AllocError>
+        requires within { from + count ≤ length leaf.now }
+        requires fits { length self.old + count < 2 ^ 32 }
+        ensures { OnOk result (self.new ≡ self.old ++ take count (drop from leaf.now)) }
+    {
+        let chunked = leaf.len as usize - leaf.last.len();
+        let start = (from as usize).min(chunked);
+        let now = (count as usize).min(chunked - start);
+        self.push_chunks(leaf.chunks.as_slice(), start, now)?;
+        let skip = from as usize - start;
+        let rest = count as usize - now;
+        self.push_all(&leaf.last.as_slice()[skip..skip + rest])
     }
 
     /// Adds a leaf.
@@ -331,9 +346,11 @@ impl LeafBuilder {
         ensures { IfOk result (λ l. l ≡ self.now) }
     {
         let mut chunks = copied(&self.chunks)?;
-        push_chunk(&mut chunks, self.pieces.as_slice(), self.last.as_slice())?;
+        push_chunk(&mut chunks, self.pieces.as_slice(), &[])?;
+        let last = Vec::from_slice(*self.last.allocator(), self.last.as_slice())?;
         Ok(Leaf {
             chunks,
+            last,
             len: self.len,
             breaks: self.breaks,
         })
@@ -352,9 +369,10 @@ impl LeafBuilder {
             len,
             breaks,
         } = self;
-        push_chunk(&mut chunks, pieces.as_slice(), last.as_slice())?;
+        push_chunk(&mut chunks, pieces.as_slice(), &[])?;
         Ok(Leaf {
             chunks,
+            last,
             len,
             breaks,
         })
