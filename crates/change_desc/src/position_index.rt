@@ -56,7 +56,7 @@ impl<'a> PositionIndex<'a> {
     }
 }
 
-/// The sections that end before each section of a description, and those that end before its end.
+/// For each section of a description, the sections that stand before it.
 fn beginnings(alloc: Global, sections: &[Section<u32>]) -> Result<Vec<Passed>, AllocError>
     requires { IsSet counted sections.now }
     ensures { IfOk result (λ all. All (ArePassed sections.now) all.items) }

@@ -7,7 +7,7 @@ use Rattle.change_desc.specs.declared.section.Section.TheVariants.{Keep, Replace
 use Rattle.change_desc.specs.Sections.{old_of}
 use Rattle.change_set.specs.declared.place.Place.{Place}
 use Rattle.change_set.specs.Texts.{kept_marks, marked}
-use Rattle.change_set.specs.Places.{marks_at, first_len, IsPlace, kept_part}
+use Rattle.change_set.specs.Places.{marks_at, first_len, IsPlace, kept_count}
 
 -- lists of one mark
 length-replicate : {A : Type 0} (n : ℕ) (a : A) → length (replicate n a) ≡ n
@@ -70,9 +70,9 @@ passes s p q x rest k e f l o h g b (inr c) = record {
   is_place = rw (b c) (record { index = omega arith; offset = omega arith });
 }
 
-kept_part-takes : (x : Section ℕ) (k n : ℕ) (m : List Bool) → k ≤ n → marked (take n (replicate k (keeps x) ++ m)) ≡ kept_part k x + marked (take (n - k) m)
-kept_part-takes (Keep j) k n m h = marked-past k n m h
-kept_part-takes (Replace j t) k n m h = unmarked-past k n m h ∙ omega arith
+kept_count-takes : (x : Section ℕ) (k n : ℕ) (m : List Bool) → k ≤ n → marked (take n (replicate k (keeps x) ++ m)) ≡ kept_count k x + marked (take (n - k) m)
+kept_count-takes (Keep j) k n m h = marked-past k n m h
+kept_count-takes (Replace j t) k n m h = unmarked-past k n m h ∙ omega arith
 
 -- there is a section where characters are left
 pub more_left : (s : List (Section ℕ)) (p : Place) (n : ℕ) → 0 < n → n ≤ length (marks_at s p) → p.index < length s
@@ -89,12 +89,12 @@ pub record StepOn (s : List (Section ℕ)) (p q : Place) (rest k stretch : ℕ) 
   pub kept : stretch + marked (take (rest - k) (marks_at s q)) ≡ marked (take rest (marks_at s p))
   pub few : stretch ≤ k
 
-kept_part-few : (x : Section ℕ) (k : ℕ) → kept_part k x ≤ k
-kept_part-few (Keep n) k = omega arith
-kept_part-few (Replace n t) k = omega arith
+kept_count-few : (x : Section ℕ) (k : ℕ) → kept_count k x ≤ k
+kept_count-few (Keep n) k = omega arith
+kept_count-few (Replace n t) k = omega arith
 
 pub step_on : (s : List (Section ℕ)) (p q : Place) (rest k stretch old : ℕ) → 0 < rest → IsPlace s p → rest ≤ length (marks_at s p) →
-    old ≡ old_of (get_or s p.index (Keep 0)) → k ≡ min (old - p.offset) rest → stretch ≡ kept_part k (get_or s p.index (Keep 0)) →
+    old ≡ old_of (get_or s p.index (Keep 0)) → k ≡ min (old - p.offset) rest → stretch ≡ kept_count k (get_or s p.index (Keep 0)) →
     (k < old - p.offset → q ≡ record { index = p.index; offset = p.offset + k }) → (old - p.offset ≤ k → q ≡ record { index = p.index + 1; offset = 0 }) → StepOn s p q rest k stretch
 step_on s p q rest k stretch old a i w o m t g b =
     let x : Section ℕ = get_or s p.index (Keep 0) in
@@ -108,6 +108,6 @@ step_on s p q rest k stretch old a i w o m t g b =
       is_place = h.is_place;
       within = omega (arith, ap length h.takes, length-append (replicate k (keeps x)) (marks_at s q), length-replicate k (keeps x));
       left = sym (drop-past k rest (keeps x) (marks_at s q) l) ∙ ap (drop rest) (sym h.takes);
-      kept = ap (λ r. r + marked (take (rest - k) (marks_at s q))) t ∙ (sym (kept_part-takes x k rest (marks_at s q) l) ∙ ap (λ r. marked (take rest r)) (sym h.takes));
-      few = rw t (kept_part-few x k);
+      kept = ap (λ r. r + marked (take (rest - k) (marks_at s q))) t ∙ (sym (kept_count-takes x k rest (marks_at s q) l) ∙ ap (λ r. marked (take rest r)) (sym h.takes));
+      few = rw t (kept_count-few x k);
     }

@@ -21,6 +21,6 @@ pub record IsPlace (s : List (Section ℕ)) (place : Place) : Type 0 where
   pub offset : place.offset ≤ first_len (drop place.index s)
 
 -- how many of the next characters of a section are kept
-abbrev pub kept_part : ℕ → Section ℕ → ℕ
-kept_part n (Keep m) = n
-kept_part n (Replace m t) = 0
+abbrev pub kept_count : ℕ → Section ℕ → ℕ
+kept_count n (Keep m) = n
+kept_count n (Replace m t) = 0

@@ -218,10 +218,10 @@ impl ChangeSet {
     pub fn filter(&self, protected: &[(u32, u32)]) -> Result<Filtered, AllocError>
         requires kept_fits { new_size spelled (filter_kept spelled protected.now self.now) < 2 ^ 32 }
         requires dropped_fits { new_size spelled (filter_dropped spelled protected.now self.now) < 2 ^ 32 }
-        ensures kept { IfOk result (λ parts. parts.kept ≡ filter_kept spelled protected.now self.now) }
-        ensures dropped { IfOk result (λ parts. parts.dropped ≡ filter_dropped spelled protected.now self.now) }
-        ensures kept_starts { IfOk result (λ parts. old_size parts.kept ≡ old_size self.now) }
-        ensures dropped_starts { IfOk result (λ parts. old_size parts.dropped ≡ old_size self.now) }
+        ensures kept { IfOk result (λ halves. halves.kept ≡ filter_kept spelled protected.now self.now) }
+        ensures dropped { IfOk result (λ halves. halves.dropped ≡ filter_dropped spelled protected.now self.now) }
+        ensures kept_starts { IfOk result (λ halves. old_size halves.kept ≡ old_size self.now) }
+        ensures dropped_starts { IfOk result (λ halves. old_size halves.dropped ≡ old_size self.now) }
     {
         let ranges = joined(*self.sections.allocator(), protected)?;
         let kept = self.half(Half::Kept, ranges.as_slice())?;

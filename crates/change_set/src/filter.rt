@@ -13,12 +13,12 @@ use line_tree::Text;
 use smallvec::SmallVec;
 use std::alloc::{AllocError, Global};
 
-/// The half that is made, of a document of `len` characters of which these ranges are protected.
+/// What a filter goes by: the half that it gives, and the protected ranges of a document of `len` characters.
 #[derive(Clone, Copy, Drop)]
-struct Taker<'a> {
-    half: Half,
-    ranges: &'a [(u32, u32)],
-    len: u32,
+pub(crate) struct Filter<'a> {
+    pub(crate) half: Half,
+    pub(crate) ranges: &'a [(u32, u32)],
+    pub(crate) len: u32,
 }
 
 /// Puts a run of deleted characters after what is done of a half: their deletion with a text, or characters that are kept.
@@ -45,7 +45,7 @@ fn push_run(
 fn push_runs(
     alloc: Global,
     done: &mut SmallVec<Section<InsertedText>, 8>,
-    by: Taker,
+    by: Filter,
     known: usize,
     from: u32,
     end: u32,
@@ -77,7 +77,7 @@ fn push_runs(
 fn push_deletion(
     alloc: Global,
     done: &mut SmallVec<Section<InsertedText>, 8>,
-    by: Taker,
+    by: Filter,
     known: usize,
     at: u32,
     count: u32,
@@ -107,7 +107,7 @@ fn push_deletion(
 fn push_filtered(
     alloc: Global,
     done: &mut SmallVec<Section<InsertedText>, 8>,
-    by: Taker,
+    by: Filter,
     known: usize,
     at: u32,
     section: &Section<InsertedText>,
@@ -154,7 +154,7 @@ pub(crate) fn filtered(
     requires room { HasRoom (half_from (taking half ranges.now len) [] 0 sections.now) }
     ensures { IfOk result (λ done. done.items ≡ half_from (taking half ranges.now len) [] 0 sections.now) }
 {
-    let by = Taker { half, ranges, len };
+    let by = Filter { half, ranges, len };
     let mut done = SmallVec::new(alloc);
     let mut at = 0;
     let mut known = 0;

@@ -1,6 +1,6 @@
 ghost use Rattle.std.specs.Prelude.{◌≡◌, ◌<◌, ◌≤◌, ◌+◌, ◌^◌, length, drop, take};
 ghost use Rattle.change_desc.specs.Sections.{old_of, old_size};
-ghost use Rattle.change_set.specs.Places.{IsPlace, kept_part, marks_at};
+ghost use Rattle.change_set.specs.Places.{IsPlace, kept_count, marks_at};
 ghost use Rattle.change_set.specs.Texts.{marked};
 
 use change_desc::Section;
@@ -13,8 +13,8 @@ pub(crate) struct Place {
 }
 
 /// How many of the next characters of a section are kept.
-fn kept_part(section: &Section<u32>, count: u32) -> u32
-    ensures { result ≡ kept_part count section.now }
+fn kept_count(section: &Section<u32>, count: u32) -> u32
+    ensures { result ≡ kept_count count section.now }
 {
     match section {
         Section::Keep(_) => count,
@@ -39,7 +39,7 @@ impl Place {
             let section = &sections[place.index];
             let left = section.old_len() - place.offset;
             let step = left.min(rest);
-            kept += kept_part(section, step);
+            kept += kept_count(section, step);
             place = place.beyond(step, left);
             rest -= step;
         }

@@ -11,3 +11,4 @@ pub mod LineOf
 pub mod Encoding
 pub mod Cutting
 pub mod Replacing
+pub mod Rows

@@ -4,7 +4,7 @@ use Rattle.std.proofs.Math.Nat.{eq-or-lt_of_le}
 use Rattle.std.proofs.lemmas.List.{append-nil, take_more, take_all, length-take, length-drop, take-append-drop, take_rest}
 use Rattle.line_tree.specs.Text.{TextView}
 use Rattle.line_tree.specs.Parts.{after_break, joined, HaveHeight}
-use Rattle.line_tree.specs.Places.{before_break, AddsPieces, AddsBoth, IsLevel}
+use Rattle.line_tree.specs.Places.{before_break, AddsTexts, AddsBoth, IsLevel}
 
 after_break-append : (xs ys : List TextView) → after_break (xs ++ ys) ≡ after_break xs ++ after_break ys
 after_break-append [] ys = refl
@@ -121,14 +121,14 @@ part_lengths parts k pos l =
     ap length (split_parts parts k pos l) ∙ omega (arith, length-append (joined (take k parts)) (10 ∷ joined (drop k parts)))
 
 pub adds_two : (h : ℕ) (cs : List ℕ) (old mid new : List TextView) (f b : TextView) → f.height ≡ h → b.height ≡ h → cs ≡ f.characters ++ 10 ∷ b.characters
-    → mid ≡ old ++ f ∷ [] → new ≡ mid ++ b ∷ [] → AddsPieces h cs old new
+    → mid ≡ old ++ f ∷ [] → new ≡ mid ++ b ∷ [] → AddsTexts h cs old new
 adds_two h cs old mid new f b fh bh e one two = record {
-  pieces = f ∷ b ∷ [];
+  texts = f ∷ b ∷ [];
   added = two ∙ ap (λ r. r ++ b ∷ []) one ∙ append_assoc old (f ∷ []) (b ∷ []);
   some = omega arith;
   few = omega arith;
   same = (fh, (bh, tt));
-  whole = two_joined f b ∙ sym e;
+  joins = two_joined f b ∙ sym e;
 }
 
 -- What holds where the last part of one text and the first part of another are put together.
@@ -187,8 +187,8 @@ seam left right height lefts rights last first is pos one two last_is first_is =
     let r = side right height rights 0 first pos (omega arith) two (two.some) first_is in
     let prefix = take (length lefts - 1) lefts in
     let suffix = drop 1 rights in
-    let left_is : joined (prefix ++ last ∷ []) ≡ left.characters = ap joined (all_but_last lefts last one.some last_is) ∙ one.whole in
-    let right_is : joined (first ∷ suffix) ≡ right.characters = ap joined (all_but_first rights first two.some first_is) ∙ two.whole in
+    let left_is : joined (prefix ++ last ∷ []) ≡ left.characters = ap joined (all_but_last lefts last one.some last_is) ∙ one.joins in
+    let right_is : joined (first ∷ suffix) ≡ right.characters = ap joined (all_but_first rights first two.some first_is) ∙ two.joins in
     record {
       prefix = l.prefix;
       suffix = r.suffix;
@@ -209,21 +209,21 @@ pub sewn : (left : TextView) (between : List ℕ) (right : TextView) (height : �
     → start ≡ [] → before ≡ start ++ take (length lefts - 1) lefts → AddsBoth last between first before after
     → new ≡ after ++ take (length rights - 1) (drop 1 rights) → Sewn left between right height new
 sewn left between right height lefts rights last first start before after new s start_is before_is adds new_is =
-    let e : new ≡ (take (length lefts - 1) lefts ++ adds.pieces) ++ drop 1 rights =
-    new_is ∙ ap (λ r. after ++ r) (take_rest rights 1) ∙ ap (λ r. r ++ drop 1 rights) (adds.added ∙ ap (λ r. r ++ adds.pieces) (before_is ∙ ap (λ r. r ++ take (length lefts - 1) lefts) start_is)) in
+    let e : new ≡ (take (length lefts - 1) lefts ++ adds.texts) ++ drop 1 rights =
+    new_is ∙ ap (λ r. after ++ r) (take_rest rights 1) ∙ ap (λ r. r ++ drop 1 rights) (adds.added ∙ ap (λ r. r ++ adds.texts) (before_is ∙ ap (λ r. r ++ take (length lefts - 1) lefts) start_is)) in
     record {
       same = subst (λ r. HaveHeight (height - 1) r) (sym e)
-          (HaveHeight-append (height - 1) (take (length lefts - 1) lefts ++ adds.pieces) (drop 1 rights)
-          (HaveHeight-append (height - 1) (take (length lefts - 1) lefts) adds.pieces s.prefix (subst (λ n. HaveHeight n adds.pieces) s.middle adds.same)) s.suffix);
-      whole = ap joined e ∙ s.whole adds.pieces between adds.some adds.whole;
+          (HaveHeight-append (height - 1) (take (length lefts - 1) lefts ++ adds.texts) (drop 1 rights)
+          (HaveHeight-append (height - 1) (take (length lefts - 1) lefts) adds.texts s.prefix (subst (λ n. HaveHeight n adds.texts) s.middle adds.same)) s.suffix);
+      whole = ap joined e ∙ s.whole adds.texts between adds.some adds.joins;
     }
 
-pub adds_same : (h k : ℕ) (cs ds : List ℕ) (old new : List TextView) → h ≡ k → cs ≡ ds → AddsPieces h cs old new → AddsPieces k ds old new
+pub adds_same : (h k : ℕ) (cs ds : List ℕ) (old new : List TextView) → h ≡ k → cs ≡ ds → AddsTexts h cs old new → AddsTexts k ds old new
 adds_same h k cs ds old new e f adds = record {
-  pieces = adds.pieces;
+  texts = adds.texts;
   added = adds.added;
   some = adds.some;
   few = adds.few;
-  same = subst (λ n. HaveHeight n adds.pieces) e adds.same;
-  whole = adds.whole ∙ f;
+  same = subst (λ n. HaveHeight n adds.texts) e adds.same;
+  joins = adds.joins ∙ f;
 }

@@ -32,21 +32,21 @@ pub record PartHoldsBreak (parts : List TextView) (before index from breaks : �
   pub ends : before ≤ breaks + count_breaks (part_of parts index).characters
 
 -- One or two texts of this height were added to a list, and joined they are these characters.
-pub record AddsPieces (height : ℕ) (characters : List ℕ) (old new : List TextView) : Type 0 where
-  pub pieces : List TextView
-  pub added : new ≡ old ++ pieces
-  pub some : 0 < length pieces
-  pub few : length pieces ≤ 2
-  pub same : HaveHeight height pieces
-  pub whole : joined pieces ≡ characters
+pub record AddsTexts (height : ℕ) (characters : List ℕ) (old new : List TextView) : Type 0 where
+  pub texts : List TextView
+  pub added : new ≡ old ++ texts
+  pub some : 0 < length texts
+  pub few : length texts ≤ 2
+  pub same : HaveHeight height texts
+  pub joins : joined texts ≡ characters
 
 -- the same of two texts and what stands between them: no character, or a break
 abbrev pub AddsBoth : TextView → List ℕ → TextView → List TextView → List TextView → Type 0
-AddsBoth left between right old new = AddsPieces (max left.height right.height) (left.characters ++ (between ++ right.characters)) old new
+AddsBoth left between right old new = AddsTexts (max left.height right.height) (left.characters ++ (between ++ right.characters)) old new
 
 -- the parts of a text of this height, or else the text alone
 pub record IsLevel (text : TextView) (height : ℕ) (parts : List TextView) : Type 0 where
-  pub whole : joined parts ≡ text.characters
+  pub joins : joined parts ≡ text.characters
   pub some : 0 < length parts
   pub few : length parts ≤ 32
   pub alone : text.height < height → parts ≡ text ∷ []

@@ -206,9 +206,9 @@ impl TextBuilder {
         let _fits = leaf.len();
         let breaks = leaf.breaks_before(from + count) - leaf.breaks_before(from);
         if self.last.breaks() + breaks > 63 {
-            return self.push_tree(&make_leaf(self.alloc, leaf.part(from, count)?)?);
+            return self.push_tree(&make_leaf(self.alloc, leaf.slice(from, count)?)?);
         }
-        match self.last.push_leaf(leaf, from, count) {
+        match self.last.push_leaf_slice(leaf, from, count) {
             Ok(()) => {
                 self.len += count;
                 Ok(())
@@ -237,9 +237,9 @@ impl TextBuilder {
         requires { length self.old + length text.now.characters < 2 ^ 32 }
         ensures { OnOk result (self.new ≡ self.old ++ text.now.characters) }
     {
-        let whole = self.followed_by(text)?;
-        self.len = whole.len();
-        self.done = Done::Open(whole);
+        let all = self.followed_by(text)?;
+        self.len = all.len();
+        self.done = Done::Open(all);
         self.last = LeafBuilder::new(self.alloc);
         Ok(())
     }

@@ -8,7 +8,7 @@ use std::alloc::{AllocError, Global};
 use std::marker::Model;
 use std::rc::Rc;
 
-/// The greatest number of pieces that are put into one chunk.
+/// How many pieces a chunk takes, and at most one more: of the characters that stand after them.
 pub(crate) const CHUNK_LEN: usize = 64;
 
 /// Some pieces that leaves share. The numbers of their characters stand beside them, so that looking for a place in a

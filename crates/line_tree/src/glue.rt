@@ -55,8 +55,8 @@ fn glue_leaves(left: &Text, right: &Text, out: &mut Vec<Text>) -> Result<(), All
     };
     let alloc = left.alloc();
     let mut builder = LeafBuilder::new(alloc);
-    builder.push_whole(left)?;
-    builder.push_whole(right)?;
+    builder.push_leaf(left)?;
+    builder.push_leaf(right)?;
     add_lines(alloc, builder.finish()?, out)
 }
 
@@ -88,9 +88,9 @@ pub(crate) fn append_glued(left: &Text, right: &Text) -> Result<Text, AllocError
     ensures { IfOk result (λ t. t.characters ≡ left.now.characters ++ right.now.characters) }
 {
     let alloc = left.alloc();
-    let mut pieces = Vec::new(alloc);
-    glue(left, right, &mut pieces)?;
-    one_text(alloc, pieces, left.levels().max(right.levels()))
+    let mut texts = Vec::new(alloc);
+    glue(left, right, &mut texts)?;
+    one_text(alloc, texts, left.levels().max(right.levels()))
 }
 
 /// The characters of both with a break between.
@@ -99,9 +99,9 @@ pub(crate) fn append_lines(left: &Text, right: &Text) -> Result<Text, AllocError
     ensures { IfOk result (λ t. t.characters ≡ left.now.characters ++ line_feed ∷ right.now.characters) }
 {
     let alloc = left.alloc();
-    let mut pieces = Vec::new(alloc);
-    join(left, right, &mut pieces)?;
-    one_text(alloc, pieces, left.levels().max(right.levels()))
+    let mut texts = Vec::new(alloc);
+    join(left, right, &mut texts)?;
+    one_text(alloc, texts, left.levels().max(right.levels()))
 }
 
 /// The first `count` parts and then the text, each on lines of its own.
@@ -160,9 +160,9 @@ pub(crate) fn replace_lines(
 {
     let alloc = leaf.alloc();
     let mut builder = LeafBuilder::new(alloc);
-    builder.push_leaf(leaf, 0, from)?;
-    builder.push_whole(inserted)?;
-    builder.push_leaf(leaf, to, leaf.len() - to)?;
+    builder.push_leaf_slice(leaf, 0, from)?;
+    builder.push_leaf(inserted)?;
+    builder.push_leaf_slice(leaf, to, leaf.len() - to)?;
     lines_of_leaf(alloc, builder.finish()?)
 }
 
@@ -172,7 +172,7 @@ fn lines_of_leaf(alloc: Global, leaf: Leaf) -> Result<Text, AllocError>
     requires fits { length leaf < 2 ^ 32 }
     ensures { IfOk result (λ t. t.characters ≡ leaf) }
 {
-    let mut pieces = Vec::new(alloc);
-    add_lines(alloc, leaf, &mut pieces)?;
-    one_text(alloc, pieces, 0)
+    let mut texts = Vec::new(alloc);
+    add_lines(alloc, leaf, &mut texts)?;
+    one_text(alloc, texts, 0)
 }

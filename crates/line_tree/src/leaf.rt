@@ -4,29 +4,30 @@ ghost use Rattle.line_tree.specs.Breaks.{count_breaks, IsBreakAt};
 ghost use Rattle.line_tree.specs.Pieces.{HoldsPlace, HoldsBreak};
 
 use crate::chunk::Chunk;
-use crate::piece::Found;
+use crate::piece::{Found, break_place_in, breaks_in};
 use std::alloc::Global;
 use std::marker::Model;
 
-/// The characters of some lines, in chunks of pieces that other leaves may share: an edit in a long line copies a piece,
-/// the list of one chunk and the list of chunks.
+/// The characters of some lines: in chunks of pieces that other leaves may share, and then a row of its own, so that a short
+/// text takes no chunk. An edit in a long line copies a piece, the list of one chunk, the list of chunks and that row.
 #[derive(Drop)]
 pub(crate) struct Leaf {
     pub(crate) chunks: Vec<Chunk>,
+    pub(crate) last: Vec<char>,
     pub(crate) len: u32,
     pub(crate) breaks: u32,
 }
 
 impl Model for Leaf {
-    ghost use Rattle.std.specs.Prelude.{List, ℕ};
+    ghost use Rattle.std.specs.Prelude.{◌++◌, List, ℕ};
     ghost use Rattle.std.specs.List.{concat};
     ghost use Rattle.line_tree.specs.Breaks.{IsCounted};
 
     ghost Value = { List ℕ };
 
-    ghost view = { λ l. concat l.chunks.items };
+    ghost view = { λ l. concat l.chunks.items ++ l.last.items };
 
-    ghost invariant = { λ l. IsCounted (concat l.chunks.items) l.len l.breaks };
+    ghost invariant = { λ l. IsCounted (concat l.chunks.items ++ l.last.items) l.len l.breaks };
 }
 
 /// The chunk that has the character at a place.
@@ -74,6 +75,38 @@ fn chunk_of_break(chunks: &[Chunk], before: u32) -> Found
     unreachable!()
 }
 
+/// How many breaks stand before a place.
+fn breaks_to(chunks: &[Chunk], pos: u32) -> u32
+    requires within { pos < length (concat chunks.now) }
+    requires fits { length (concat chunks.now) < 2 ^ 32 }
+    ensures { result ≡ count_breaks (take pos (concat chunks.now)) }
+{
+    let found = chunk_at(chunks, pos);
+    found.breaks + chunks[found.index].breaks_before(pos - found.from)
+}
+
+/// The place of the break after so many others.
+fn place_of_break(chunks: &[Chunk], before: u32) -> u32
+    requires within { before < count_breaks (concat chunks.now) }
+    requires fits { length (concat chunks.now) < 2 ^ 32 }
+    ensures { IsBreakAt (concat chunks.now) before result }
+{
+    let found = chunk_of_break(chunks, before);
+    found.from + chunks[found.index].break_place(before - found.breaks)
+}
+
+/// Some of the characters from a place on: those of a piece.
+fn run_in(chunks: &[Chunk], pos: u32) -> &[char]
+    requires within { pos < length (concat chunks.now) }
+    requires fits { length (concat chunks.now) < 2 ^ 32 }
+    ensures some { 0 < length result.now }
+    ensures run { result.now ≡ take (length result.now) (drop pos (concat chunks.now)) }
+    ensures short { pos + length result.now ≤ length (concat chunks.now) }
+{
+    let found = chunk_at(chunks, pos);
+    chunks[found.index].run_at(pos - found.from)
+}
+
 impl Leaf {
     pub(crate) fn alloc(&self) -> Global {
         *self.chunks.allocator()
@@ -96,11 +129,11 @@ impl Leaf {
         requires { pos ≤ length self.now }
         ensures { result ≡ count_breaks (take pos self.now) }
     {
-        if pos == self.len {
-            return self.breaks;
+        let start = self.len - self.last.len() as u32;
+        if pos < start {
+            return breaks_to(self.chunks.as_slice(), pos);
         }
-        let found = chunk_at(self.chunks.as_slice(), pos);
-        found.breaks + self.chunks[found.index].breaks_before(pos - found.from)
+        self.breaks - breaks_in(&self.last.as_slice()[(pos - start) as usize..])
     }
 
     /// The place of the break after so many others.
@@ -108,18 +141,25 @@ impl Leaf {
         requires { before < count_breaks self.now }
         ensures { IsBreakAt self.now before result }
     {
-        let found = chunk_of_break(self.chunks.as_slice(), before);
-        found.from + self.chunks[found.index].break_place(before - found.breaks)
+        let first = self.breaks - breaks_in(self.last.as_slice());
+        if before < first {
+            return place_of_break(self.chunks.as_slice(), before);
+        }
+        let start = self.len - self.last.len() as u32;
+        start + break_place_in(self.last.as_slice(), before - first) as u32
     }
 
-    /// Some of the characters from a place on: those of a piece.
+    /// Some of the characters from a place on: those of a piece, or of the last row.
     pub(crate) fn run_at(&self, pos: u32) -> &[char]
         requires { pos < length self.now }
         ensures some { 0 < length result.now }
         ensures run { result.now ≡ take (length result.now) (drop pos self.now) }
         ensures short { pos + length result.now ≤ length self.now }
     {
-        let found = chunk_at(self.chunks.as_slice(), pos);
-        self.chunks[found.index].run_at(pos - found.from)
+        let start = self.len - self.last.len() as u32;
+        if pos < start {
+            return run_in(self.chunks.as_slice(), pos);
+        }
+        &self.last.as_slice()[(pos - start) as usize..]
     }
 }

@@ -218,7 +218,12 @@ impl LeafBuilder {
     }
 
     /// Adds some characters of a piece, and shares it where it is added whole and long enough.
-    fn push_part(&mut self, piece: &Piece, from: usize, count: usize) -> Result<(), AllocError>
+    fn push_piece_slice(
+        &mut self,
+        piece: &Piece,
+        from: usize,
+        count: usize,
+    ) -> Result<(), AllocError>
         requires within { from + count ≤ length piece.now }
         requires fits { length self.old + count < 2 ^ 32 }
         ensures { OnOk result (self.new ≡ self.old ++ take count (drop from piece.now)) }
@@ -248,15 +253,24 @@ impl LeafBuilder {
             let len = piece.len() as usize;
             let start = skip.min(len);
             let now = left.min(len - start);
-            self.push_part(piece, start, now)?;
+            self.push_piece_slice(piece, start, now)?;
             skip -= start;
             left -= now;
         }
         Ok(())
     }
 
-    /// Adds some characters of a chunk, and shares it where it is added whole and has pieces enough.
-    fn push_chunk_part(
+    /// Whether a chunk of so many pieces stays a chunk of its own: where one ends before it, or where the pieces since then are
+    /// too many to go into one with it.
+    fn stays_apart(&self, count: usize) -> bool {
+        if self.pieces.is_empty() && self.last.is_empty() {
+            return true;
+        }
+        count > CHUNK_LEN.saturating_sub(self.pieces.len())
+    }
+
+    /// Adds some characters of a chunk, and shares it where it is added whole and stays a chunk of its own.
+    fn push_chunk_slice(
         &mut self,
         chunk: &Chunk,
         from: usize,
@@ -270,41 +284,61 @@ impl LeafBuilder {
             return Ok(());
         }
         let pieces = chunk.pieces();
-        if count == chunk.len() as usize && self.pieces.len() + pieces.len() > CHUNK_LEN / 2 {
+        if count == chunk.len() as usize && self.stays_apart(pieces.len()) {
             self.share_chunk(chunk)
         } else {
             self.push_pieces(pieces, from, count)
         }
     }
 
-    /// Adds some characters of a leaf.
-    pub(crate) fn push_leaf(&mut self, leaf: &Leaf, from: u32, count: u32) -> Result<(), AllocError>
-        requires within { from + count ≤ length leaf.now }
+    /// Adds some characters of chunks in a row.
+    fn push_chunks(&mut self, chunks: &[Chunk], from: usize, count: usize) -> Result<(), AllocError>
+        requires within { from + count ≤ length (concat chunks.now) }
         requires fits { length self.old + count < 2 ^ 32 }
-        ensures { OnOk result (self.new ≡ self.old ++ take count (drop from leaf.now)) }
+        ensures { OnOk result (self.new ≡ self.old ++ take count (drop from (concat chunks.now))) }
     {
-        let mut skip = from as usize;
-        let mut left = count as usize;
-        for chunk in &leaf.chunks {
+        let mut skip = from;
+        let mut left = count;
+        for chunk in chunks {
             if left == 0 {
                 return Ok(());
             }
             let len = chunk.len() as usize;
             let start = skip.min(len);
             let now = left.min(len - start);
-            self.push_chunk_part(chunk, start, now)?;
+            self.push_chunk_slice(chunk, start, now)?;
             skip -= start;
             left -= now;
         }
         Ok(())
     }
 
+    /// Adds some characters of a leaf.
+    pub(crate) fn push_leaf_slice(
+        &mut self,
+        leaf: &Leaf,
+        from: u32,
+        count: u32,
+    ) -> Result<(), AllocError>
+        requires within { from + count ≤ length leaf.now }
+        requires fits { length self.old + count < 2 ^ 32 }
+        ensures { OnOk result (self.new ≡ self.old ++ take count (drop from leaf.now)) }
+    {
+        let chunked = leaf.len as usize - leaf.last.len();
+        let start = (from as usize).min(chunked);
+        let now = (count as usize).min(chunked - start);
+        self.push_chunks(leaf.chunks.as_slice(), start, now)?;
+        let skip = from as usize - start;
+        let rest = count as usize - now;
+        self.push_all(&leaf.last.as_slice()[skip..skip + rest])
+    }
+
     /// Adds a leaf.
-    pub(crate) fn push_whole(&mut self, leaf: &Leaf) -> Result<(), AllocError>
+    pub(crate) fn push_leaf(&mut self, leaf: &Leaf) -> Result<(), AllocError>
         requires { length self.old + length leaf.now < 2 ^ 32 }
         ensures { OnOk result (self.new ≡ self.old ++ leaf.now) }
     {
-        self.push_leaf(leaf, 0, leaf.len())
+        self.push_leaf_slice(leaf, 0, leaf.len())
     }
 
     /// The leaf of what was added so far.
@@ -312,9 +346,11 @@ impl LeafBuilder {
         ensures { IfOk result (λ l. l ≡ self.now) }
     {
         let mut chunks = copied(&self.chunks)?;
-        push_chunk(&mut chunks, self.pieces.as_slice(), self.last.as_slice())?;
+        push_chunk(&mut chunks, self.pieces.as_slice(), &[])?;
+        let last = Vec::from_slice(*self.last.allocator(), self.last.as_slice())?;
         Ok(Leaf {
             chunks,
+            last,
             len: self.len,
             breaks: self.breaks,
         })
@@ -333,9 +369,10 @@ impl LeafBuilder {
             len,
             breaks,
         } = self;
-        push_chunk(&mut chunks, pieces.as_slice(), last.as_slice())?;
+        push_chunk(&mut chunks, pieces.as_slice(), &[])?;
         Ok(Leaf {
             chunks,
+            last,
             len,
             breaks,
         })
@@ -344,12 +381,12 @@ impl LeafBuilder {
 
 impl Leaf {
     /// Some of the characters, as a leaf of their own.
-    pub(crate) fn part(&self, from: u32, count: u32) -> Result<Leaf, AllocError>
+    pub(crate) fn slice(&self, from: u32, count: u32) -> Result<Leaf, AllocError>
         requires { from + count ≤ length self.now }
         ensures { IfOk result (λ l. l ≡ take count (drop from self.now)) }
     {
         let mut builder = LeafBuilder::new(self.alloc());
-        builder.push_leaf(self, from, count)?;
+        builder.push_leaf_slice(self, from, count)?;
         builder.finish()
     }
 }

@@ -383,7 +383,7 @@ impl Text {
         ensures { IfOk result (λ t. t.characters ≡ take pos self.now.characters) }
     {
         match &*self.node {
-            Node::Leaf(leaf) => make_leaf(leaf.alloc(), leaf.part(0, pos)?),
+            Node::Leaf(leaf) => make_leaf(leaf.alloc(), leaf.slice(0, pos)?),
             Node::Branch(branch) => {
                 let found = part_at(branch.parts.as_slice(), pos);
                 let part = branch.parts[found.index].prefix(pos - found.from)?;
@@ -403,7 +403,7 @@ impl Text {
         ensures { IfOk result (λ t. t.characters ≡ drop pos self.now.characters) }
     {
         match &*self.node {
-            Node::Leaf(leaf) => make_leaf(leaf.alloc(), leaf.part(pos, leaf.len() - pos)?),
+            Node::Leaf(leaf) => make_leaf(leaf.alloc(), leaf.slice(pos, leaf.len() - pos)?),
             Node::Branch(branch) => {
                 let found = part_at(branch.parts.as_slice(), pos);
                 let part = branch.parts[found.index].suffix(pos - found.from)?;

@@ -1,7 +1,7 @@
 ghost use Rattle.std.specs.Prelude.{◌≡◌, ◌++◌, ◌+◌, ◌^◌, ◌<◌, ◌≤◌, length, IfOk, OnOk};
 ghost use Rattle.line_tree.specs.Breaks.{count_breaks};
 ghost use Rattle.line_tree.specs.Parts.{joined, HaveHeight};
-ghost use Rattle.line_tree.specs.Places.{AddsPieces};
+ghost use Rattle.line_tree.specs.Places.{AddsTexts};
 
 use crate::leaf::Leaf;
 use crate::parts::{breaks_of, len_of};
@@ -46,15 +46,15 @@ pub(crate) fn make_branch(alloc: Global, parts: Vec<Text>, height: u32) -> Resul
 pub(crate) fn add_lines(alloc: Global, leaf: Leaf, out: &mut Vec<Text>) -> Result<(), AllocError>
     requires few { count_breaks leaf < 127 }
     requires fits { length leaf < 2 ^ 32 }
-    ensures { OnOk result (AddsPieces 0 leaf out.old.items out.new.items) }
+    ensures { OnOk result (AddsTexts 0 leaf out.old.items out.new.items) }
 {
     if leaf.breaks() < 64 {
         out.push(make_leaf(alloc, leaf)?)?;
         return Ok(());
     }
     let place = leaf.break_place(leaf.breaks() / 2);
-    let prefix = leaf.part(0, place)?;
-    let suffix = leaf.part(place + 1, leaf.len() - place - 1)?;
+    let prefix = leaf.slice(0, place)?;
+    let suffix = leaf.slice(place + 1, leaf.len() - place - 1)?;
     out.push(make_leaf(alloc, prefix)?)?;
     out.push(make_leaf(alloc, suffix)?)?;
     Ok(())
@@ -71,7 +71,7 @@ pub(crate) fn add_level(
     requires few { length parts.items ≤ 64 }
     requires same { HaveHeight height parts.items }
     requires fits { length (joined parts.items) < 2 ^ 32 }
-    ensures { OnOk result (AddsPieces (height + 1) (joined parts.items) out.old.items out.new.items) }
+    ensures { OnOk result (AddsTexts (height + 1) (joined parts.items) out.old.items out.new.items) }
 {
     if parts.len() <= 32 {
         out.push(make_branch(alloc, parts, height)?)?;
@@ -95,21 +95,17 @@ pub(crate) fn add_copies(parts: &[Text], out: &mut Vec<Text>) -> Result<(), Allo
 }
 
 /// One or two texts of one height, as one text.
-pub(crate) fn one_text(
-    alloc: Global,
-    mut pieces: Vec<Text>,
-    height: u32,
-) -> Result<Text, AllocError>
-    requires some { 0 < length pieces.items }
-    requires few { length pieces.items ≤ 2 }
-    requires same { HaveHeight height pieces.items }
-    requires fits { length (joined pieces.items) < 2 ^ 32 }
-    ensures { IfOk result (λ t. t.characters ≡ joined pieces.items) }
+pub(crate) fn one_text(alloc: Global, mut texts: Vec<Text>, height: u32) -> Result<Text, AllocError>
+    requires some { 0 < length texts.items }
+    requires few { length texts.items ≤ 2 }
+    requires same { HaveHeight height texts.items }
+    requires fits { length (joined texts.items) < 2 ^ 32 }
+    ensures { IfOk result (λ t. t.characters ≡ joined texts.items) }
 {
-    if pieces.len() == 2 {
-        return make_branch(alloc, pieces, height);
+    if texts.len() == 2 {
+        return make_branch(alloc, texts, height);
     }
-    match pieces.pop() {
+    match texts.pop() {
         Some(piece) => Ok(piece),
         None => unreachable!(),
     }

@@ -5,9 +5,9 @@ use Rattle.change_set.proofs.filter_len.deletion_len.Goals as goal
 
 pub returns-clause-sum : goal.returns-clause-sum
 returns-clause-sum c =
-    let half = c.args.half in
-    let rs = c.args.ranges.now in
-    let len = c.args.len in
+    let half = c.args.by.half in
+    let rs = c.args.by.ranges.now in
+    let len = c.args.by.len in
     let at = c.args.at in
     let to = c.run_from-run.result.to in
     let b = c.takes-is_taken.result in

@@ -9,8 +9,8 @@ use Rattle.change_set.proofs.filter_len.half_len.Given as goal
 abbrev pub invariant-loop-section : goal.invariant-loop-section
 invariant-loop-section l =
     record {
-      level : l.at + old_size (drop l.section-index l.sections) ≡ l.len;
-      ended : HasEnded l.ranges l.known l.at;
-      sum : l.sum + new_size spelled (pieced (taking l.half l.ranges l.len) l.at (along_old spelled (drop l.section-index l.sections))) ≡
-          new_size spelled (pieced (taking l.half l.ranges l.len) 0 (along_old spelled l.sections));
+      level : l.at + old_size (drop l.section-index l.sections) ≡ l.by.len;
+      ended : HasEnded l.by.ranges.now l.known l.at;
+      sum : l.sum + new_size spelled (pieced (taking l.by.half l.by.ranges.now l.by.len) l.at (along_old spelled (drop l.section-index l.sections))) ≡
+          new_size spelled (pieced (taking l.by.half l.by.ranges.now l.by.len) 0 (along_old spelled l.sections));
     }

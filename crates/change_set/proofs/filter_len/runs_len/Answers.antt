@@ -6,9 +6,9 @@ use Rattle.change_set.proofs.filter_len.runs_len.Goals as goal
 
 pub runs-preserved : goal.runs-preserved
 runs-preserved c =
-    let half = c.args.half in
-    let rs = c.args.ranges.now in
-    let len = c.args.len in
+    let half = c.args.by.half in
+    let rs = c.args.by.ranges.now in
+    let len = c.args.by.len in
     let pos = c.runs.pos in
     let to = c.run_from-run.result.to in
     let end = c.args.end in

@@ -11,10 +11,10 @@ invariant-runs l =
     record {
       from : l.from ≤ l.pos;
       order : l.pos ≤ l.end;
-      ended : HasEnded l.ranges l.count l.pos;
+      ended : HasEnded l.by.ranges.now l.count l.pos;
       few : l.sum ≤ l.pos - l.from;
-      sum : (s : Sections) → l.sum + new_size spelled (pieced (taking l.half l.ranges l.len) l.pos (times spelled (l.end - l.pos) follows (along_old spelled s))) ≡
-          new_size spelled (pieced (taking l.half l.ranges l.len) l.from (times spelled (l.end - l.from) follows (along_old spelled s)));
+      sum : (s : Sections) → l.sum + new_size spelled (pieced (taking l.by.half l.by.ranges.now l.by.len) l.pos (times spelled (l.end - l.pos) follows (along_old spelled s))) ≡
+          new_size spelled (pieced (taking l.by.half l.by.ranges.now l.by.len) l.from (times spelled (l.end - l.from) follows (along_old spelled s)));
     }
 
 abbrev pub decreases-runs : goal.decreases-runs

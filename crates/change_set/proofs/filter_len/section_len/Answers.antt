@@ -7,14 +7,14 @@ use Rattle.change_set.proofs.filter_len.section_len.Goals as goal
 
 pub returns-in-Keep-clause-sum : goal.returns-in-Keep-clause-sum
 returns-in-Keep-clause-sum c =
-    over c.args.half c.args.ranges.now c.args.len c.args.at c.args.section.now (Keep c.in-Keep.kept) c.from.result c.in-Keep.is
-    (λ s. let e = len_keep c.args.half c.args.ranges.now c.args.len c.args.at c.in-Keep.kept s in omega (arith, e, c.from.ensures))
+    over c.args.by.half c.args.by.ranges.now c.args.by.len c.args.at c.args.section.now (Keep c.in-Keep.kept) c.from.result c.in-Keep.is
+    (λ s. let e = len_keep c.args.by.half c.args.by.ranges.now c.args.by.len c.args.at c.in-Keep.kept s in omega (arith, e, c.from.ensures))
 
 pub returns-then-takes-clause-sum : goal.returns-then-takes-clause-sum
 returns-then-takes-clause-sum c =
-    let half = c.args.half in
-    let rs = c.args.ranges.now in
-    let len = c.args.len in
+    let half = c.args.by.half in
+    let rs = c.args.by.ranges.now in
+    let len = c.args.by.len in
     let at = c.args.at in
     let t = c.in-Replace.text in
     let k : c.in-Replace.gone ≡ 0 = omega (arith, c.if-gone-gt0.false) in
@@ -24,9 +24,9 @@ returns-then-takes-clause-sum c =
 
 pub returns-else-takes-clause-sum : goal.returns-else-takes-clause-sum
 returns-else-takes-clause-sum c =
-    let half = c.args.half in
-    let rs = c.args.ranges.now in
-    let len = c.args.len in
+    let half = c.args.by.half in
+    let rs = c.args.by.ranges.now in
+    let len = c.args.by.len in
     let at = c.args.at in
     let t = c.in-Replace.text in
     let k : c.in-Replace.gone ≡ 0 = omega (arith, c.if-gone-gt0.false) in

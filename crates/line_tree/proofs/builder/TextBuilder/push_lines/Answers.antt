@@ -11,14 +11,14 @@ overflow_sub-breaks c = omega (arith, c.breaks_before.ensures, c.breaks_before-2
 
 pub make_leaf-requires-clause-few : goal.make_leaf-requires-clause-few
 make_leaf-requires-clause-few c =
-    rw c.in_ok-part.ensures (omega (arith, count_take (drop c.args.from c.args.leaf.now) c.args.count, count_drop c.args.leaf.now c.args.from, c.requires.few))
+    rw c.in_ok-slice.ensures (omega (arith, count_take (drop c.args.from c.args.leaf.now) c.args.count, count_drop c.args.leaf.now c.args.from, c.requires.few))
 
 pub invariant_of-self : goal.invariant_of-self
 invariant_of-self c =
     let part = take c.args.count (drop c.args.from c.args.leaf.now) in
     let done = characters_of c.self.inside.done in
     let last = c.self.inside.last in
-    let new = c.push_leaf.new.self in
+    let new = c.push_leaf_slice.new.self in
     let added : new ≡ last ++ part = c.in-Ok.ensures in (
       omega (
         arith,

@@ -1,15 +1,23 @@
-use Rattle.std.proofs.Common.{length, ap, arith}
-use Rattle.line_tree.proofs.Concats.{at_break}
+use Rattle.std.proofs.Common.{◌≡◌, ◌+◌, ◌-◌, ◌++◌, length, ap, subst, arith, length-append}
+use Rattle.std.specs.List.{concat}
+use Rattle.line_tree.specs.Breaks.{count_breaks, IsBreakAt}
+use Rattle.line_tree.proofs.Counts.{count-append}
+use Rattle.line_tree.proofs.Rows.{break_second}
 use Rattle.line_tree.proofs.leaf.Leaf.break_place.Goals as goal
-
-pub overflow_add-result : goal.overflow_add-result
-overflow_add-result c =
-    let found = c.chunk_of_break-found.result in
-    let a = at_break c.args.self.now c.self.inside.chunks.items c.as_slice.result.now c.args.before found.index found.from found.breaks c.index.result.now c.self.view_is c.as_slice.ensures.value c.chunk_of_break-found.ensures c.index.ensures in
-    omega (arith, a.fits, c.self.invariant.fits, ap length c.self.view_is, c.break_place.ensures.within)
 
 pub returns : goal.returns
 returns c =
-    let found = c.chunk_of_break-found.result in
-    let a = at_break c.args.self.now c.self.inside.chunks.items c.as_slice.result.now c.args.before found.index found.from found.breaks c.index.result.now c.self.view_is c.as_slice.ensures.value c.chunk_of_break-found.ensures c.index.ensures in
-    a.there c.break_place.result c.break_place.ensures
+    let first = concat c.self.inside.chunks.items in
+    let last = c.self.inside.last.items in
+    let inside = c.args.before - (c.self.inside.breaks - c.breaks_in.result) in
+    let place = c.break_place_in.result in
+    let counted : c.self.inside.breaks - c.breaks_in.result ≡ count_breaks first =
+    omega (arith, c.breaks_in.ensures, ap count_breaks c.as_slice.ensures.value, count-append first last, c.self.invariant.breaks_is) in
+    let start : c.self.inside.len - c.len.result ≡ length first = omega (arith, c.self.invariant.len_is, length-append first last, c.len.ensures) in
+    let there : IsBreakAt last inside place = subst (λ t. IsBreakAt t inside place) c.as_slice-2.ensures.value c.break_place_in.ensures in
+    let one : IsBreakAt (first ++ last) (count_breaks first + inside) (length first + place) = break_second first last inside place there in
+    let before : count_breaks first + inside ≡ c.args.before = omega (arith, counted, c.if-before-first.false) in
+    let at : length first + place ≡ c.self.inside.len - c.len.result + place = omega (arith, start) in
+    let two = subst (λ k. IsBreakAt (first ++ last) k (length first + place)) before one in
+    let three = subst (λ k. IsBreakAt (first ++ last) c.args.before k) at two in
+    subst (λ t. IsBreakAt t c.args.before (c.self.inside.len - c.len.result + place)) c.self.view_is three

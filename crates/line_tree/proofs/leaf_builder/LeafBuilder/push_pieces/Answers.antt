@@ -14,7 +14,7 @@ loop-piece-preserved c =
     let start = c.min-start.result in
     let more : concat (drop i ps) ≡ v ++ rest = ap concat (drop_more ps i v c.loop-piece-test.true ∙ ap (λ w. w ∷ drop (i + 1) ps) (sym c.piece-item.is)) in
     let w = window v rest c.loop-piece.skip c.loop-piece.left start now (omega (arith, c.len-len.ensures)) (omega (arith, c.len-len.ensures)) in
-    let added = c.in_ok-push_part.ensures in
+    let added = c.in_ok-push_piece_slice.ensures in
     record {
       value = ap (λ r. r ++ take (c.loop-piece.left - now) (drop (c.loop-piece.skip - start) rest)) added
           ∙ append_assoc c.loop-piece.self (take now (drop start v)) (take (c.loop-piece.left - now) (drop (c.loop-piece.skip - start) rest))

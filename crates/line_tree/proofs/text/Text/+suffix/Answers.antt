@@ -12,7 +12,7 @@ pub make_leaf-requires-clause-few : goal.make_leaf-requires-clause-few
 make_leaf-requires-clause-few t c =
     let leaf = c.in-Leaf.leaf in
     let f = at_leaf c.self.inside.node.value leaf c.args.self.now c.self.view_is c.self.invariant (sym c.deref.ensures ∙ c.in-Leaf.is) in
-    rw c.in_ok-part-in-Leaf.ensures (omega (arith, count_take (drop c.args.pos leaf) (c.len.result - c.args.pos), count_drop leaf c.args.pos, f.sound.few))
+    rw c.in_ok-slice-in-Leaf.ensures (omega (arith, count_take (drop c.args.pos leaf) (c.len.result - c.args.pos), count_drop leaf c.args.pos, f.sound.few))
 
 pub before_parts-requires-clause-fits : goal.before_parts-requires-clause-fits
 before_parts-requires-clause-fits t c =
