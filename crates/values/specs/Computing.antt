@@ -1,16 +1,14 @@
--- The shipped rules that compute an input of a facet, and those that compute several (manual: Facet.compute, Facet.computeN).
-use Rattle.std.specs.Prelude.{ℕ, ◌-◌, ℤ, pos, List, [], ◌∷◌, map, length, slice_get, filter_map, Option, Some, None, option_map}
+-- The shipped rules that compute an input of a facet (manual: Facet.compute).
+use Rattle.std.specs.Prelude.{ℕ, ℤ, pos, List, [], ◌∷◌, length, slice_get, filter_map, Option, option_map}
 use Rattle.std.specs.Option.{option_and_then, unwrap_or}
 use Rattle.line_tree.specs.Lines.{line_texts}
-use Rattle.cm_plain.specs.Datum.{Datum}
 use Rattle.cm_plain.specs.Form.{Form, any, ranges}
-use Rattle.cm_plain.specs.declared.plain.Plain.TheVariants as plain
 use Rattle.selection.specs.declared.range.Range.{Range}
 use Rattle.selection.specs.Selections.{SelectionView}
 use Rattle.values.specs.declared.val.Val.{Val}
-use Rattle.values.specs.declared.val.Val.TheVariants.{Plain, Ranges}
+use Rattle.values.specs.declared.val.Val.TheVariants.{Ranges}
 use Rattle.values.specs.Views.{DepsView}
-use Rattle.values.specs.Reading.{row, any_int, sum_of, int, nothing, number_in, value_of, ranges_in, first_read, first_plain}
+use Rattle.values.specs.Reading.{row, any_int, sum_of, int, nothing, number_in, ranges_in, first_read, first_plain}
 
 -- a length as a value, or 0
 abbrev pub length_or_zero : Option ℕ → Val
@@ -65,33 +63,4 @@ compute_output n =
     ∷ (4, any)
     ∷ (5, any_int)
     ∷ (6, ranges)
-    ∷ [])
-
--- the length of each line, none where the document isn't declared
-abbrev pub line_lengths : DepsView → List Val
-line_lengths deps = map (λ line. int (pos (length line))) (unwrap_or (option_map line_texts deps.document) [])
-
--- the items of a value that is a list
-abbrev pub items_in : Val → List Datum
-items_in (Plain (plain.List items)) = items
-items_in v = []
-
--- the items of the first read where it is a list
-abbrev pub first_items : DepsView → List Val
-first_items deps = map (λ d. Plain (value_of d)) (items_in (unwrap_or (first_read deps) nothing))
-
--- Compute a list: by the rule's number.
-abbrev pub compute_list : ℕ → DepsView → List Val
-compute_list n =
-    row n first_items
-    ((1, line_lengths)
-    ∷ (2, first_items)
-    ∷ [])
-
--- what each item is
-abbrev pub list_output : ℕ → Form
-list_output n =
-    row n any
-    ((1, any_int)
-    ∷ (2, any)
     ∷ [])

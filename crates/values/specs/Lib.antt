@@ -7,6 +7,7 @@ pub use Rattle.transaction.specs.Numbers
 pub use Rattle.configuration.specs.Present
 pub use Rattle.ext_tree.specs.Links
 pub use Rattle.ext_tree.specs.Tree
+pub mod InRange
 pub mod Vals
 pub mod Views
 pub mod Transactions
@@ -16,10 +17,13 @@ pub mod Equality
 pub mod Combining
 pub mod Comparing
 pub mod Computing
+pub mod ListComputing
 pub mod Creating
 pub mod Updating
 pub mod EffectMapping
 pub mod Guarding
+pub mod Filtering
+pub mod Extending
 pub mod Shipped
 pub mod Numbered
 pub mod Stored

@@ -1,6 +1,6 @@
 -- Words that the tables of shipped rules share: rows by number, whole numbers, and what is read of values.
 use Rattle.std.specs.Prelude.{ℕ, zero, suc, ◌-◌, Bool, true, false, cond, eqb, ltb, ℤ, pos, negsuc, List, [], ◌∷◌, map, fold, filter_map, slice_get, Option, Some, None}
-use Rattle.std.specs.Option.{option_flatten, unwrap_or}
+use Rattle.std.specs.Option.{option_and_then, option_flatten, unwrap_or}
 use Rattle.std.specs.Int.{saturate_signed, w64}
 use Rattle.std.specs.Prelude.{◌+ℤ◌, ◌≡◌, refl}
 use Rattle.std.proofs.Common.{ap}
@@ -63,9 +63,23 @@ abbrev pub plain_or_unit : Val → PlainData
 plain_or_unit (Plain p) = p
 plain_or_unit v = plain.Unit
 
+-- the items of a value that is a list
+abbrev pub items_in : Val → List Datum
+items_in (Plain (plain.List items)) = items
+items_in v = []
+
 -- Item: a plain value as an item of a list; one of the greatest depth stands as Unit.
 abbrev pub item : PlainData → Datum
 item p = cond (ltb (depth (datum_of p)) max_depth) (datum_of p) unit
+
+-- a whole number as a place, if it is at least 0 and fits 32 bits
+abbrev pub place_in : ℤ → Option ℕ
+place_in (pos n) = cond (ltb n 4294967296) (Some n) None
+place_in (negsuc n) = None
+
+-- two whole numbers as two places
+abbrev pub places_in : ℤ × ℤ → Option (ℕ × ℕ)
+places_in (from, to) = option_and_then (λ p. option_and_then (λ q. Some (p, q)) (place_in to)) (place_in from)
 
 -- the set that a value is, or none
 abbrev pub ranges_in : Val → List (Ranged Deco)

@@ -4,11 +4,14 @@ use Rattle.transaction.specs.Numbers.{IsNumber}
 use Rattle.values.specs.Rules.{Rules}
 use Rattle.values.specs.Combining.{combine, combine_input, combine_output}
 use Rattle.values.specs.Comparing.{compare}
-use Rattle.values.specs.Computing.{compute, compute_output, compute_list, list_output}
+use Rattle.values.specs.Computing.{compute, compute_output}
+use Rattle.values.specs.ListComputing.{compute_list, list_output}
 use Rattle.values.specs.Creating.{create, create_output}
 use Rattle.values.specs.Updating.{update, update_shape}
 use Rattle.values.specs.EffectMapping.{map_effect}
-use Rattle.values.specs.Guarding.{guard, filter, extend}
+use Rattle.values.specs.Guarding.{guard}
+use Rattle.values.specs.Filtering.{filter}
+use Rattle.values.specs.Extending.{extend}
 
 -- Shipped: the rules by their tables.
 abbrev pub shipped : Rules

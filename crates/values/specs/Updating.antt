@@ -1,6 +1,6 @@
 -- The shipped rules that update a field (manual: StateFieldSpec.update). Each is given the old value, the transaction, and what
 -- the field reads in the new state.
-use Rattle.std.specs.Prelude.{ℕ, Bool, true, false, cond, ◌&&◌, leb, ltb, ℤ, pos, negsuc, List, [], ◌∷◌, ◌++◌, map, fold, filter, filter_map, reverse, length, codes, Option, Some, None}
+use Rattle.std.specs.Prelude.{ℕ, Bool, true, false, cond, ◌&&◌, nat_lt, nat_le, ℤ, pos, List, [], ◌∷◌, ◌++◌, map, fold, filter_map, length, codes, Option, Some, None}
 use Rattle.std.specs.Option.{option_and_then, option_or, unwrap_or}
 use Rattle.std.specs.Prelude.{option_map}
 use Rattle.std.specs.List.{list_any, find}
@@ -13,10 +13,9 @@ use Rattle.cm_plain.specs.Form.{Form, any, lists, ranges, history, same_text}
 use Rattle.cm_plain.specs.declared.plain.Plain.{Plain as PlainData}
 use Rattle.cm_plain.specs.declared.plain.Plain.TheVariants as plain
 use Rattle.kept_effects.specs.MappedValues.{two_numbers, ends_in}
-use Rattle.stable_order.specs.StableSort.{stable_sort}
 use Rattle.range_set.specs.declared.ranged.Ranged.{Ranged}
-use Rattle.range_set.specs.Order.{before}
 use Rattle.range_set.specs.Mapping.{map_ranges}
+use Rattle.range_set.specs.Updating.{updated}
 use Rattle.decoration.specs.declared.deco.Deco.{Deco}
 use Rattle.decoration.specs.declared.deco.Deco.TheVariants as deco
 use Rattle.decoration.specs.declared.style.Style.{Style}
@@ -34,9 +33,8 @@ use Rattle.values.specs.declared.val.Val.{Val}
 use Rattle.values.specs.declared.val.Val.TheVariants.{Plain, Ranges, Layers, History}
 use Rattle.values.specs.Vals.{plain_of}
 use Rattle.values.specs.Views.{DepsView, TransactionView}
-use Rattle.values.specs.Reading.{row, any_int, plus, int, item, ranges_in, first_read, first_plain, number_in}
+use Rattle.values.specs.Reading.{row, any_int, plus, int, item, items_in, place_in, places_in, ranges_in, first_read, first_plain, number_in}
 use Rattle.values.specs.Combining.{pair_in}
-use Rattle.values.specs.Computing.{items_in}
 
 abbrev pub DecoRanges : Type 0
 DecoRanges = List (Ranged Deco)
@@ -59,9 +57,13 @@ last_or old ps = fold (λ v p. Plain p) old ps
 abbrev pub last_effect : Val → TransactionView → DepsView → Val
 last_effect old t deps = last_or old (plain_values t.effects)
 
--- the ranges of a set that end within a document of this length
+-- whether a range lies in a document of this length
+abbrev pub is_within : ℕ → Ranged Deco → Bool
+is_within len r = nat_le r.from len && nat_le r.to len
+
+-- the ranges of a set that lie in a document of this length
 abbrev pub kept_within : ℕ → DecoRanges → DecoRanges
-kept_within len rs = filter (λ r. leb r.from len && leb r.to len) rs
+kept_within len rs = updated deco_rules (is_within len) rs []
 
 -- Mapped set: a set without the ranges that end past the start document, over the changes.
 abbrev pub mapped_set : TransactionView → DecoRanges → DecoRanges
@@ -69,7 +71,7 @@ mapped_set t rs = map_ranges deco_rules (lengths spelled t.changes) (kept_within
 
 -- a set with one more range, which stands after those of its place
 abbrev pub with_range : DecoRanges → Ranged Deco → DecoRanges
-with_range rs r = stable_sort (before deco_rules) (rs ++ r ∷ [])
+with_range rs r = updated deco_rules (λ q. true) rs (r ∷ [])
 
 -- and with the ranges that effects make, in their order
 abbrev pub with_ranges : (ShownEffect → Option (Ranged Deco)) → DecoRanges → List ShownEffect → DecoRanges
@@ -84,13 +86,12 @@ abbrev pub reversed : Deco
 reversed = deco.Mark (record { style = record { fg = None; bg = None; bold = false; underline = false; reverse = true }; inclusive = record { start = false; end = false } })
 
 -- the mark between two places of a document of this length, unless it is empty or reaches out
-abbrev pub mark_between : ℕ → ℤ × ℤ → Option (Ranged Deco)
-mark_between len (pos from, pos to) = cond (ltb from to && leb to len) (Some (record { from = from; to = to; value = reversed })) None
-mark_between len ends = None
+abbrev pub mark_between : ℕ → ℕ × ℕ → Option (Ranged Deco)
+mark_between len (from, to) = cond (nat_lt from to && nat_le to len) (Some (record { from = from; to = to; value = reversed })) None
 
 -- the mark that an effect makes: its value is a list of the two ends
 abbrev pub mark_of : ℕ → ShownEffect → Option (Ranged Deco)
-mark_of len e = option_and_then (mark_between len) (pair_in e.value)
+mark_of len e = option_and_then (mark_between len) (option_and_then places_in (pair_in e.value))
 
 -- Marks: the old set mapped, emptied where an effect is Unit; then the marks that effects make.
 abbrev pub marks : Val → TransactionView → DepsView → Val
@@ -103,21 +104,24 @@ abbrev pub bold_line : ℕ → Ranged Deco
 bold_line place = record { from = place; to = place; value = deco.Line (record { fg = None; bg = None; bold = true; underline = false; reverse = false }) }
 
 -- one at the start of a line of a document
-abbrev pub line_at : List ℕ → ℤ → Option (Ranged Deco)
-line_at document (pos place) = cond (is_line_start document place) (Some (bold_line place)) None
-line_at document (negsuc n) = None
+abbrev pub line_at : List ℕ → ℕ → Option (Ranged Deco)
+line_at document place = cond (is_line_start document place) (Some (bold_line place)) None
 
 -- the line decoration that an effect makes: its value is the start of a line of the declared document
 abbrev pub line_of : Option (List ℕ) → ShownEffect → Option (Ranged Deco)
-line_of document e = option_and_then (λ cs. option_and_then (line_at cs) (number_in e.value)) document
+line_of document e = option_and_then (λ cs. option_and_then (line_at cs) (option_and_then place_in (number_in e.value))) document
 
 -- Marked lines: the old set mapped; then the line decorations that effects make.
 abbrev pub marked_lines : Val → TransactionView → DepsView → Val
 marked_lines old t deps = Ranges (with_ranges (line_of deps.document) (mapped_set t (ranges_in old)) t.effects)
 
 -- what annotations of a kind say, where they are of the right sort
+abbrev pub int_in : PlainData → Option ℤ
+int_in (plain.Int z) = Some z
+int_in p = None
+
 abbrev pub number_note : List ℕ → TransactionView → Option ℤ
-number_note kind t = option_and_then (λ p. number_in (Plain p)) (annotation_of kind t.annotations)
+number_note kind t = option_and_then int_in (annotation_of kind t.annotations)
 
 abbrev pub text_in : PlainData → Option (List ℕ)
 text_in (plain.Text cs) = Some cs

@@ -5,6 +5,7 @@ use Rattle.cm_plain.specs.Plain.{datum_of}
 use Rattle.cm_plain.specs.declared.plain.Plain.{Plain as PlainData}
 use Rattle.values.specs.declared.val.Val.{Val}
 use Rattle.values.specs.declared.val.Val.TheVariants.{Plain, Ranges, Layers, History}
+use Rattle.values.specs.InRange.{IsInRange}
 
 abbrev pub is_ranges : Form → Bool
 is_ranges ranges = true
@@ -25,8 +26,10 @@ is_of f (Ranges rs) = is_ranges f
 is_of f (Layers ls) = is_layers f
 is_of f (History h) = is_history f
 
-abbrev pub IsOf : Form → Val → Type 0
-IsOf f v = is_of f v ≡ true
+-- what each rule may rely on in a value of a shape, and what its answers keep to: the value is of the shape, and in range
+pub record IsOf (f : Form) (v : Val) : Type 0 where
+  pub shape : is_of f v ≡ true
+  pub range : IsInRange v
 
 -- the plain data that a value is, if it is any
 abbrev pub plain_of : Val → Option PlainData

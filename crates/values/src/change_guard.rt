@@ -15,7 +15,8 @@ pub struct ChangeGuard<M> {
     number: u32,
     rule: GuardBox,
     meanings: PhantomData<M>,
-    ghost callable: { GuardBox.IsAlwaysCallable rule },
+    // This says nothing: it names the box's predicates, so that clauses can speak of them.
+    ghost named: { (p q : _) → GuardBox.pre rule p q → GuardBox.pre rule p q },
 }
 
 impl<M: Meanings> ChangeGuard<M> {
@@ -25,13 +26,14 @@ impl<M: Meanings> ChangeGuard<M> {
     ghost use Rattle.std.specs.declared.alloc.AllocError.{AllocError};
     ghost use Rattle.values.specs.declared.answers.Guarding.{Guarding};
     ghost use Rattle.values.specs.declared.val.Val.{Val};
+    ghost use Rattle.values.specs.InRange.{IsInRange};
     ghost use Rattle.values.specs.Stored.{Guards};
     ghost use Rattle.values.specs.Views.{IsTransaction, TransactionView};
 
-    /// A rule of this number, whose answers are the number's meaning.
+    /// A rule of this number, which may be called on every input of its shapes, and whose answers there are the number's meaning.
     pub fn new(number: u32, rule: GuardBox) -> ChangeGuard<M>
-        requires callable { GuardBox.IsAlwaysCallable rule }
-        requires meant { (t : Bor TransactionView) (v : Bor Val) (r : Result Guarding AllocError) → IsTransaction t.now → GuardBox.post rule t v r → ForOk r (λ a. a ≡ M.rules.guard number t.now v.now) }
+        requires callable { (t : Bor TransactionView) (v : Bor Val) → IsTransaction t.now → IsInRange v.now → GuardBox.pre rule t v }
+        requires meant { (t : Bor TransactionView) (v : Bor Val) (r : Result Guarding AllocError) → IsTransaction t.now → IsInRange v.now → GuardBox.post rule t v r → ForOk r (λ a. a ≡ M.rules.guard number t.now v.now) }
         ensures number { result.number ≡ number }
         ensures guards { Guards M.rules result }
     {
@@ -52,6 +54,7 @@ impl<M: Meanings> ChangeGuard<M> {
     /// Which changes of the transaction may stay. `Err`: out of memory.
     pub fn call(&self, transaction: &TrView, filter_data: &Val) -> Result<Guarding, AllocError>
         requires guards { Guards M.rules self.now }
+        requires in_range { IsInRange filter_data.now }
         ensures value { IfOk result (λ v. v ≡ M.rules.guard self.now.number transaction.now filter_data.now) }
     {
         transaction.known();

@@ -15,7 +15,8 @@ pub struct Combiner<M> {
     number: u32,
     rule: CombineBox,
     meanings: PhantomData<M>,
-    ghost callable: { CombineBox.IsAlwaysCallable rule },
+    // This says nothing: it names the box's predicates, so that clauses can speak of them.
+    ghost named: { (p : _) → CombineBox.pre rule p → CombineBox.pre rule p },
 }
 
 impl<M: Meanings> Combiner<M> {
@@ -26,9 +27,9 @@ impl<M: Meanings> Combiner<M> {
     ghost use Rattle.values.specs.Stored.{Combines};
     ghost use Rattle.values.specs.Vals.{IsOf};
 
-    /// A rule of this number, whose answers are the number's meaning.
+    /// A rule of this number, which may be called on every input of its shapes, and whose answers there are the number's meaning.
     pub fn new(number: u32, rule: CombineBox) -> Combiner<M>
-        requires callable { CombineBox.IsAlwaysCallable rule }
+        requires callable { (p : Bor (List Val)) → All (IsOf (M.rules.combine_input number)) p.now → CombineBox.pre rule p }
         requires meant { (p : Bor (List Val)) (r : Result Val AllocError) → All (IsOf (M.rules.combine_input number)) p.now → CombineBox.post rule p r → ForOk r (λ v. v ≡ M.rules.combine number p.now) }
         ensures number { result.number ≡ number }
         ensures combines { Combines M.rules result }

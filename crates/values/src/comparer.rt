@@ -13,7 +13,8 @@ pub struct Comparer<M> {
     number: u32,
     rule: CompareBox,
     meanings: PhantomData<M>,
-    ghost callable: { CompareBox.IsAlwaysCallable rule },
+    // This says nothing: it names the box's predicates, so that clauses can speak of them.
+    ghost named: { (p q : _) → CompareBox.pre rule p q → CompareBox.pre rule p q },
 }
 
 impl<M: Meanings> Comparer<M> {
@@ -23,9 +24,9 @@ impl<M: Meanings> Comparer<M> {
     ghost use Rattle.values.specs.declared.val.Val.{Val};
     ghost use Rattle.values.specs.Stored.{Compares};
 
-    /// A rule of this number, whose answers are the number's meaning.
+    /// A rule of this number, which may be called on any two values, and whose answers are the number's meaning.
     pub fn new(number: u32, rule: CompareBox) -> Comparer<M>
-        requires callable { CompareBox.IsAlwaysCallable rule }
+        requires callable { (p q : Bor Val) → CompareBox.pre rule p q }
         requires meant { (p q : Bor Val) (r : Bool) → CompareBox.post rule p q r → r ≡ M.rules.compare number p.now q.now }
         ensures number { result.number ≡ number }
         ensures compares { Compares M.rules result }

@@ -16,7 +16,8 @@ pub struct Computer<M> {
     number: u32,
     rule: ComputeBox,
     meanings: PhantomData<M>,
-    ghost callable: { ComputeBox.IsAlwaysCallable rule },
+    // This says nothing: it names the box's predicates, so that clauses can speak of them.
+    ghost named: { (p : _) → ComputeBox.pre rule p → ComputeBox.pre rule p },
 }
 
 impl<M: Meanings> Computer<M> {
@@ -27,9 +28,9 @@ impl<M: Meanings> Computer<M> {
     ghost use Rattle.values.specs.Stored.{Computes};
     ghost use Rattle.values.specs.Views.{AreDeps, DepsView};
 
-    /// A rule of this number, whose answers are the number's meaning.
+    /// A rule of this number, which may be called on every input of its shapes, and whose answers there are the number's meaning.
     pub fn new(number: u32, rule: ComputeBox) -> Computer<M>
-        requires callable { ComputeBox.IsAlwaysCallable rule }
+        requires callable { (p : Bor DepsView) → AreDeps p.now → ComputeBox.pre rule p }
         requires meant { (p : Bor DepsView) (r : Result Val AllocError) → AreDeps p.now → ComputeBox.post rule p r → ForOk r (λ v. v ≡ M.rules.compute number p.now) }
         ensures number { result.number ≡ number }
         ensures computes { Computes M.rules result }

@@ -17,7 +17,8 @@ pub struct ComputerN<M> {
     number: u32,
     rule: ComputeListBox,
     meanings: PhantomData<M>,
-    ghost callable: { ComputeListBox.IsAlwaysCallable rule },
+    // This says nothing: it names the box's predicates, so that clauses can speak of them.
+    ghost named: { (p : _) → ComputeListBox.pre rule p → ComputeListBox.pre rule p },
 }
 
 impl<M: Meanings> ComputerN<M> {
@@ -28,9 +29,9 @@ impl<M: Meanings> ComputerN<M> {
     ghost use Rattle.values.specs.Stored.{ComputesLists};
     ghost use Rattle.values.specs.Views.{AreDeps, DepsView};
 
-    /// A rule of this number, whose answers are the number's meaning.
+    /// A rule of this number, which may be called on every input of its shapes, and whose answers there are the number's meaning.
     pub fn new(number: u32, rule: ComputeListBox) -> ComputerN<M>
-        requires callable { ComputeListBox.IsAlwaysCallable rule }
+        requires callable { (p : Bor DepsView) → AreDeps p.now → ComputeListBox.pre rule p }
         requires meant { (p : Bor DepsView) (r : Result (List Val) AllocError) → AreDeps p.now → ComputeListBox.post rule p r → ForOk r (λ vs. vs ≡ M.rules.compute_list number p.now) }
         ensures number { result.number ≡ number }
         ensures computes { ComputesLists M.rules result }

@@ -16,7 +16,8 @@ pub struct Creator<M> {
     number: u32,
     rule: CreateBox,
     meanings: PhantomData<M>,
-    ghost callable: { CreateBox.IsAlwaysCallable rule },
+    // This says nothing: it names the box's predicates, so that clauses can speak of them.
+    ghost named: { (p : _) → CreateBox.pre rule p → CreateBox.pre rule p },
 }
 
 impl<M: Meanings> Creator<M> {
@@ -27,9 +28,9 @@ impl<M: Meanings> Creator<M> {
     ghost use Rattle.values.specs.Stored.{Creates};
     ghost use Rattle.values.specs.Views.{AreDeps, DepsView};
 
-    /// A rule of this number, whose answers are the number's meaning.
+    /// A rule of this number, which may be called on every input of its shapes, and whose answers there are the number's meaning.
     pub fn new(number: u32, rule: CreateBox) -> Creator<M>
-        requires callable { CreateBox.IsAlwaysCallable rule }
+        requires callable { (p : Bor DepsView) → AreDeps p.now → CreateBox.pre rule p }
         requires meant { (p : Bor DepsView) (r : Result Val AllocError) → AreDeps p.now → CreateBox.post rule p r → ForOk r (λ v. v ≡ M.rules.create number p.now) }
         ensures number { result.number ≡ number }
         ensures creates { Creates M.rules result }

@@ -14,7 +14,8 @@ pub struct EffectMap<M> {
     number: u32,
     rule: EffectMapBox,
     meanings: PhantomData<M>,
-    ghost callable: { EffectMapBox.IsAlwaysCallable rule },
+    // This says nothing: it names the box's predicates, so that clauses can speak of them.
+    ghost named: { (p q : _) → EffectMapBox.pre rule p q → EffectMapBox.pre rule p q },
 }
 
 impl<M: Meanings> EffectMap<M> {
@@ -24,13 +25,14 @@ impl<M: Meanings> EffectMap<M> {
     ghost use Rattle.std.specs.declared.alloc.AllocError.{AllocError};
     ghost use Rattle.change_desc.specs.declared.section.Section.{Section};
     ghost use Rattle.values.specs.declared.val.Val.{Val};
+    ghost use Rattle.values.specs.InRange.{IsInRange};
     ghost use Rattle.values.specs.Stored.{MapsEffects};
     ghost use Rattle.values.specs.Views.{AreWithin};
 
-    /// A rule of this number, whose answers are the number's meaning.
+    /// A rule of this number, which may be called on every input of its shapes, and whose answers there are the number's meaning.
     pub fn new(number: u32, rule: EffectMapBox) -> EffectMap<M>
-        requires callable { EffectMapBox.IsAlwaysCallable rule }
-        requires meant { (v : Val) (d : Bor (List (Section ℕ))) (r : Result (Option Val) AllocError) → AreWithin d.now → EffectMapBox.post rule v d r → ForOk r (λ mapped. mapped ≡ M.rules.map_effect number v d.now) }
+        requires callable { (v : Val) (d : Bor (List (Section ℕ))) → IsInRange v → AreWithin d.now → EffectMapBox.pre rule v d }
+        requires meant { (v : Val) (d : Bor (List (Section ℕ))) (r : Result (Option Val) AllocError) → IsInRange v → AreWithin d.now → EffectMapBox.post rule v d r → ForOk r (λ mapped. mapped ≡ M.rules.map_effect number v d.now) }
         ensures number { result.number ≡ number }
         ensures maps { MapsEffects M.rules result }
     {
@@ -54,6 +56,7 @@ impl<M: Meanings> EffectMap<M> {
         requires within { AreWithin changes.now }
         ensures value { IfOk result (λ v. v ≡ M.rules.map_effect self.now.number value changes.now) }
     {
+        value.known();
         (self.rule)(value, changes)
     }
 }

@@ -15,7 +15,8 @@ pub struct Extender<M> {
     number: u32,
     rule: ExtendBox,
     meanings: PhantomData<M>,
-    ghost callable: { ExtendBox.IsAlwaysCallable rule },
+    // This says nothing: it names the box's predicates, so that clauses can speak of them.
+    ghost named: { (p q : _) → ExtendBox.pre rule p q → ExtendBox.pre rule p q },
 }
 
 impl<M: Meanings> Extender<M> {
@@ -25,13 +26,14 @@ impl<M: Meanings> Extender<M> {
     ghost use Rattle.std.specs.declared.alloc.AllocError.{AllocError};
     ghost use Rattle.values.specs.declared.answers.Extension.{Extension};
     ghost use Rattle.values.specs.declared.val.Val.{Val};
+    ghost use Rattle.values.specs.InRange.{IsInRange};
     ghost use Rattle.values.specs.Stored.{Extends};
     ghost use Rattle.values.specs.Views.{IsTransaction, TransactionView};
 
-    /// A rule of this number, whose answers are the number's meaning.
+    /// A rule of this number, which may be called on every input of its shapes, and whose answers there are the number's meaning.
     pub fn new(number: u32, rule: ExtendBox) -> Extender<M>
-        requires callable { ExtendBox.IsAlwaysCallable rule }
-        requires meant { (t : Bor TransactionView) (v : Bor Val) (r : Result Extension AllocError) → IsTransaction t.now → ExtendBox.post rule t v r → ForOk r (λ a. a ≡ M.rules.extend number t.now v.now) }
+        requires callable { (t : Bor TransactionView) (v : Bor Val) → IsTransaction t.now → IsInRange v.now → ExtendBox.pre rule t v }
+        requires meant { (t : Bor TransactionView) (v : Bor Val) (r : Result Extension AllocError) → IsTransaction t.now → IsInRange v.now → ExtendBox.post rule t v r → ForOk r (λ a. a ≡ M.rules.extend number t.now v.now) }
         ensures number { result.number ≡ number }
         ensures extends { Extends M.rules result }
     {
@@ -52,6 +54,7 @@ impl<M: Meanings> Extender<M> {
     /// What is added to the transaction. `Err`: out of memory.
     pub fn call(&self, transaction: &TrView, filter_data: &Val) -> Result<Extension, AllocError>
         requires extends { Extends M.rules self.now }
+        requires in_range { IsInRange filter_data.now }
         ensures value { IfOk result (λ v. v ≡ M.rules.extend self.now.number transaction.now filter_data.now) }
     {
         transaction.known();

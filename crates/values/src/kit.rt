@@ -21,7 +21,8 @@ use crate::updater::Updater;
 /// which `new` gives and the readers need.
 #[derive(Drop)]
 pub struct Kit<M> {
-    lists: RuleLists<M>,
+    /// The rules that were handed in.
+    pub lists: RuleLists<M>,
 }
 
 /// The first sort, and the least number of it, without a rule.
@@ -105,6 +106,7 @@ fn later_gap<M: Meanings>(lists: &RuleLists<M>) -> Option<Gap>
 
 impl<M: Meanings> Kit<M> {
     ghost use Rattle.std.specs.Prelude.{◌≡◌, IfErr, IfOk};
+    ghost use Rattle.std.specs.List.{IsAmong};
     ghost use Rattle.transaction.specs.Numbers.{IsNumber};
     ghost use Rattle.values.specs.Stored.{Combines, Compares, Computes, ComputesLists, Creates, Updates, MapsEffects, Guards, Filters, Extends};
     ghost use Rattle.values.specs.Whole.{AllAnswer, IsFirstGap, IsWhole};
@@ -113,6 +115,7 @@ impl<M: Meanings> Kit<M> {
     pub fn new(lists: RuleLists<M>) -> Result<Kit<M>, Gap>
         requires { AllAnswer M.rules lists }
         ensures whole { IfOk result (λ kit. IsWhole M.rules kit) }
+        ensures lists { IfOk result (λ kit. kit.lists ≡ lists) }
         ensures gap { IfErr result (λ gap. IsFirstGap M.rules lists gap) }
     {
         match gap_in(&lists) {
@@ -121,11 +124,12 @@ impl<M: Meanings> Kit<M> {
         }
     }
 
-    /// The rule of a number. Takes no memory.
+    /// The rule of a number, of those that were handed in. Takes no memory.
     pub fn combiner(&self, number: u32) -> &Combiner<M>
         requires whole { IsWhole M.rules self.now }
         requires number { IsNumber M.rules.combiners number }
         ensures number { result.now.number ≡ number }
+        ensures lent { IsAmong self.now.lists.combiners.items result.now }
         ensures meant { Combines M.rules result.now }
     {
         match find(self.lists.combiners.as_slice(), number) {
@@ -134,11 +138,12 @@ impl<M: Meanings> Kit<M> {
         }
     }
 
-    /// The rule of a number. Takes no memory.
+    /// The rule of a number, of those that were handed in. Takes no memory.
     pub fn comparer(&self, number: u32) -> &Comparer<M>
         requires whole { IsWhole M.rules self.now }
         requires number { IsNumber M.rules.comparers number }
         ensures number { result.now.number ≡ number }
+        ensures lent { IsAmong self.now.lists.comparers.items result.now }
         ensures meant { Compares M.rules result.now }
     {
         match find(self.lists.comparers.as_slice(), number) {
@@ -147,11 +152,12 @@ impl<M: Meanings> Kit<M> {
         }
     }
 
-    /// The rule of a number. Takes no memory.
+    /// The rule of a number, of those that were handed in. Takes no memory.
     pub fn computer(&self, number: u32) -> &Computer<M>
         requires whole { IsWhole M.rules self.now }
         requires number { IsNumber M.rules.computers number }
         ensures number { result.now.number ≡ number }
+        ensures lent { IsAmong self.now.lists.computers.items result.now }
         ensures meant { Computes M.rules result.now }
     {
         match find(self.lists.computers.as_slice(), number) {
@@ -160,11 +166,12 @@ impl<M: Meanings> Kit<M> {
         }
     }
 
-    /// The rule of a number. Takes no memory.
+    /// The rule of a number, of those that were handed in. Takes no memory.
     pub fn computer_n(&self, number: u32) -> &ComputerN<M>
         requires whole { IsWhole M.rules self.now }
         requires number { IsNumber M.rules.list_computers number }
         ensures number { result.now.number ≡ number }
+        ensures lent { IsAmong self.now.lists.list_computers.items result.now }
         ensures meant { ComputesLists M.rules result.now }
     {
         match find(self.lists.list_computers.as_slice(), number) {
@@ -173,11 +180,12 @@ impl<M: Meanings> Kit<M> {
         }
     }
 
-    /// The rule of a number. Takes no memory.
+    /// The rule of a number, of those that were handed in. Takes no memory.
     pub fn creator(&self, number: u32) -> &Creator<M>
         requires whole { IsWhole M.rules self.now }
         requires number { IsNumber M.rules.creators number }
         ensures number { result.now.number ≡ number }
+        ensures lent { IsAmong self.now.lists.creators.items result.now }
         ensures meant { Creates M.rules result.now }
     {
         match find(self.lists.creators.as_slice(), number) {
@@ -186,11 +194,12 @@ impl<M: Meanings> Kit<M> {
         }
     }
 
-    /// The rule of a number. Takes no memory.
+    /// The rule of a number, of those that were handed in. Takes no memory.
     pub fn updater(&self, number: u32) -> &Updater<M>
         requires whole { IsWhole M.rules self.now }
         requires number { IsNumber M.rules.updaters number }
         ensures number { result.now.number ≡ number }
+        ensures lent { IsAmong self.now.lists.updaters.items result.now }
         ensures meant { Updates M.rules result.now }
     {
         match find(self.lists.updaters.as_slice(), number) {
@@ -199,11 +208,12 @@ impl<M: Meanings> Kit<M> {
         }
     }
 
-    /// The rule of a number. Takes no memory.
+    /// The rule of a number, of those that were handed in. Takes no memory.
     pub fn effect_map(&self, number: u32) -> &EffectMap<M>
         requires whole { IsWhole M.rules self.now }
         requires number { IsNumber M.rules.effect_maps number }
         ensures number { result.now.number ≡ number }
+        ensures lent { IsAmong self.now.lists.effect_maps.items result.now }
         ensures meant { MapsEffects M.rules result.now }
     {
         match find(self.lists.effect_maps.as_slice(), number) {
@@ -212,11 +222,12 @@ impl<M: Meanings> Kit<M> {
         }
     }
 
-    /// The rule of a number. Takes no memory.
+    /// The rule of a number, of those that were handed in. Takes no memory.
     pub fn change_guard(&self, number: u32) -> &ChangeGuard<M>
         requires whole { IsWhole M.rules self.now }
         requires number { IsNumber M.rules.change_guards number }
         ensures number { result.now.number ≡ number }
+        ensures lent { IsAmong self.now.lists.change_guards.items result.now }
         ensures meant { Guards M.rules result.now }
     {
         match find(self.lists.change_guards.as_slice(), number) {
@@ -225,11 +236,12 @@ impl<M: Meanings> Kit<M> {
         }
     }
 
-    /// The rule of a number. Takes no memory.
+    /// The rule of a number, of those that were handed in. Takes no memory.
     pub fn filter(&self, number: u32) -> &TrFilter<M>
         requires whole { IsWhole M.rules self.now }
         requires number { IsNumber M.rules.transaction_filters number }
         ensures number { result.now.number ≡ number }
+        ensures lent { IsAmong self.now.lists.filters.items result.now }
         ensures meant { Filters M.rules result.now }
     {
         match find(self.lists.filters.as_slice(), number) {
@@ -238,11 +250,12 @@ impl<M: Meanings> Kit<M> {
         }
     }
 
-    /// The rule of a number. Takes no memory.
+    /// The rule of a number, of those that were handed in. Takes no memory.
     pub fn extender(&self, number: u32) -> &Extender<M>
         requires whole { IsWhole M.rules self.now }
         requires number { IsNumber M.rules.extenders number }
         ensures number { result.now.number ≡ number }
+        ensures lent { IsAmong self.now.lists.extenders.items result.now }
         ensures meant { Extends M.rules result.now }
     {
         match find(self.lists.extenders.as_slice(), number) {

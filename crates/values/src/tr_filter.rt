@@ -15,7 +15,8 @@ pub struct TrFilter<M> {
     number: u32,
     rule: FilterBox,
     meanings: PhantomData<M>,
-    ghost callable: { FilterBox.IsAlwaysCallable rule },
+    // This says nothing: it names the box's predicates, so that clauses can speak of them.
+    ghost named: { (p q : _) → FilterBox.pre rule p q → FilterBox.pre rule p q },
 }
 
 impl<M: Meanings> TrFilter<M> {
@@ -25,13 +26,14 @@ impl<M: Meanings> TrFilter<M> {
     ghost use Rattle.std.specs.declared.alloc.AllocError.{AllocError};
     ghost use Rattle.values.specs.declared.answers.Filtering.{Filtering};
     ghost use Rattle.values.specs.declared.val.Val.{Val};
+    ghost use Rattle.values.specs.InRange.{IsInRange};
     ghost use Rattle.values.specs.Stored.{Filters};
     ghost use Rattle.values.specs.Views.{IsTransaction, TransactionView};
 
-    /// A rule of this number, whose answers are the number's meaning.
+    /// A rule of this number, which may be called on every input of its shapes, and whose answers there are the number's meaning.
     pub fn new(number: u32, rule: FilterBox) -> TrFilter<M>
-        requires callable { FilterBox.IsAlwaysCallable rule }
-        requires meant { (t : Bor TransactionView) (v : Bor Val) (r : Result Filtering AllocError) → IsTransaction t.now → FilterBox.post rule t v r → ForOk r (λ a. a ≡ M.rules.filter number t.now v.now) }
+        requires callable { (t : Bor TransactionView) (v : Bor Val) → IsTransaction t.now → IsInRange v.now → FilterBox.pre rule t v }
+        requires meant { (t : Bor TransactionView) (v : Bor Val) (r : Result Filtering AllocError) → IsTransaction t.now → IsInRange v.now → FilterBox.post rule t v r → ForOk r (λ a. a ≡ M.rules.filter number t.now v.now) }
         ensures number { result.number ≡ number }
         ensures filters { Filters M.rules result }
     {
@@ -52,6 +54,7 @@ impl<M: Meanings> TrFilter<M> {
     /// What stands in place of the transaction. `Err`: out of memory.
     pub fn call(&self, transaction: &TrView, filter_data: &Val) -> Result<Filtering, AllocError>
         requires filters { Filters M.rules self.now }
+        requires in_range { IsInRange filter_data.now }
         ensures value { IfOk result (λ v. v ≡ M.rules.filter self.now.number transaction.now filter_data.now) }
     {
         transaction.known();

@@ -16,7 +16,8 @@ pub struct Updater<M> {
     number: u32,
     rule: UpdateBox,
     meanings: PhantomData<M>,
-    ghost callable: { UpdateBox.IsAlwaysCallable rule },
+    // This says nothing: it names the box's predicates, so that clauses can speak of them.
+    ghost named: { (p q : _) → UpdateBox.pre rule p q → UpdateBox.pre rule p q },
 }
 
 impl<M: Meanings> Updater<M> {
@@ -29,9 +30,9 @@ impl<M: Meanings> Updater<M> {
     ghost use Rattle.values.specs.Vals.{IsOf};
     ghost use Rattle.values.specs.declared.update_view.UpdateView.{UpdateView};
 
-    /// A rule of this number, whose answers are the number's meaning.
+    /// A rule of this number, which may be called on every input of its shapes, and whose answers there are the number's meaning.
     pub fn new(number: u32, rule: UpdateBox) -> Updater<M>
-        requires callable { UpdateBox.IsAlwaysCallable rule }
+        requires callable { (p : Bor Val) (q : Bor UpdateView) → IsUpdate (M.rules.update_shape number) p.now q.now → UpdateBox.pre rule p q }
         requires meant { (p : Bor Val) (q : Bor UpdateView) (r : Result Val AllocError) → IsUpdate (M.rules.update_shape number) p.now q.now → UpdateBox.post rule p q r → ForOk r (λ v. v ≡ M.rules.update number p.now q.now.transaction q.now.deps) }
         ensures number { result.number ≡ number }
         ensures updates { Updates M.rules result }

@@ -1,8 +1,10 @@
 ghost use Rattle.std.specs.Prelude.{◌≡◌, ◌↔◌, IfOk, IsTrue};
 ghost use Rattle.cm_plain.specs.Shape.{form_of};
 ghost use Rattle.values.specs.Equality.{equal};
+ghost use Rattle.values.specs.InRange.{IsInRange};
 ghost use Rattle.values.specs.Vals.{is_of, plain_of};
 
+use crate::known::{known_plain, known_set, known_sets};
 use cm_plain::{Plain, Shape};
 use decoration::{DecoSet, Layers};
 use history::History;
@@ -36,6 +38,18 @@ impl Val {
             Val::Ranges(set) => Ok(Val::Ranges(set.try_copy()?)),
             Val::Layers(layers) => Ok(Val::Layers(layers.try_copy()?)),
             Val::History(history) => Ok(Val::History(history.try_copy()?)),
+        }
+    }
+
+    /// What may be relied on in a value: its numbers lie in the ranges of their types. It reads them all.
+    pub fn known(&self)
+        ensures { IsInRange self.now }
+    {
+        match self {
+            Val::Plain(plain) => known_plain(plain),
+            Val::Ranges(set) => known_set(set),
+            Val::Layers(layers) => known_sets(layers.sets()),
+            Val::History(_) => {}
         }
     }
 

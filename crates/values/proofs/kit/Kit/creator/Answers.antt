@@ -8,3 +8,8 @@ pub returns-clause-meant : goal.returns-clause-meant
 returns-clause-meant g c =
     let inside : c.in-Some.place < length c.args.self.now.lists.creators.items = rw (← c.as_slice.ensures.value) c.in-Some.ensures.inside in
     rw c.index.ensures (c.requires.whole.answers.creators c.in-Some.place c.index.result.now inside)
+
+pub returns-clause-lent : goal.returns-clause-lent
+returns-clause-lent g c =
+    let inside : c.in-Some.place < length c.args.self.now.lists.creators.items = rw (← c.as_slice.ensures.value) c.in-Some.ensures.inside in
+    (c.in-Some.place, (inside, c.index.ensures))
