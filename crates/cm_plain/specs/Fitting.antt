@@ -1,11 +1,11 @@
 -- What fitting means: a datum of a shape that fits into another one is of that one too, and each shape fits into itself.
-use Rattle.std.specs.Prelude.{◌≡◌, ℕ, Bool, true, false, not, ◌&&◌, ◌||◌, ℤ, int_le, List, [], ◌∷◌, refl}
-use Rattle.std.specs.Cmp.Lexicographic.{same_text as equal_texts}
+use Rattle.std.specs.Prelude.{◌≡◌, ℕ, Bool, true, false, not, ◌&&◌, ◌||◌, ℤ, int_le, nat_eq, List, [], ◌∷◌, refl}
+use Rattle.std.specs.Cmp.Lexicographic.{pointwise, same_text as equal_texts}
 use Rattle.std.specs.List.{list_any, list_all}
 use Rattle.std.proofs.Common.{arith, sym, subst}
 use Rattle.std.proofs.lemmas.Grind.{common_steps}
 use Rattle.cm_plain.specs.Datum.{Datum, unit, boolean, number, text, list, Data, no_data, datum}
-use Rattle.cm_plain.specs.Form.{Form, any, booleans, numbers, texts, one_of, lists, ranges, layers, history, holds, hold, fits, same_text, has_word}
+use Rattle.cm_plain.specs.Form.{Form, any, booleans, numbers, texts, one_of, lists, ranges, layers, history, holds, hold, fits, has_word}
 
 both : (a b : Bool) → (a && b) ≡ true → (a ≡ true) × (b ≡ true)
 both true b h = (refl, h)
@@ -15,7 +15,7 @@ both false b h = cc
 has_word-among : (words more : List (List ℕ)) (cs : List ℕ) → list_all (has_word more) words ≡ true → has_word words cs ≡ true → has_word more cs ≡ true
 has_word-among [] more cs a h = cc
 has_word-among (w ∷ ws) more cs a h =
-    elim (same_text w cs) as (λ b. same_text w cs ≡ b → (b || has_word ws cs) ≡ true → has_word more cs ≡ true) [
+    elim (pointwise nat_eq w cs) as (λ b. pointwise nat_eq w cs ≡ b → (b || has_word ws cs) ≡ true → has_word more cs ≡ true) [
       | true ↦ λ e k. subst (λ word. has_word more word ≡ true) (equal_texts w cs (sym e)) (both _ _ a).0
       | false ↦ λ e k. has_word-among ws more cs (both _ _ a).1 k
     ] refl h

@@ -3,7 +3,7 @@ use Rattle.std.specs.Prelude.{◌≡◌, ℕ, zero, suc, Bool, true, false, not,
 use Rattle.std.specs.Coded.{Coded}
 use Rattle.std.specs.List.{list_any, list_all}
 use Rattle.std.proofs.Common.{sym, ◌∙◌, ap}
-use lib.Pointwise.{pointwise}
+use Rattle.std.specs.Cmp.Lexicographic.{pointwise}
 use base.Stored.{Gv, gnil, gnum, gcons}
 use Rattle.cm_plain.specs.Datum.{Datum, boolean, number, text, list, Data, no_data, datum, code_text, code_number, back_text, back_number, back_text-code, back_number-code}
 
@@ -18,12 +18,9 @@ pub data Form : Type 0 where
   layers : Form
   history : Form
 
-abbrev pub same_text : List ℕ → List ℕ → Bool
-same_text = pointwise nat_eq
-
 -- whether the text is one of the words
 abbrev pub has_word : List (List ℕ) → List ℕ → Bool
-has_word words cs = list_any (λ word. same_text word cs) words
+has_word words cs = list_any (λ word. pointwise nat_eq word cs) words
 
 abbrev mutual
   -- Holds: each datum is of shape any; the three last shapes are of values that are no plain data, so they hold none. A

@@ -1,6 +1,7 @@
-ghost use Rattle.std.specs.Prelude.{◌≡◌};
+ghost use Rattle.std.specs.Prelude.{nat_eq, ◌≡◌};
+ghost use Rattle.std.specs.Cmp.Lexicographic.{pointwise};
 ghost use Rattle.std.specs.List.{list_all};
-ghost use Rattle.cm_plain.specs.Form.{has_word, same_text};
+ghost use Rattle.cm_plain.specs.Form.{has_word};
 
 use crate::text::Str;
 use std::marker::Model;
@@ -54,7 +55,7 @@ impl Words {
 
 /// Whether both have the same characters.
 fn is_word(word: &Str, text: &Str) -> bool
-    ensures { result ≡ same_text word.now text.now }
+    ensures { result ≡ pointwise nat_eq word.now text.now }
 {
     word.chars() == text.chars()
 }

@@ -20,5 +20,7 @@ pub mod Steps
 pub mod Restoring
 pub mod Reading
 pub mod PrivateItems
+pub mod PrivateLinks
+pub mod PrivateCounts
 pub mod PrivateMoved
 pub mod Examples

@@ -10,11 +10,10 @@ use crate::case::Case;
 use crate::group::Group;
 use crate::isolation::Isolation;
 use crate::item::{ChangeItem, Item, SelectItem};
-use crate::items::{older, shared, with_first, without_first};
+use crate::items::Items;
 use crate::lists::{Lists, group_if};
 use crate::moving::items_over;
-use crate::shared_item::SharedItem;
-use crate::step_input::{StepInput, copied, copied_event, first_change};
+use crate::step_input::{StepInput, copied, copied_event};
 use change_desc::Desc;
 use cm_plain::KeptEffect;
 use kept_effects::moved_effects;
@@ -52,8 +51,8 @@ impl Lists {
     {
         let change = input.way_back(alloc)?;
         Ok(Lists {
-            done: shared(alloc, older(self.done.as_slice()))?,
-            undone: with_first(alloc, Item::Change(change), self.undone.as_slice())?,
+            done: self.done.older()?,
+            undone: self.undone.with_first(alloc, Item::Change(change))?,
             group: Group::Closed,
         })
     }
@@ -65,8 +64,8 @@ impl Lists {
     {
         let change = input.way_back(alloc)?;
         Ok(Lists {
-            done: with_first(alloc, Item::Change(change), self.done.as_slice())?,
-            undone: shared(alloc, older(self.undone.as_slice()))?,
+            done: self.done.with_first(alloc, Item::Change(change))?,
+            undone: self.undone.older()?,
             group: Group::Closed,
         })
     }
@@ -77,8 +76,8 @@ impl Lists {
     {
         let select = input.start_select()?;
         Ok(Lists {
-            done: shared(alloc, without_first(self.done.as_slice()))?,
-            undone: with_first(alloc, Item::Select(select), self.undone.as_slice())?,
+            done: self.done.without_first()?,
+            undone: self.undone.with_first(alloc, Item::Select(select))?,
             group: Group::Closed,
         })
     }
@@ -89,8 +88,8 @@ impl Lists {
     {
         let select = input.start_select()?;
         Ok(Lists {
-            done: with_first(alloc, Item::Select(select), self.done.as_slice())?,
-            undone: shared(alloc, without_first(self.undone.as_slice()))?,
+            done: self.done.with_first(alloc, Item::Select(select))?,
+            undone: self.undone.without_first()?,
             group: Group::Closed,
         })
     }
@@ -101,23 +100,19 @@ impl Lists {
     {
         Ok(Lists {
             done: self.done_with_left(alloc, input)?,
-            undone: shared(alloc, self.undone.as_slice())?,
+            undone: self.undone.share()?,
             group: group_if(input.given.is_none(), self.group),
         })
     }
 
     /// What can be undone, with the selection that is left, where it is kept.
-    fn done_with_left(
-        &self,
-        alloc: Global,
-        input: &StepInput,
-    ) -> Result<Listed<SharedItem>, AllocError>
+    fn done_with_left(&self, alloc: Global, input: &StepInput) -> Result<Items, AllocError>
         ensures { IfOk result (λ done. done ≡ cond (makes_select input.now) (with_left input.now self.now.done) self.now.done) }
     {
         if input.makes_select() {
-            with_left(alloc, input, self.done.as_slice())
+            with_left(alloc, input, &self.done)
         } else {
-            shared(alloc, self.done.as_slice())
+            self.done.share()
         }
     }
 
@@ -129,8 +124,8 @@ impl Lists {
         ensures { IfOk result (λ next. next ≡ in_case Case.Unrecorded self.now input.now) }
     {
         let over = input.changes.desc()?;
-        let done = items_over(alloc, self.done.as_slice(), &over)?;
-        let undone = items_over(alloc, self.undone.as_slice(), &over)?;
+        let done = items_over(alloc, &self.done, &over)?;
+        let undone = items_over(alloc, &self.undone, &over)?;
         Ok(Lists {
             done: done.items,
             undone: undone.items,
@@ -146,22 +141,22 @@ impl Lists {
     {
         Ok(Lists {
             done: self.done_after(alloc, input)?,
-            undone: Listed::empty(alloc),
+            undone: Items::empty(),
             group: group_after(input),
         })
     }
 
     /// What can be undone after recorded changes and effects.
-    fn done_after(&self, alloc: Global, input: &StepInput) -> Result<Listed<SharedItem>, AllocError>
+    fn done_after(&self, alloc: Global, input: &StepInput) -> Result<Items, AllocError>
         requires step { IsStep input.now }
         requires done { LeadOn (length input.now.document.characters) self.now.done }
         ensures { IfOk result (λ done. done ≡ cond (joins self.now input.now) (joined_to (way_back input.now) self.now.done) (Item.Change (way_back input.now) ∷ self.now.done)) }
     {
         let change = input.way_back(alloc)?;
         if self.is_joined(input)? {
-            return joined_to(alloc, change, self.done.as_slice());
+            return joined_to(alloc, change, &self.done);
         }
-        with_first(alloc, Item::Change(change), self.done.as_slice())
+        self.done.with_first(alloc, Item::Change(change))
     }
 
     /// Whether a step joins the group.
@@ -172,7 +167,7 @@ impl Lists {
             && input.is_joinable()
             && !Isolation::is_before(input.isolate)
         {
-            return input.is_near(self.done.as_slice());
+            return input.is_near(&self.done);
         }
         Ok(false)
     }
@@ -223,30 +218,18 @@ fn joined_effects(
 }
 
 /// The way back put after the newest item, where that is a Change, else before all.
-fn joined_to(
-    alloc: Global,
-    way_back: ChangeItem,
-    items: &[SharedItem],
-) -> Result<Listed<SharedItem>, AllocError>
+fn joined_to(alloc: Global, way_back: ChangeItem, items: &Items) -> Result<Items, AllocError>
     requires { LeadOn (new_size spelled way_back.changes) items.now }
     ensures { IfOk result (λ joined. joined ≡ joined_to way_back items.now) }
 {
-    match first_change(items) {
-        None => with_first(alloc, Item::Change(way_back), items),
+    match items.first_change() {
+        None => items.with_first(alloc, Item::Change(way_back)),
         Some(change) => {
             let joined = joined_change(alloc, &way_back, change)?;
-            with_first(alloc, Item::Change(joined), without_first(items))
+            items
+                .without_first()?
+                .with_first(alloc, Item::Change(joined))
         }
-    }
-}
-
-/// The newest item, if it is a Select.
-fn first_select(items: &[SharedItem]) -> Option<&SelectItem>
-    ensures { option_copied result ≡ first_select items.now }
-{
-    match items.first() {
-        None => None,
-        Some(item) => item.item().as_select(),
     }
 }
 
@@ -263,18 +246,16 @@ fn select_at(select: &SelectItem, time: Option<i64>) -> Result<SelectItem, Alloc
 
 /// Items with the selection that a step leaves: the newest Select takes the new time where it joins it, else it stands before
 /// all.
-fn with_left(
-    alloc: Global,
-    input: &StepInput,
-    items: &[SharedItem],
-) -> Result<Listed<SharedItem>, AllocError>
+fn with_left(alloc: Global, input: &StepInput, items: &Items) -> Result<Items, AllocError>
     ensures { IfOk result (λ all. all ≡ with_left input.now items.now) }
 {
-    match first_select(items) {
+    match items.first_select() {
         Some(select) if input.select_joins(select) => {
             let joined = select_at(select, input.time)?;
-            with_first(alloc, Item::Select(joined), without_first(items))
+            items
+                .without_first()?
+                .with_first(alloc, Item::Select(joined))
         }
-        _ => with_first(alloc, Item::Select(input.left_select()?), items),
+        _ => items.with_first(alloc, Item::Select(input.left_select()?)),
     }
 }

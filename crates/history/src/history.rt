@@ -8,7 +8,6 @@ ghost use Rattle.history.specs.Reading.{restored_change, restored_item};
 ghost use Rattle.history.specs.Restoring.{Restores};
 ghost use Rattle.history.specs.Steps.{IsStep, case_of, cut_to, in_case, start_of, step};
 
-use crate::items::change_count;
 use crate::lists::Lists;
 use crate::restore::{Restore, restored_change, restored_item};
 use crate::step_input::StepInput;
@@ -47,7 +46,7 @@ impl History {
         ensures { result ≡ empty }
     {
         History {
-            lists: Lists::empty(alloc),
+            lists: Lists::empty(),
             alloc,
         }
     }
@@ -58,8 +57,8 @@ impl History {
         ensures undone { result.1 ≡ change_count self.now.undone }
     {
         (
-            change_count(self.lists.done.as_slice()),
-            change_count(self.lists.undone.as_slice()),
+            self.lists.done.change_count(),
+            self.lists.undone.change_count(),
         )
     }
 
@@ -68,10 +67,7 @@ impl History {
         ensures done { result.0 ≡ length self.now.done }
         ensures undone { result.1 ≡ length self.now.undone }
     {
-        (
-            self.lists.done.as_slice().len(),
-            self.lists.undone.as_slice().len(),
-        )
+        (self.lists.done.len(), self.lists.undone.len())
     }
 
     /// Whether the newest Change of each list that has one starts in a document of `len` characters, in which each newer Select
@@ -88,7 +84,7 @@ impl History {
         ensures value { IfOk result (λ spec. spec ≡ restored_change (pos 0) self.now.done) }
         ensures none { IfOk result (λ spec. IsTrue (is_none spec) ↔ (newest_change self.now.done ≡ None)) }
     {
-        restored_change(self.alloc, 0, self.lists.done.as_slice())
+        restored_change(self.alloc, 0, &self.lists.done)
     }
 
     /// What a redo sends: the newest Change that was undone, or nothing where there is none (Reference Manual, redo). `Err`:
@@ -97,7 +93,7 @@ impl History {
         ensures value { IfOk result (λ spec. spec ≡ restored_change (pos 1) self.now.undone) }
         ensures none { IfOk result (λ spec. IsTrue (is_none spec) ↔ (newest_change self.now.undone ≡ None)) }
     {
-        restored_change(self.alloc, 1, self.lists.undone.as_slice())
+        restored_change(self.alloc, 1, &self.lists.undone)
     }
 
     /// What an undo over selections sends: the newest item, or nothing where none can be undone (Reference Manual,
@@ -106,7 +102,7 @@ impl History {
         ensures value { IfOk result (λ spec. spec ≡ restored_item (pos 0) (pos 2) self.now.done) }
         ensures none { IfOk result (λ spec. IsTrue (is_none spec) ↔ (self.now.done ≡ [])) }
     {
-        restored_item(self.alloc, 0, 2, self.lists.done.as_slice())
+        restored_item(self.alloc, 0, 2, &self.lists.done)
     }
 
     /// What a redo over selections sends: the newest item that was undone, or nothing where there is none (Reference Manual,
@@ -115,7 +111,7 @@ impl History {
         ensures value { IfOk result (λ spec. spec ≡ restored_item (pos 1) (pos 3) self.now.undone) }
         ensures none { IfOk result (λ spec. IsTrue (is_none spec) ↔ (self.now.undone ≡ [])) }
     {
-        restored_item(self.alloc, 1, 3, self.lists.undone.as_slice())
+        restored_item(self.alloc, 1, 3, &self.lists.undone)
     }
 
     /// Whether both have the same items and their groups are as open.
@@ -130,7 +126,7 @@ impl History {
         ensures { IfOk result (λ copy. copy ≡ self.now) }
     {
         Ok(History {
-            lists: self.lists.shared(self.alloc)?,
+            lists: self.lists.shared()?,
             alloc: self.alloc,
         })
     }

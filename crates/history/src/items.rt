@@ -1,147 +1,215 @@
-ghost use Rattle.std.specs.Prelude.{IfOk, IsTrue, OnOk, cond, drop, option_copied, ◌++◌, ◌∷◌, ◌≡◌, ◌↔◌};
-ghost use Rattle.history.specs.Histories.{leads};
-ghost use Rattle.history.specs.Items.{begins_with_change, begins_with_select, change_count, newest_change, older};
+ghost use Rattle.std.specs.Prelude.{IfOk, IfSome, MatchOption, [], length, ◌++◌, ◌∷◌, ◌≡◌, ◌≤◌};
+ghost use Rattle.history.specs.Items.{change_count};
+ghost use Rattle.history.specs.PrivateCounts.{counted_with, rows_fit};
 
-use crate::item::{ChangeItem, Item};
+use crate::item::Item;
 use crate::shared_item::SharedItem;
-use listed::Listed;
-use selection::first_outside;
 use std::alloc::{AllocError, Global};
+use std::marker::Model;
+use std::rc::Rc;
 
-/// Puts items, which are shared, after others.
-pub(crate) fn extend(to: &mut Vec<SharedItem>, items: &[SharedItem]) -> Result<(), AllocError>
-    ensures { OnOk result (to.new.items ≡ to.old.items ++ items.now) }
-{
-    for item in items {
-        let shared = item.share()?;
-        to.push(shared)?;
-    }
-    Ok(())
+/// How many Selects may stand in a row.
+pub const MOST_SELECTS: usize = 200;
+
+/// What a list keeps of its items, so that no step counts them.
+#[derive(Clone, Copy, Drop)]
+pub(crate) struct Counts {
+    /// How many items there are, and how many of them are Changes.
+    pub(crate) len: usize,
+    pub(crate) changes: usize,
+    /// How many Selects stand before the first Change.
+    pub(crate) row: usize,
+    /// Whether no row of Selects is longer than it may be.
+    pub(crate) rows_fit: bool,
 }
 
-/// The same items, which are shared.
-pub(crate) fn shared(alloc: Global, items: &[SharedItem]) -> Result<Listed<SharedItem>, AllocError>
-    ensures { IfOk result (λ all. all ≡ items.now) }
-{
-    let mut all = Vec::new(alloc);
-    extend(&mut all, items)?;
-    Ok(Listed::new(all))
-}
-
-/// An item and then others, which are shared.
-pub(crate) fn with_first(
-    alloc: Global,
-    item: Item,
-    items: &[SharedItem],
-) -> Result<Listed<SharedItem>, AllocError>
-    ensures { IfOk result (λ all. all ≡ item ∷ items.now) }
-{
-    let mut all = Vec::new(alloc);
-    all.push(SharedItem::new(alloc, item)?)?;
-    extend(&mut all, items)?;
-    Ok(Listed::new(all))
-}
-
-/// All but the first.
-pub(crate) fn without_first(items: &[SharedItem]) -> &[SharedItem]
-    ensures { result.now ≡ drop 1 items.now }
-{
-    match items.split_first() {
-        None => items,
-        Some((_, others)) => others,
-    }
-}
-
-/// The newest Change, if there is one.
-pub(crate) fn newest_change(items: &[SharedItem]) -> Option<&ChangeItem>
-    ensures { option_copied result ≡ newest_change items.now }
-{
-    for item in items {
-        if let Some(change) = item.item().as_change() {
-            return Some(change);
-        }
-    }
-    None
-}
-
-/// The items older than the newest Change.
-pub(crate) fn older(items: &[SharedItem]) -> &[SharedItem]
-    ensures { result.now ≡ older items.now }
-{
-    for (index, item) in items.iter().enumerate() {
-        if item.item().is_change() {
-            return &items[index + 1..];
-        }
-    }
-    &items[items.len()..]
-}
-
-/// Whether the newest item is a Change.
-pub(crate) fn begins_with_change(items: &[SharedItem]) -> bool
-    ensures { result ≡ begins_with_change items.now }
-{
-    match items.first() {
-        None => false,
-        Some(item) => item.item().is_change(),
+impl Counts {
+    /// With one more item before the others. `None`: there are as many as can be counted.
+    fn counted_with(&self, item: &Item) -> Option<Counts>
+        requires changes { self.now.changes ≤ self.now.len }
+        requires row { self.now.row ≤ self.now.len }
+        ensures { IfSome result (λ more. more ≡ counted_with item.now self.now) }
+    {
+        let len = self.len.checked_add(1)?;
+        let more = match item {
+            Item::Change(_) => Counts {
+                len,
+                changes: self.changes + 1,
+                row: 0,
+                rows_fit: self.rows_fit,
+            },
+            Item::Select(_) => Counts {
+                len,
+                changes: self.changes,
+                row: self.row + 1,
+                rows_fit: self.row + 1 <= MOST_SELECTS && self.rows_fit,
+            },
+        };
+        Some(more)
     }
 }
 
-/// Whether the newest item is a Select.
-pub(crate) fn begins_with_select(items: &[SharedItem]) -> bool
-    ensures { result ≡ begins_with_select items.now }
-{
-    match items.first() {
-        None => false,
-        Some(item) => !item.item().is_change(),
-    }
+/// Items, newest first. Each list is a link to the list of those older than its first, which other lists share: so an item is
+/// put before others, and a list is shared, without a copy of the others. Contracts see the list of the items.
+#[cycle(items)]
+pub struct Items {
+    counts: Counts,
+    newest: Link,
 }
 
-/// 1 where it holds, else 0.
-fn one_if(holds: bool) -> usize
-    ensures { result ≡ cond holds 1 0 }
-{
-    if holds { 1 } else { 0 }
+/// The newest item of a list, if there is one, and the older ones.
+#[cycle(items)]
+#[derive(Drop)]
+pub(crate) enum Link {
+    End,
+    More(Rc<Node>),
 }
 
-/// How many Changes there are.
-pub(crate) fn change_count(items: &[SharedItem]) -> usize
-    ensures { result ≡ change_count items.now }
-{
-    let mut count = 0;
-    for item in items {
-        count += one_if(item.item().is_change());
-    }
-    count
+/// An item and the older ones.
+#[cycle(items)]
+#[derive(Drop)]
+pub(crate) struct Node {
+    pub(crate) item: SharedItem,
+    pub(crate) older: Items,
 }
 
-/// Whether the newest Change, if there is one, starts in a document of `len` characters, in which each newer Select lies.
-pub(crate) fn leads(items: &[SharedItem], len: u32) -> bool
-    ensures { result ≡ leads len items.now }
-{
-    for item in items {
-        match item.item() {
-            Item::Change(change) => return change.changes.len() == len,
-            Item::Select(select) => {
-                if first_outside(select.selection.ranges(), len).is_some() {
-                    return false;
-                }
+impl Model for Items {
+    ghost use Rattle.std.specs.Prelude.{List};
+    ghost use Rattle.std.specs.Coded.{codes};
+    ghost use Rattle.cm_plain.specs.Datum.{coded_datum};
+    ghost use Rattle.history.specs.declared.item.Item.{Item};
+
+    ghost Value = { List Item };
+
+    ghost coded = { Prim.hlevel (codes, coded_datum) };
+
+    ghost use Rattle.history.specs.PrivateCounts.{IsCounted};
+    ghost use Rattle.history.specs.PrivateLinks.{items_of};
+
+    ghost view = { λ a. items_of a.newest };
+
+    ghost invariant = { λ a. IsCounted (items_of a.newest) a.counts };
+
+    ghost use Rattle.std.specs.Prelude.{length};
+
+    ghost size = { length };
+
+    ghost use Rattle.std.proofs.Common.{arith, length-append};
+
+    ghost size_decreases = { λ a h. Prim.grind (arith, length-append) };
+}
+
+/// A loop, since a long list would else be dropped by as many calls as it has items.
+impl Drop for Items {
+    fn drop(mut self) {
+        loop {
+            match self {
+                Items {
+                    counts: _,
+                    newest: Link::End,
+                } => return,
+                Items {
+                    counts: _,
+                    newest: Link::More(node),
+                } => match Rc::into_inner(node) {
+                    None => return,
+                    Some(Node { item: _item, older }) => self = older,
+                },
             }
         }
     }
-    true
 }
 
-/// Whether both are the same items, in the same order.
-pub(crate) fn same_items(left: &[SharedItem], right: &[SharedItem]) -> bool
-    ensures { IsTrue result ↔ (left.now ≡ right.now) }
-{
-    if left.len() != right.len() {
-        return false;
-    }
-    for (a, b) in left.iter().zip(right) {
-        if !a.item().same(b.item()) {
-            return false;
+impl Items {
+    /// The list without items.
+    pub(crate) fn empty() -> Items
+        ensures { result ≡ [] }
+    {
+        Items {
+            counts: Counts {
+                len: 0,
+                changes: 0,
+                row: 0,
+                rows_fit: true,
+            },
+            newest: Link::End,
         }
     }
-    true
+
+    /// An item before these, which are shared. `Err`: out of memory.
+    pub(crate) fn with_shared(self, alloc: Global, item: SharedItem) -> Result<Items, AllocError>
+        ensures { IfOk result (λ all. all ≡ item ∷ self) }
+    {
+        let counts = match self.counts.counted_with(item.item()) {
+            Some(counts) => counts,
+            None => return Err(AllocError),
+        };
+        match Rc::new(alloc, Node { item, older: self }) {
+            Ok(node) => Ok(Items {
+                counts,
+                newest: Link::More(node),
+            }),
+            Err(_) => Err(AllocError),
+        }
+    }
+
+    /// The same list once more, without a copy of its items. `Err`: no further owner can be counted.
+    pub(crate) fn share(&self) -> Result<Items, AllocError>
+        ensures { IfOk result (λ same. same ≡ self.now) }
+    {
+        match &self.newest {
+            Link::End => Ok(Items::empty()),
+            Link::More(node) => Ok(Items {
+                counts: self.counts,
+                newest: Link::More(node.clone()?),
+            }),
+        }
+    }
+
+    /// The newest item and the older ones.
+    pub(crate) fn split_first(&self) -> Option<(&SharedItem, &Items)>
+        ensures { MatchOption result (self.now ≡ []) (λ parts. self.now ≡ parts.0.now ∷ parts.1.now) }
+    {
+        match &self.newest {
+            Link::End => None,
+            Link::More(node) => Some((&node.item, &node.older)),
+        }
+    }
+
+    /// How many items there are.
+    pub(crate) fn len(&self) -> usize
+        ensures { result ≡ length self.now }
+    {
+        self.counts.len
+    }
+
+    /// How many Changes there are.
+    pub(crate) fn change_count(&self) -> usize
+        ensures { result ≡ change_count self.now }
+    {
+        self.counts.changes
+    }
+
+    /// Whether no row of Selects is longer than it may be.
+    pub(crate) fn rows_fit(&self) -> bool
+        ensures { result ≡ rows_fit self.now }
+    {
+        self.counts.rows_fit
+    }
+}
+
+/// Items before others. `Err`: out of memory.
+pub(crate) fn with_all(
+    alloc: Global,
+    newer: Vec<SharedItem>,
+    others: Items,
+) -> Result<Items, AllocError>
+    ensures { IfOk result (λ all. all ≡ newer.items ++ others) }
+{
+    let mut newer = newer;
+    let mut all = others;
+    while let Some(item) = newer.pop() {
+        all = all.with_shared(alloc, item)?;
+    }
+    Ok(all)
 }

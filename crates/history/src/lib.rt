@@ -16,15 +16,16 @@ mod item;
 mod items;
 mod lists;
 mod moving;
+mod reading;
 mod restore;
 mod shared_item;
 mod step_input;
 
-pub use crate::cut::MOST_SELECTS;
 pub use crate::group::Group;
 pub use crate::history::History;
 pub use crate::isolation::Isolation;
 pub use crate::item::{ChangeItem, Item, SelectItem};
+pub use crate::items::{Items, MOST_SELECTS};
 pub use crate::lists::Lists;
 pub use crate::restore::Restore;
 pub use crate::step_input::StepInput;

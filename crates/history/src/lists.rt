@@ -8,29 +8,25 @@ use crate::case::Case;
 use crate::cut::{keep_changes, keep_selects, kept_count};
 use crate::group::Group;
 use crate::isolation::Isolation;
-use crate::items::{
-    begins_with_change, begins_with_select, leads, newest_change, same_items, shared,
-};
-use crate::shared_item::SharedItem;
+use crate::items::Items;
 use crate::step_input::StepInput;
 use change_set::ChangeSet;
-use listed::Listed;
 use std::alloc::{AllocError, Global};
 
 /// What can be undone and what can be done again, each newest first, and whether the newest Change that can be undone is open
 /// to further changes.
 #[derive(Drop)]
 pub struct Lists {
-    pub done: Listed<SharedItem>,
-    pub undone: Listed<SharedItem>,
+    pub done: Items,
+    pub undone: Items,
     pub group: Group,
 }
 
 /// Whether these are exactly the changes of the newest Change.
-fn is_newest(changes: &ChangeSet, items: &[SharedItem]) -> bool
+fn is_newest(changes: &ChangeSet, items: &Items) -> bool
     ensures { result ≡ is_newest changes.now items.now }
 {
-    match newest_change(items) {
+    match items.newest_change() {
         None => false,
         Some(change) => changes.same(&change.changes),
     }
@@ -38,12 +34,12 @@ fn is_newest(changes: &ChangeSet, items: &[SharedItem]) -> bool
 
 impl Lists {
     /// Neither.
-    pub(crate) fn empty(alloc: Global) -> Lists
+    pub(crate) fn empty() -> Lists
         ensures { result ≡ empty }
     {
         Lists {
-            done: Listed::empty(alloc),
-            undone: Listed::empty(alloc),
+            done: Items::empty(),
+            undone: Items::empty(),
             group: Group::Closed,
         }
     }
@@ -52,25 +48,23 @@ impl Lists {
     pub(crate) fn leads_from(&self, len: u32) -> bool
         ensures { result ≡ leads_from len self.now }
     {
-        leads(self.done.as_slice(), len) && leads(self.undone.as_slice(), len)
+        self.done.leads(len) && self.undone.leads(len)
     }
 
     /// Whether both have the same items and their groups are as open.
     pub(crate) fn same(&self, other: &Lists) -> bool
         ensures { IsTrue result ↔ (self.now ≡ other.now) }
     {
-        self.group == other.group
-            && same_items(self.done.as_slice(), other.done.as_slice())
-            && same_items(self.undone.as_slice(), other.undone.as_slice())
+        self.group == other.group && self.done.same(&other.done) && self.undone.same(&other.undone)
     }
 
     /// The same lists, whose items are shared.
-    pub(crate) fn shared(&self, alloc: Global) -> Result<Lists, AllocError>
+    pub(crate) fn shared(&self) -> Result<Lists, AllocError>
         ensures { IfOk result (λ copy. copy ≡ self.now) }
     {
         Ok(Lists {
-            done: shared(alloc, self.done.as_slice())?,
-            undone: shared(alloc, self.undone.as_slice())?,
+            done: self.done.share()?,
+            undone: self.undone.share()?,
             group: self.group,
         })
     }
@@ -79,15 +73,13 @@ impl Lists {
     pub(crate) fn case_of(&self, input: &StepInput) -> Case
         ensures { result ≡ case_of self.now input.now }
     {
-        let done = self.done.as_slice();
-        let undone = self.undone.as_slice();
-        if input.is_from(0) && is_newest(&input.changes, done) {
+        if input.is_from(0) && is_newest(&input.changes, &self.done) {
             Case::Undo
-        } else if input.is_from(1) && is_newest(&input.changes, undone) {
+        } else if input.is_from(1) && is_newest(&input.changes, &self.undone) {
             Case::Redo
-        } else if input.goes_over(2, begins_with_select(done)) {
+        } else if input.goes_over(2, self.done.begins_with_select()) {
             Case::UndoSelection
-        } else if input.goes_over(3, begins_with_select(undone)) {
+        } else if input.goes_over(3, self.undone.begins_with_select()) {
             Case::RedoSelection
         } else {
             input.own_case()
@@ -100,9 +92,9 @@ impl Lists {
         ensures history { IfOk result (λ kept. (len : ℕ) → LeadOn len self.done → LeadOn len self.undone → IsHistory kept) }
     {
         let kept = keep_changes(alloc, kept_count(depth), self.done)?;
-        let done = keep_selects(alloc, kept)?;
-        let undone = keep_selects(alloc, self.undone)?;
-        let group = group_if(begins_with_change(done.as_slice()), self.group);
+        let done = keep_selects(alloc, &kept)?;
+        let undone = keep_selects(alloc, &self.undone)?;
+        let group = group_if(done.begins_with_change(), self.group);
         Ok(Lists {
             done,
             undone,

@@ -6,12 +6,12 @@ ghost use Rattle.history.specs.Moving.{is_idle, items_over, moved_select, newest
 ghost use Rattle.history.specs.PrivateMoved.{MovesTo, PutsMoved};
 
 use crate::item::{ChangeItem, Item, SelectItem};
+use crate::items::{Items, with_all};
 use crate::shared_item::SharedItem;
 use crate::step_input::copied_event;
 use change_desc::Desc;
 use kept_effects::moved_effects;
 use line_tree::MAX_LEN;
-use listed::Listed;
 use std::alloc::{AllocError, Global};
 
 /// A Change over changes that are not recorded.
@@ -25,7 +25,7 @@ pub(crate) struct Moved {
 /// The items over changes that are not recorded.
 #[derive(Drop)]
 pub(crate) struct MovedItems {
-    pub(crate) items: Listed<SharedItem>,
+    pub(crate) items: Items,
     /// Whether the newest item is among them.
     pub(crate) newest_stays: bool,
 }
@@ -131,18 +131,20 @@ fn push_moved(
 fn extend_moved(
     alloc: Global,
     to: &mut Vec<SharedItem>,
-    items: &[SharedItem],
+    items: &Items,
     over: Desc,
 ) -> Result<(), AllocError>
     requires { LeadOn (old_size over) items.now }
     ensures { OnOk result (to.new.items ≡ to.old.items ++ items_over over items.now) }
 {
     let mut after = over;
-    for item in items {
+    let mut rest = items;
+    while let Some((item, older)) = rest.split_first() {
         match push_moved(alloc, to, item.item(), after)? {
             None => return Ok(()),
             Some(next) => after = next,
         }
+        rest = older;
     }
     Ok(())
 }
@@ -150,7 +152,7 @@ fn extend_moved(
 /// The items over changes of their start document that are not recorded.
 pub(crate) fn items_over(
     alloc: Global,
-    items: &[SharedItem],
+    items: &Items,
     over: &Desc,
 ) -> Result<MovedItems, AllocError>
     requires { LeadOn (old_size over.now) items.now }
@@ -160,20 +162,20 @@ pub(crate) fn items_over(
     let mut all = Vec::new(alloc);
     let Some((newest, others)) = items.split_first() else {
         return Ok(MovedItems {
-            items: Listed::new(all),
+            items: Items::empty(),
             newest_stays: false,
         });
     };
     match push_moved(alloc, &mut all, newest.item(), over.try_copy()?)? {
         None => Ok(MovedItems {
-            items: Listed::new(all),
+            items: Items::empty(),
             newest_stays: false,
         }),
         Some(after) => {
             let newest_stays = !all.as_slice().is_empty();
             extend_moved(alloc, &mut all, others, after)?;
             Ok(MovedItems {
-                items: Listed::new(all),
+                items: with_all(alloc, all, Items::empty())?,
                 newest_stays,
             })
         }

@@ -3,8 +3,7 @@ ghost use Rattle.history.specs.Items.{newest_change};
 ghost use Rattle.history.specs.Reading.{of_change, of_select, restored_change, restored_item};
 
 use crate::item::{ChangeItem, Item, SelectItem};
-use crate::items::newest_change;
-use crate::shared_item::SharedItem;
+use crate::items::Items;
 use crate::step_input::copied;
 use change_set::ChangeSet;
 use cm_plain::KeptEffect;
@@ -56,12 +55,12 @@ impl Restore {
 pub(crate) fn restored_change(
     alloc: Global,
     number: i64,
-    items: &[SharedItem],
+    items: &Items,
 ) -> Result<Option<Restore>, AllocError>
     ensures value { IfOk result (λ restore. restore ≡ restored_change number items.now) }
     ensures none { IfOk result (λ restore. IsTrue (is_none restore) ↔ (newest_change items.now ≡ None)) }
 {
-    match newest_change(items) {
+    match items.newest_change() {
         None => Ok(None),
         Some(change) => Ok(Some(Restore::of_change(alloc, number, change)?)),
     }
@@ -72,14 +71,14 @@ pub(crate) fn restored_item(
     alloc: Global,
     change_number: i64,
     select_number: i64,
-    items: &[SharedItem],
+    items: &Items,
 ) -> Result<Option<Restore>, AllocError>
     ensures value { IfOk result (λ restore. restore ≡ restored_item change_number select_number items.now) }
     ensures none { IfOk result (λ restore. IsTrue (is_none restore) ↔ (items.now ≡ [])) }
 {
     match items.first() {
         None => Ok(None),
-        Some(item) => match item.item() {
+        Some(item) => match item {
             Item::Change(change) => { Ok(Some(Restore::of_change(alloc, change_number, change)?)) }
             Item::Select(select) => { Ok(Some(Restore::of_select(alloc, select_number, select)?)) }
         },

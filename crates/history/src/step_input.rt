@@ -1,6 +1,6 @@
-ghost use Rattle.std.specs.Prelude.{IfOk, is_some, length, option_copied, ◌≡◌, ◌||◌};
+ghost use Rattle.std.specs.Prelude.{IfOk, is_some, length, ◌≡◌, ◌||◌};
 ghost use Rattle.change_desc.specs.Sections.{old_size};
-ghost use Rattle.history.specs.Joining.{first_change, is_joinable, is_near, is_soon, is_within};
+ghost use Rattle.history.specs.Joining.{is_joinable, is_near, is_soon, is_within};
 ghost use Rattle.history.specs.Selecting.{are_close, are_selecting, goes_elsewhere, is_false, left_select, makes_select, select_joins};
 ghost use Rattle.history.specs.Steps.{goes_over, is_from, is_idle_step, own_case, start_select, way_back};
 
@@ -8,7 +8,7 @@ use crate::case::Case;
 use crate::group::Group;
 use crate::isolation::Isolation;
 use crate::item::{ChangeItem, SelectItem};
-use crate::shared_item::SharedItem;
+use crate::items::Items;
 use change_set::ChangeSet;
 use cm_plain::{KeptEffect, Str};
 use line_tree::Text;
@@ -190,10 +190,10 @@ impl StepInput {
     }
 
     /// Whether a range that it replaces overlaps or touches one that the newest item, a Change, replaces.
-    pub(crate) fn is_near(&self, items: &[SharedItem]) -> Result<bool, AllocError>
+    pub(crate) fn is_near(&self, items: &Items) -> Result<bool, AllocError>
         ensures { IfOk result (λ near. near ≡ is_near self.now items.now) }
     {
-        match first_change(items) {
+        match items.first_change() {
             None => Ok(false),
             Some(change) => {
                 let own = self.changes.desc()?;
@@ -201,16 +201,6 @@ impl StepInput {
                 own.meets(&other)
             }
         }
-    }
-}
-
-/// The newest item, if it is a Change.
-pub(crate) fn first_change(items: &[SharedItem]) -> Option<&ChangeItem>
-    ensures { option_copied result ≡ first_change items.now }
-{
-    match items.first() {
-        None => None,
-        Some(item) => item.item().as_change(),
     }
 }
 

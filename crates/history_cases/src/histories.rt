@@ -188,9 +188,14 @@ fn selections_are_undone_and_redone_among_changes(rt: HostRuntime) -> Result<(),
     Ok(())
 }
 
-/// What an undo tells and the selection that it gives, after an insertion at the start that tells 2 and another there that is
-/// not recorded.
-fn told_by_undo(alloc: Global) -> Result<(Option<i64>, (u32, u32)), Fail> {
+/// Whether, after an insertion at the start that tells 2 and another there that is not recorded, an undo gives this document,
+/// tells this number and gives this selection, and leaves a Select to be undone and a Change to be done again.
+fn undo_gives(
+    alloc: Global,
+    document: &[char],
+    told: i64,
+    selected: (u32, u32),
+) -> Result<bool, Fail> {
     let acts = [
         (Act::Select(2, 2), Twist::None),
         (Act::Insert(0, 'c'), Twist::Tells(2)),
@@ -198,12 +203,18 @@ fn told_by_undo(alloc: Global) -> Result<(Option<i64>, (u32, u32)), Fail> {
         (Act::Undo, Twist::None),
     ];
     let scene = played(alloc, &['a', 'b'], &acts)?;
-    Ok((scene.told, scene.selected))
+    Ok(
+        is_spelled(&scene.document, document)?
+            && scene.told == Some(told)
+            && scene.selected == selected
+            && scene.history.depth() == (0, 1)
+            && scene.history.items() == (1, 1),
+    )
 }
 
 #[test]
 fn an_undo_gives_back_a_selection_and_an_effect(rt: HostRuntime) -> Result<(), Fail> {
-    assert!(rt; told_by_undo(rt.alloc())? == (Some(3), (3, 3)));
+    assert!(rt; undo_gives(rt.alloc(), &['z', 'a', 'b'], 3, (3, 3))?);
     Ok(())
 }
 
@@ -221,8 +232,9 @@ fn nothing_is_there_to_be_restored_at_first(rt: HostRuntime) -> Result<(), Fail>
     Ok(())
 }
 
-/// The numbers of Changes and of items that can be undone after selections 100 milliseconds apart, under an event.
-fn kept_selections(alloc: Global, event: Twist) -> Result<(usize, usize), Fail> {
+/// The numbers of Changes and of items, each that can be undone and that can be done again, after selections 100 milliseconds
+/// apart, under an event.
+fn kept_selections(alloc: Global, event: Twist) -> Result<((usize, usize), (usize, usize)), Fail> {
     let acts = [
         (Act::Insert(0, 'a'), Twist::None),
         (Act::Select(1, 0), event),
@@ -230,18 +242,18 @@ fn kept_selections(alloc: Global, event: Twist) -> Result<(usize, usize), Fail> 
         (Act::Select(0, 1), event),
     ];
     let scene = played(alloc, &[], &acts)?;
-    Ok((scene.history.depth().0, scene.history.items().0))
+    Ok((scene.history.depth(), scene.history.items()))
 }
 
 #[test]
 fn selections_join(rt: HostRuntime) -> Result<(), Fail> {
-    for (event, counts) in &[
-        (Twist::None, (1, 3)),
-        (Twist::Event("select.word"), (1, 2)),
-        (Twist::Event("input"), (1, 3)),
-        (Twist::Unrecorded, (1, 1)),
+    for (event, items) in &[
+        (Twist::None, 3),
+        (Twist::Event("select.word"), 2),
+        (Twist::Event("input"), 3),
+        (Twist::Unrecorded, 1),
     ] {
-        assert!(rt; kept_selections(rt.alloc(), *event)? == *counts);
+        assert!(rt; kept_selections(rt.alloc(), *event)? == ((1, 0), (*items, 0)));
     }
     Ok(())
 }
@@ -274,6 +286,38 @@ fn depth_elsewhere(alloc: Global, characters: &[char]) -> Result<(usize, usize),
 fn a_history_of_another_document_counts_as_empty(rt: HostRuntime) -> Result<(), Fail> {
     assert!(rt; leads(rt.alloc())? == (true, false));
     assert!(rt; depth_elsewhere(rt.alloc(), &['x'])? == (1, 0));
+    Ok(())
+}
+
+/// The numbers of Changes and of items after so many insertions at the start, each a group, and as many undos, where so many
+/// Changes are kept.
+fn counts_after(
+    alloc: Global,
+    count: u32,
+    depth: i64,
+) -> Result<((usize, usize), (usize, usize)), Fail> {
+    let mut scene = played(alloc, &[], &[])?;
+    let mut time: i64 = 0;
+    for _ in 0..count {
+        scene = acted(
+            alloc,
+            &scene,
+            Act::Insert(0, 'a'),
+            Twist::Depth(depth),
+            time,
+        )?;
+        time = time.saturating_add(1000);
+    }
+    for _ in 0..count {
+        scene = acted(alloc, &scene, Act::Undo, Twist::Depth(depth), time)?;
+    }
+    Ok((scene.history.depth(), scene.history.items()))
+}
+
+#[test]
+fn many_steps_are_undone(rt: HostRuntime) -> Result<(), Fail> {
+    let counts = counts_after(rt.alloc(), 2_000, 1_000_000)?;
+    assert!(rt; counts == ((0, 2_000), (0, 2_000)));
     Ok(())
 }
 

@@ -1,7 +1,7 @@
 ghost use Rattle.std.specs.Prelude.{IfOk, ◌≡◌};
 ghost use Rattle.kept_effects.specs.MappedValues.{moved_effect, moved_effects};
 
-use crate::value::mapped_value;
+use crate::value_mapper::ValueMapper;
 use change_desc::Desc;
 use cm_plain::KeptEffect;
 use listed::Listed;
@@ -11,11 +11,11 @@ use std::alloc::{AllocError, Global};
 fn moved_effect(
     alloc: Global,
     effect: &KeptEffect,
-    changes: &Desc,
+    changes: &ValueMapper,
 ) -> Result<Option<KeptEffect>, AllocError>
     ensures { IfOk result (λ moved. moved ≡ moved_effect changes.now effect.now) }
 {
-    match mapped_value(alloc, effect.map, &effect.value, changes)? {
+    match changes.mapped(alloc, effect.map, &effect.value)? {
         None => Ok(None),
         Some(value) => Ok(Some(KeptEffect {
             id: effect.id,
@@ -25,7 +25,8 @@ fn moved_effect(
     }
 }
 
-/// Kept effects after changes of their document, in order, without those that their maps drop. `Err`: out of memory.
+/// Kept effects after changes of their document, in order, without those that their maps drop. The changes are read once, and
+/// an effect takes the logarithm of their number. `Err`: out of memory.
 pub fn moved_effects(
     alloc: Global,
     effects: &[KeptEffect],
@@ -34,8 +35,12 @@ pub fn moved_effects(
     ensures { IfOk result (λ moved. moved ≡ moved_effects changes.now effects.now) }
 {
     let mut moved = Listed::empty(alloc);
+    if effects.is_empty() {
+        return Ok(moved);
+    }
+    let mapper = ValueMapper::new(alloc, changes)?;
     for effect in effects {
-        if let Some(next) = moved_effect(alloc, effect, changes)? {
+        if let Some(next) = moved_effect(alloc, effect, &mapper)? {
             moved.push(next)?;
         }
     }

@@ -1,7 +1,7 @@
 ghost use Rattle.std.specs.Prelude.{IfSome, ◌≡◌, ◌≤◌};
 ghost use Rattle.kept_effects.specs.MappedValues.{mapped_place, position_in};
 
-use change_desc::{Desc, MapMode};
+use crate::value_mapper::ValueMapper;
 
 /// A whole number as a position of a document of `len` characters, if it is one.
 pub(crate) fn position_in(len: u32, number: i64) -> Option<u32>
@@ -15,11 +15,11 @@ pub(crate) fn position_in(len: u32, number: i64) -> Option<u32>
 }
 
 /// Where changes move a number that is a position of their old document, unless it lies strictly inside what they replace.
-pub(crate) fn mapped_place(changes: &Desc, number: i64) -> Option<u32>
+pub(crate) fn mapped_place(changes: &ValueMapper, number: i64) -> Option<u32>
     ensures { result ≡ mapped_place changes.now number }
 {
     match position_in(changes.len(), number) {
         None => None,
-        Some(position) => changes.map_pos(position, 1, MapMode::TrackDel),
+        Some(position) => changes.position(position),
     }
 }

@@ -3,7 +3,7 @@ ghost use Rattle.change_desc.specs.Sections.{old_size};
 ghost use Rattle.kept_effects.specs.PrivateEnds.{AreIn};
 ghost use Rattle.kept_effects.specs.MappedValues.{ends_in, ends_of, mapped_ends, range_value, two_numbers};
 
-use change_desc::Desc;
+use crate::value_mapper::ValueMapper;
 use cm_plain::{Plain, TooDeep};
 use std::alloc::{AllocError, Global};
 
@@ -58,7 +58,7 @@ fn range_value(alloc: Global, from: u32, to: u32) -> Result<Plain, AllocError>
 /// Where changes move a range of their old document, unless its ends meet or cross.
 pub(crate) fn mapped_ends(
     alloc: Global,
-    changes: &Desc,
+    changes: &ValueMapper,
     from: u32,
     to: u32,
 ) -> Result<Option<Plain>, AllocError>
@@ -66,8 +66,8 @@ pub(crate) fn mapped_ends(
     requires to { to ≤ old_size changes.now }
     ensures { IfOk result (λ moved. moved ≡ mapped_ends changes.now from to) }
 {
-    let start = changes.place_after(from, 1);
-    let end = changes.place_after(to, -1);
+    let start = changes.start(from);
+    let end = changes.end(to);
     if end <= start {
         return Ok(None);
     }

@@ -3,6 +3,7 @@ ghost use Rattle.kept_effects.specs.MappedValues.{mapped_position, mapped_range,
 
 use crate::position::mapped_place;
 use crate::range::{ends_of, mapped_ends};
+use crate::value_mapper::ValueMapper;
 use change_desc::Desc;
 use cm_plain::{KeptMap, Plain};
 use std::alloc::{AllocError, Global};
@@ -20,10 +21,25 @@ pub fn mapped_value(
 ) -> Result<Option<Plain>, AllocError>
     ensures { IfOk result (λ mapped. mapped ≡ mapped_value map value.now changes.now) }
 {
-    match map {
-        None => Ok(Some(value.try_copy(alloc)?)),
-        Some(KeptMap::Position) => mapped_position(alloc, value, changes),
-        Some(KeptMap::Range) => mapped_range(alloc, value, changes),
+    let mapper = ValueMapper::new(alloc, changes)?;
+    mapper.mapped(alloc, map, value)
+}
+
+impl<'a> ValueMapper<'a> {
+    /// What `mapped_value` gives over the changes. `Err`: out of memory.
+    pub fn mapped(
+        &self,
+        alloc: Global,
+        map: Option<KeptMap>,
+        value: &Plain,
+    ) -> Result<Option<Plain>, AllocError>
+        ensures { IfOk result (λ mapped. mapped ≡ mapped_value map value.now self.now) }
+    {
+        match map {
+            None => Ok(Some(value.try_copy(alloc)?)),
+            Some(KeptMap::Position) => mapped_position(alloc, value, self),
+            Some(KeptMap::Range) => mapped_range(alloc, value, self),
+        }
     }
 }
 
@@ -31,7 +47,7 @@ pub fn mapped_value(
 fn mapped_position(
     alloc: Global,
     value: &Plain,
-    changes: &Desc,
+    changes: &ValueMapper,
 ) -> Result<Option<Plain>, AllocError>
     ensures { IfOk result (λ mapped. mapped ≡ mapped_position changes.now value.now) }
 {
@@ -45,7 +61,11 @@ fn mapped_position(
 }
 
 /// A value that may be a range.
-fn mapped_range(alloc: Global, value: &Plain, changes: &Desc) -> Result<Option<Plain>, AllocError>
+fn mapped_range(
+    alloc: Global,
+    value: &Plain,
+    changes: &ValueMapper,
+) -> Result<Option<Plain>, AllocError>
     ensures { IfOk result (λ mapped. mapped ≡ mapped_range changes.now value.now) }
 {
     match ends_of(changes.len(), value) {

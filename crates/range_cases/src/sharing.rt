@@ -1,8 +1,25 @@
+ghost use Rattle.std.specs.Prelude.{◌≡◌, ◌<◌};
+ghost use Rattle.change_desc.specs.Sections.{old_size};
+ghost use Rattle.range_set.specs.Mapping.{EndWithin};
+
 use crate::numbered::{Numbered, described};
 use change_desc::{Desc, Section};
-use range_set::{RangeSet, Ranged};
-use std::alloc::Global;
+use range_set::{RangeSet, RangeValue, Ranged};
+use std::alloc::{AllocError, Global};
+use std::marker::Brand;
+use std::sync::ledger::{Blank, Ledger};
 use std::test::*;
+use steps::Steps;
+
+/// The value of the point with an index, counted from 0.
+fn numbered(index: u32, most: u32) -> Numbered {
+    Numbered {
+        start: 1,
+        end: 1,
+        number: index.wrapping_add(1),
+        most,
+    }
+}
 
 /// Points at 10, 20 and so on, numbered from 1, of which those over `most` refuse to be copied.
 fn points(alloc: Global, count: u32, most: u32) -> Result<RangeSet<Numbered>, Fail> {
@@ -13,42 +30,71 @@ fn points(alloc: Global, count: u32, most: u32) -> Result<RangeSet<Numbered>, Fa
         ranges.push(Ranged {
             from: place,
             to: place,
-            value: Numbered {
-                start: 1,
-                end: 1,
-                number: index.wrapping_add(1),
-                most,
-            },
+            value: numbered(index, most),
         })?;
     }
     Ok(RangeSet::of(ranges)?)
 }
 
-/// Whether each point stands where an insertion of 3 characters at a place moves it.
-fn stand_after(set: &RangeSet<Numbered>, at: u32) -> bool {
+/// Whether a set is that of so many points, each where an insertion of 3 characters at a place moves it.
+fn stand_after(set: &RangeSet<Numbered>, at: u32, count: u32, most: u32) -> bool {
     let mut place = 0u32;
     let mut ranges = set.iter();
-    while let Some(range) = ranges.next() {
+    for index in 0..count {
         place = place.wrapping_add(10);
         let want = if place < at {
             place
         } else {
             place.wrapping_add(3)
         };
-        if range.from != want || range.to != want {
-            return false;
+        match ranges.next() {
+            None => return false,
+            Some(range) => {
+                if range.from != want
+                    || range.to != want
+                    || !range.value.same(&numbered(index, most))
+                {
+                    return false;
+                }
+            }
         }
     }
-    true
+    ranges.next().is_none()
 }
 
-/// Whether points, of which those over `most` refuse to be copied, are mapped over an insertion: `None` where out of memory.
-fn mapped_points(set: &RangeSet<Numbered>, changes: &Desc, at: u32, count: usize) -> Option<bool> {
+/// A set over changes that start in a text that holds it, once mapped and once mapped with a counter.
+fn mapped_twice<L: Ledger>(
+    set: &RangeSet<Numbered>,
+    changes: &Desc,
+    blank: Blank,
+) -> Result<(RangeSet<Numbered>, RangeSet<Numbered>), AllocError>
+    requires name { blank.name ≡ L.name }
+    requires parts { blank.parts ≡ L.parts }
+    requires some { 0 < blank.parts }
+    requires inside { EndWithin (old_size changes.now) set.now }
+{
+    let mut mapped: Steps<L> = Steps::new(blank);
+    let counted = set.map_steps(changes, &mut mapped)?;
+    let other = set.map(changes)?;
+    Ok((counted, other))
+}
+
+/// Whether so many points, of which those over `most` refuse to be copied, are mapped over an insertion: `None` where out of
+/// memory.
+fn mapped_points(
+    set: &RangeSet<Numbered>,
+    changes: &Desc,
+    at: u32,
+    count: u32,
+    most: u32,
+) -> Option<bool> {
     if !set.ends_within(changes.len()) {
         return None;
     }
-    match set.map(changes) {
-        Ok(new) => Some(new.len() == count && stand_after(&new, at)),
+    match mapped_twice::<Brand>(set, changes, Blank::new(1)) {
+        Ok((counted, other)) => {
+            Some(stand_after(&counted, at, count, most) && stand_after(&other, at, count, most))
+        }
         Err(_) => None,
     }
 }
@@ -65,7 +111,7 @@ fn thousand(alloc: Global, most: u32, at: u32) -> Result<Option<bool>, Fail> {
             Section::Keep(rest),
         ],
     )?;
-    Ok(mapped_points(&set, &changes, at, 1000))
+    Ok(mapped_points(&set, &changes, at, 1000, most))
 }
 
 #[test]
@@ -86,6 +132,40 @@ fn many_points_are_mapped(rt: HostRuntime) -> Result<(), Fail> {
         Section::Keep(500_000),
     ];
     let changes = described(rt.alloc(), &sections)?;
-    assert!(rt; mapped_points(&set, &changes, 500_005, 100_000) == Some(true));
+    assert!(rt; mapped_points(&set, &changes, 500_005, 100_000, u32::MAX) == Some(true));
+    Ok(())
+}
+
+/// A set of 1,000 points without those at a place, with one more there: `None` where out of memory.
+fn updated_points(alloc: Global, most: u32, at: u32) -> Result<Option<RangeSet<Numbered>>, Fail> {
+    let set = points(alloc, 1000, most)?;
+    let mut add = Vec::new(alloc);
+    add.push(Ranged {
+        from: at,
+        to: at,
+        value: numbered(at, most),
+    })?;
+    Ok(set.update(add, |range| range.from != at).ok())
+}
+
+/// How many ranges the set has, and whether its range at the place is the added one alone.
+fn has_update(alloc: Global, most: u32, at: u32) -> Result<Option<(usize, bool)>, Fail> {
+    let Some(set) = updated_points(alloc, most, at)? else {
+        return Ok(None);
+    };
+    let mut found = set.between(at, at);
+    let is_added = match found.next() {
+        None => false,
+        Some(range) => range.value.number == at.wrapping_add(1) && found.next().is_none(),
+    };
+    Ok(Some((set.len(), is_added)))
+}
+
+#[test]
+fn chunks_that_an_update_leaves_are_shared(rt: HostRuntime) -> Result<(), Fail> {
+    assert!(rt; has_update(rt.alloc(), 0, 15_000)? == Some((1001, true)));
+    assert!(rt; has_update(rt.alloc(), 0, 5)? == Some((1001, true)));
+    assert!(rt; has_update(rt.alloc(), 128, 500)? == Some((1000, true)));
+    assert!(rt; has_update(rt.alloc(), 127, 500)? == None);
     Ok(())
 }

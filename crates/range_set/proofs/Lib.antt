@@ -4,6 +4,8 @@ pub mod Chunks
 pub mod Passing
 pub mod Each
 pub mod Under
+pub mod Updates
+pub mod UpdateLoops
 pub mod ClearChunks
 pub mod Cost
 pub mod Walked

@@ -61,7 +61,7 @@ module _ {T : Type 0} (rules : RangeRules T) where
   follows_next None r rs h = refl
   follows_next (Some q) r rs h = h.0
 
-  no_fault_from : (i : ℕ) (last : Option (Ranged T)) (rs : List (Ranged T)) → Rises (before rules) rs → FollowsAll last rs → AllForward rs → fault_from rules i last rs ≡ None
+  pub no_fault_from : (i : ℕ) (last : Option (Ranged T)) (rs : List (Ranged T)) → Rises (before rules) rs → FollowsAll last rs → AllForward rs → fault_from rules i last rs ≡ None
   no_fault_from i last [] h k f = refl
   no_fault_from i last (r ∷ rs) h k f =
       rw (f.0, follows_next last r rs k) (no_fault_from (i + 1) (Some r) rs h.1 h.0 f.1)

@@ -184,40 +184,40 @@ module _ {T : Type 0} (rules : RangeRules T) (d : Sections) where
       (subst (NoneBelow (before rules) (at_clear u)) (clear_images c k.1) (above_images u c k.0.0 k.0.1 (starts_in c k.1) h.0), chunk_rises c k.1 h.1)
 
 module _ {T : Type 0} (rules : RangeRules T) where
-  none_left : (z : Ranged T) (xs ys : List (Ranged T)) → NoneBelow (before rules) z (xs ++ ys) → NoneBelow (before rules) z xs
+  pub none_left : (z : Ranged T) (xs ys : List (Ranged T)) → NoneBelow (before rules) z (xs ++ ys) → NoneBelow (before rules) z xs
   none_left z [] ys h = tt
   none_left z (x ∷ xs) ys h = (h.0, none_left z xs ys h.1)
 
-  none_right : (z : Ranged T) (xs ys : List (Ranged T)) → NoneBelow (before rules) z (xs ++ ys) → NoneBelow (before rules) z ys
+  pub none_right : (z : Ranged T) (xs ys : List (Ranged T)) → NoneBelow (before rules) z (xs ++ ys) → NoneBelow (before rules) z ys
   none_right z [] ys h = h
   none_right z (x ∷ xs) ys h = none_right z xs ys h.1
 
-  none_both : (z : Ranged T) (xs ys : List (Ranged T)) → NoneBelow (before rules) z xs → NoneBelow (before rules) z ys → NoneBelow (before rules) z (xs ++ ys)
+  pub none_both : (z : Ranged T) (xs ys : List (Ranged T)) → NoneBelow (before rules) z xs → NoneBelow (before rules) z ys → NoneBelow (before rules) z (xs ++ ys)
   none_both z [] ys h k = k
   none_both z (x ∷ xs) ys h k = (h.0, none_both z xs ys h.1 k)
 
-  any_both : (zs xs ys : List (Ranged T)) → NoneBelowAny (before rules) (before-order rules) zs xs → NoneBelowAny (before rules) (before-order rules) zs ys → NoneBelowAny (before rules) (before-order rules) zs (xs ++ ys)
+  pub any_both : (zs xs ys : List (Ranged T)) → NoneBelowAny (before rules) (before-order rules) zs xs → NoneBelowAny (before rules) (before-order rules) zs ys → NoneBelowAny (before rules) (before-order rules) zs (xs ++ ys)
   any_both [] xs ys h k = tt
   any_both (z ∷ zs) xs ys h k = (none_both z xs ys h.0 k.0, any_both zs xs ys h.1 k.1)
 
-  rises_left : (xs ys : List (Ranged T)) → Rises (before rules) (xs ++ ys) → Rises (before rules) xs
+  pub rises_left : (xs ys : List (Ranged T)) → Rises (before rules) (xs ++ ys) → Rises (before rules) xs
   rises_left [] ys h = tt
   rises_left (x ∷ xs) ys h = (none_left x xs ys h.0, rises_left xs ys h.1)
 
-  rises_right : (xs ys : List (Ranged T)) → Rises (before rules) (xs ++ ys) → Rises (before rules) ys
+  pub rises_right : (xs ys : List (Ranged T)) → Rises (before rules) (xs ++ ys) → Rises (before rules) ys
   rises_right [] ys h = h
   rises_right (x ∷ xs) ys h = rises_right xs ys h.1
 
-  rises_across : (xs ys : List (Ranged T)) → Rises (before rules) (xs ++ ys) → NoneBelowAny (before rules) (before-order rules) xs ys
+  pub rises_across : (xs ys : List (Ranged T)) → Rises (before rules) (xs ++ ys) → NoneBelowAny (before rules) (before-order rules) xs ys
   rises_across [] ys h = tt
   rises_across (x ∷ xs) ys h = (none_right x xs ys h.0, rises_across xs ys h.1)
 
-  any_left : (zs xs ys : List (Ranged T)) → NoneBelowAny (before rules) (before-order rules) zs (xs ++ ys) → NoneBelowAny (before rules) (before-order rules) zs xs
+  pub any_left : (zs xs ys : List (Ranged T)) → NoneBelowAny (before rules) (before-order rules) zs (xs ++ ys) → NoneBelowAny (before rules) (before-order rules) zs xs
   any_left [] xs ys h = tt
   any_left (z ∷ zs) xs ys h = (none_left z xs ys h.0, any_left zs xs ys h.1)
 
   -- what isn't before an element of a list is not before what that is after
-  through : (zs ys : List (Ranged T)) (u : Ranged T) (us : List (Ranged T)) → NoneBelowAny (before rules) (before-order rules) zs (u ∷ us) → NoneBelow (before rules) u ys → NoneBelowAny (before rules) (before-order rules) zs ys
+  pub through : (zs ys : List (Ranged T)) (u : Ranged T) (us : List (Ranged T)) → NoneBelowAny (before rules) (before-order rules) zs (u ∷ us) → NoneBelow (before rules) u ys → NoneBelowAny (before rules) (before-order rules) zs ys
   through [] ys u us h k = tt
   through (z ∷ zs) ys u us h k = (NoneBelow-chain (before rules) (before-order rules) z u ys h.0.0 k, through zs ys u us h.1 k)
 

@@ -4,7 +4,9 @@ pub mod Ranking
 pub mod Mapping
 pub mod Updating
 pub mod Seen
+pub mod Examples
 pub mod PrivateChunks
+pub mod PrivateUpdates
 pub use Rattle.change_desc.specs.Sections
 pub use Rattle.change_desc.specs.Ranges
 pub use Rattle.change_desc.specs.Meeting

@@ -16,6 +16,7 @@ mod range_ref;
 mod range_set;
 mod range_value;
 mod ranged;
+mod updating;
 
 pub use between::Between;
 pub use iter::Iter;

@@ -129,7 +129,7 @@ fn map_each<T: RangeValue, L: Ledger>(
 }
 
 /// Sorts a run of mapped ranges and puts them after those of a builder; none is left. `Err`: out of memory.
-fn put_sorted<T: RangeValue>(
+pub(crate) fn put_sorted<T: RangeValue>(
     run: &mut Vec<Ranged<T>>,
     builder: &mut ChunkBuilder<T>,
 ) -> Result<(), AllocError>

@@ -1,6 +1,6 @@
 ghost use Rattle.std.specs.Prelude.{◌≡◌, ◌≢◌, ◌↔◌, ◌+◌, ◌≤◌, ◌<◌, [], None, Some, length, IfOk, IfErr, IsTrue, filter};
 ghost use Rattle.change_desc.specs.Sections.{counted, new_size, old_size};
-ghost use Rattle.range_set.specs.Order.{first_fault, AllForward};
+ghost use Rattle.range_set.specs.Order.{first_fault};
 ghost use Rattle.range_set.specs.Mapping.{map_ranges, most_mapped, EndWithin};
 ghost use Rattle.range_set.specs.PrivateChunks.{AreChunks, flat};
 ghost use Rattle.range_set.specs.Updating.{AnswersAs, updated, overlaps};
@@ -14,8 +14,8 @@ use crate::range_error::RangeError;
 use crate::range_ref::RangeRef;
 use crate::range_value::RangeValue;
 use crate::ranged::Ranged;
+use crate::updating::updated_chunks;
 use change_desc::Desc;
-use stable_order::sort_stably;
 use std::alloc::{AllocError, Global};
 use std::marker::{Brand, Model};
 use std::sync::ledger::{Blank, Ledger};
@@ -105,11 +105,12 @@ impl<T: RangeValue> RangeSet<T> {
     }
 
     /// The ranges that `keep` allows and those of `add`, the old ones first where they tie (RangeSet.update). `keep` is asked
-    /// of each range as `iter` lends it; the values of those that it allows are copied. `Err`: the first range of `add` that
-    /// ends before it starts or belongs before the one before it; or out of memory.
+    /// of ranges as `iter` lends them, of some twice. A chunk whose ranges it allows, and among which no range of `add`
+    /// belongs, is shared; of the others the values that stay are copied. `Err`: the first range of `add` that ends before it
+    /// starts or belongs before the one before it; or out of memory.
     pub fn update<F: Fn(&RangeRef<'_, T>) -> bool>(
         &self,
-        mut add: Vec<Ranged<T>>,
+        add: Vec<Ranged<T>>,
         keep: F,
     ) -> Result<RangeSet<T>, RangeError>
         requires { F.IsAlwaysCallable keep }
@@ -121,10 +122,14 @@ impl<T: RangeValue> RangeSet<T> {
             Some(fault) => return Err(fault),
             None => {}
         }
-        let mut ranges = kept(*self.chunks.allocator(), self.iter(), &keep)?;
-        ranges.append(&mut add)?;
-        sort_stably(&mut ranges)?;
-        Ok(set_of(ranges)?)
+        // As many ranges as this can't be counted, so they find no room.
+        match self.len.checked_add(add.len()) {
+            Some(_) => {}
+            None => return Err(RangeError::NoMemory),
+        }
+        let alloc = *self.chunks.allocator();
+        let (chunks, len) = updated_chunks(alloc, self.chunks.as_slice(), add, &keep)?;
+        Ok(RangeSet { chunks, len })
     }
 
     /// Whether each range lies in a document of `len` characters.
@@ -259,25 +264,4 @@ fn shared<T: RangeValue>(alloc: Global, chunks: &[Placed<T>]) -> Result<Vec<Plac
         })?;
     }
     Ok(copies)
-}
-
-/// Copies of the ranges that `keep` allows. `Err`: out of memory.
-fn kept<'a, T: RangeValue, F: Fn(&RangeRef<'_, T>) -> bool>(
-    alloc: Global,
-    ranges: Iter<'a, T>,
-    keep: &F,
-) -> Result<Vec<Ranged<T>>, AllocError>
-    requires callable { F.IsAlwaysCallable keep.now }
-    requires forward { AllForward ranges }
-    ensures value { IfOk result (λ v. (p : _) → AnswersAs F.Fn keep.now p → v.items ≡ filter p ranges.entry) }
-    ensures forward { IfOk result (λ v. AllForward v.items) }
-{
-    let mut kept = Vec::new(alloc);
-    let mut rest = ranges;
-    while let Some(range) = rest.next() {
-        if keep(&range) {
-            kept.push(range.try_copy(alloc)?)?;
-        }
-    }
-    Ok(kept)
 }

@@ -1,4 +1,4 @@
-ghost use Rattle.std.specs.Prelude.{IfErr, IfOk, IsTrue, MatchOption, [], length, map, slice_get, true, ℕ, ◌<◌, ◌≡◌, ◌≢◌, ◌∷◌, ◌↔◌};
+ghost use Rattle.std.specs.Prelude.{IfErr, IfOk, IsTrue, MatchOption, [], length, map, slice_get, true, ℕ, ◌<◌, ◌-◌, ◌^◌, ◌≡◌, ◌≢◌, ◌∷◌, ◌↔◌};
 ghost use Rattle.change_desc.specs.Sections.{counted, new_size, old_size};
 ghost use Rattle.selection.specs.Ranges.{moved_range};
 ghost use Rattle.selection.specs.Selections.{IsSelection, LieIn, SelectionView, are_apart, first_outside, is_covered, is_covered_at, moved_selection, normal_form, selection_refusal, single_of};
@@ -134,6 +134,23 @@ impl Selection {
         self.main == other.main && same_ranges(&self.ranges, &other.ranges)
     }
 
+    /// What may be relied on in each selection: no two neighbours meet, and one range is the main one. Takes no time.
+    pub fn known(&self)
+        ensures { IsSelection self.now }
+    {
+        let _ = &self.ranges;
+    }
+
+    /// That each place of its ranges fits 32 bits. Takes the time of the ranges, and no memory.
+    pub fn known_places(&self)
+        ensures { LieIn (2 ^ 32 - 1) self.now.ranges }
+    {
+        match first_outside(&self.ranges, u32::MAX) {
+            None => {}
+            Some(_) => unreachable!(),
+        }
+    }
+
     /// A copy.
     pub fn try_copy(&self) -> Result<Selection, AllocError>
         ensures { IfOk result (λ copy. copy ≡ self.now) }
@@ -180,7 +197,7 @@ fn moved_ranges(alloc: Global, ranges: &[Range], changes: &Desc) -> Result<Vec<R
 /// The greater end of the first range that ends past a document of `len` characters.
 pub fn first_outside(ranges: &[Range], len: u32) -> Option<u32>
     ensures outside { result ≡ first_outside len ranges.now }
-    ensures inside { MatchOption result (LieIn len ranges.now) (λ _. Unit {0}) }
+    ensures inside { MatchOption result (LieIn len ranges.now) (λ end. len < end) }
 {
     for range in ranges {
         if range.to() > len {

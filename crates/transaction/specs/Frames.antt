@@ -6,8 +6,9 @@ use Rattle.change_desc.specs.Sections.{counted, new_size, old_size}
 use Rattle.transaction.specs.declared.effect_kinds.EffectKinds.{EffectKinds}
 use Rattle.transaction.specs.Effects.{HasMaps}
 
--- each kind's map is one of those that there are, and no document is longer than any may be
-pub record IsFrame (count : ℕ) (kinds : EffectKinds) (max : ℕ) : Type 0 where
+-- the maps can be asked, each kind's map is one of those that there are, and no document is longer than any may be
+pub record IsFrame (ready : Type 0) (count : ℕ) (kinds : EffectKinds) (max : ℕ) : Type 0 where
+  pub can_map : ready
   pub known : HasMaps count kinds.maps
   pub limit : max ≤ max_len
 

@@ -81,7 +81,7 @@ impl<V: Drop> Draft<V> {
         requires meet { new_size spelled self.changes ≡ old_size next.changes }
         requires inside { SelectionIn (new_size spelled self.changes) self.selection }
         requires next_inside { SelectionIn (new_size spelled next.changes) next.selection }
-        requires frame { IsFrame (M.map_count frame.now.maps.now) frame.now.kinds.now frame.now.max }
+        requires frame { IsFrame (M.can_map frame.now.maps.now) (M.map_count frame.now.maps.now) frame.now.kinds.now frame.now.max }
         requires short { new_size spelled self.changes ≤ frame.now.max }
         requires next_short { new_size spelled next.changes ≤ frame.now.max }
         ensures value { IfOk result (λ draft. draft ≡ followed frame.now.kinds.now (M.map_value frame.now.maps.now) self next) }
@@ -105,7 +105,7 @@ impl<V: Drop> Draft<V> {
         requires meet { old_size next.changes ≡ old_size self.changes }
         requires inside { SelectionIn (new_size spelled self.changes) self.selection }
         requires next_inside { SelectionIn (new_size spelled next.changes) next.selection }
-        requires frame { IsFrame (M.map_count frame.now.maps.now) frame.now.kinds.now frame.now.max }
+        requires frame { IsFrame (M.can_map frame.now.maps.now) (M.map_count frame.now.maps.now) frame.now.kinds.now frame.now.max }
         requires short { new_size spelled self.changes ≤ frame.now.max }
         requires next_short { new_size spelled next.changes ≤ frame.now.max }
         ensures value { IfOk result (λ draft. draft ≡ beside frame.now.kinds.now (M.map_value frame.now.maps.now) self next) }

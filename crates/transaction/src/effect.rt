@@ -32,7 +32,7 @@ fn moved_effect<V: Drop, M: EffectMaps<V>>(
     changes: &Desc,
     frame: &Frame<M>,
 ) -> Result<Option<Effect<V>>, AllocError>
-    requires frame { IsFrame (M.map_count frame.now.maps.now) frame.now.kinds.now frame.now.max }
+    requires frame { IsFrame (M.can_map frame.now.maps.now) (M.map_count frame.now.maps.now) frame.now.kinds.now frame.now.max }
     requires within { AreWithin frame.now.max changes.now }
     ensures { IfOk result (λ moved. moved ≡ moved_effect frame.now.kinds.now (M.map_value frame.now.maps.now) changes.now effect) }
 {
@@ -55,7 +55,7 @@ pub(crate) fn moved_effects<V: Drop, M: EffectMaps<V>>(
     changes: &Desc,
     frame: &Frame<M>,
 ) -> Result<Listed<Effect<V>>, AllocError>
-    requires frame { IsFrame (M.map_count frame.now.maps.now) frame.now.kinds.now frame.now.max }
+    requires frame { IsFrame (M.can_map frame.now.maps.now) (M.map_count frame.now.maps.now) frame.now.kinds.now frame.now.max }
     requires within { AreWithin frame.now.max changes.now }
     ensures { IfOk result (λ moved. moved ≡ moved_effects frame.now.kinds.now (M.map_value frame.now.maps.now) changes.now effects) }
 {

@@ -15,9 +15,13 @@ pub trait EffectMaps<V> {
     /// The value after changes, or none where it is dropped, by the map's number.
     ghost map_value: { Self → ℕ → V → List (Section ℕ) → Option V };
 
+    /// What has to hold of the maps before they are asked, as that each of their stored closures answers its number's meaning.
+    ghost can_map: { Self → Type 0 } = { λ maps. Unit {0} };
+
     /// What the map of this number makes of a value over changes of a document, where neither document has more than
     /// 16,777,216 characters. `None`: the effect is dropped. `Err`: out of memory.
     fn map(&self, number: u32, value: V, changes: &Desc) -> Result<Option<V>, AllocError>
+        requires can_map { can_map self.now }
         requires known { IsNumber (map_count self.now) number }
         requires short { old_size changes.now ≤ max_len }
         requires new_short { new_size counted changes.now ≤ max_len }

@@ -67,7 +67,7 @@ impl<V: Drop> Extras<V> {
         frame: &Frame<M>,
     ) -> Result<Extras<V>, AllocError>
         requires inside { SelectionIn (old_size over.now) self.selection }
-        requires frame { IsFrame (M.map_count frame.now.maps.now) frame.now.kinds.now frame.now.max }
+        requires frame { IsFrame (M.can_map frame.now.maps.now) (M.map_count frame.now.maps.now) frame.now.kinds.now frame.now.max }
         requires within { AreWithin frame.now.max over.now }
         ensures value { IfOk result (λ moved. moved ≡ moved_extras frame.now.kinds.now (M.map_value frame.now.maps.now) over.now self) }
         ensures inside { IfOk result (λ moved. SelectionIn (new_size counted over.now) moved.selection) }
@@ -90,7 +90,7 @@ impl<V: Drop> Extras<V> {
         frame: &Frame<M>,
     ) -> Result<Extras<V>, AllocError>
         requires inside { SelectionIn (old_size changes.now) self.selection }
-        requires frame { IsFrame (M.map_count frame.now.maps.now) frame.now.kinds.now frame.now.max }
+        requires frame { IsFrame (M.can_map frame.now.maps.now) (M.map_count frame.now.maps.now) frame.now.kinds.now frame.now.max }
         requires short { old_size changes.now ≤ frame.now.max }
         requires new_short { new_size spelled changes.now ≤ frame.now.max }
         ensures value { IfOk result (λ moved. moved ≡ moved_extras frame.now.kinds.now (M.map_value frame.now.maps.now) (lengths spelled changes.now) self) }
@@ -113,7 +113,7 @@ impl<V: Drop> Extras<V> {
         requires meet { old_size both.now.theirs ≡ old_size both.now.mine }
         requires fits { new_size counted (back_of both.now) < 2 ^ 32 }
         requires inside { SelectionIn (old_size (back_of both.now)) self.selection }
-        requires frame { IsFrame (M.map_count frame.now.maps.now) frame.now.kinds.now frame.now.max }
+        requires frame { IsFrame (M.can_map frame.now.maps.now) (M.map_count frame.now.maps.now) frame.now.kinds.now frame.now.max }
         requires within { AreWithin frame.now.max (back_of both.now) }
         ensures value { IfOk result (λ moved. moved ≡ moved_extras frame.now.kinds.now (M.map_value frame.now.maps.now) (back_of both.now) self) }
         ensures inside { IfOk result (λ moved. SelectionIn (new_size counted (back_of both.now)) moved.selection) }
@@ -150,7 +150,7 @@ impl<V: Drop> Extras<V> {
         requires same { new_size counted (back_of both.now) ≡ new_size spelled both.now.moved }
         requires inside { SelectionIn (old_size both.now.moved) self.selection }
         requires next_inside { SelectionIn (old_size (back_of both.now)) next.selection }
-        requires frame { IsFrame (M.map_count frame.now.maps.now) frame.now.kinds.now frame.now.max }
+        requires frame { IsFrame (M.can_map frame.now.maps.now) (M.map_count frame.now.maps.now) frame.now.kinds.now frame.now.max }
         requires within { AreWithin frame.now.max (back_of both.now) }
         requires short { old_size both.now.moved ≤ frame.now.max }
         requires new_short { new_size spelled both.now.moved ≤ frame.now.max }
@@ -172,7 +172,7 @@ impl<V: Drop> Extras<V> {
     ) -> Result<Extras<V>, AllocError>
         requires inside { SelectionIn (old_size over.now) self.selection }
         requires next_inside { SelectionIn (new_size counted over.now) next.selection }
-        requires frame { IsFrame (M.map_count frame.now.maps.now) frame.now.kinds.now frame.now.max }
+        requires frame { IsFrame (M.can_map frame.now.maps.now) (M.map_count frame.now.maps.now) frame.now.kinds.now frame.now.max }
         requires within { AreWithin frame.now.max over.now }
         ensures value { IfOk result (λ all. all ≡ both_extras (moved_extras frame.now.kinds.now (M.map_value frame.now.maps.now) over.now self) next) }
         ensures inside { IfOk result (λ all. SelectionIn (new_size counted over.now) all.selection) }

@@ -7,9 +7,8 @@ use crate::draft::Draft;
 use crate::effect::Effect;
 use crate::effect_kinds::{EffectKinds, number_at};
 use crate::effect_value::EffectValue;
-use change_desc::Desc;
 use cm_plain::{KeptEffect, KeptMap, Plain};
-use kept_effects::mapped_value;
+use kept_effects::ValueMapper;
 use listed::Listed;
 use std::alloc::{AllocError, Global};
 
@@ -31,7 +30,8 @@ impl<V: EffectValue> Draft<V> {
         }
         let over = self.changes.desc()?;
         let back = over.inverted()?;
-        inverted_over(alloc, effects, &back, kinds, pairs)
+        let mapper = ValueMapper::new(alloc, &back)?;
+        inverted_over(alloc, effects, &mapper, kinds, pairs)
     }
 }
 
@@ -61,7 +61,7 @@ fn any_has_pair<V>(effects: &[Effect<V>], pairs: &[Option<u32>]) -> bool
 fn inverted_over<V: EffectValue>(
     alloc: Global,
     effects: &[Effect<V>],
-    back: &Desc,
+    back: &ValueMapper,
     kinds: &EffectKinds,
     pairs: &[Option<u32>],
 ) -> Result<Listed<KeptEffect>, AllocError>
@@ -80,7 +80,7 @@ fn inverted_over<V: EffectValue>(
 fn inverted_effect<V: EffectValue>(
     alloc: Global,
     effect: &Effect<V>,
-    back: &Desc,
+    back: &ValueMapper,
     kinds: &EffectKinds,
     pairs: &[Option<u32>],
 ) -> Result<Option<KeptEffect>, AllocError>
@@ -101,7 +101,7 @@ fn kept_effect(
     id: u32,
     number: Option<u32>,
     value: &Plain,
-    changes: &Desc,
+    changes: &ValueMapper,
 ) -> Result<Option<KeptEffect>, AllocError>
     ensures { IfOk result (λ kept. kept ≡ kept_effect id number value.now changes.now) }
 {
@@ -109,6 +109,6 @@ fn kept_effect(
         Some(number) => KeptMap::of_number(number),
         None => None,
     };
-    let mapped = mapped_value(alloc, map, value, changes)?;
+    let mapped = changes.mapped(alloc, map, value)?;
     Ok(mapped.map(|value| KeptEffect { id, map, value }))
 }

@@ -30,7 +30,7 @@ fn after<V: Drop, M: EffectMaps<V>>(
     sequential: bool,
     frame: &Frame<M>,
 ) -> Result<Draft<V>, TransactionError>
-    requires frame { IsFrame (M.map_count frame.now.maps.now) frame.now.kinds.now frame.now.max }
+    requires frame { IsFrame (M.can_map frame.now.maps.now) (M.map_count frame.now.maps.now) frame.now.kinds.now frame.now.max }
     requires before { IsBefore frame.now.len frame.now.max before }
     requires starts { old_size next.changes ≡ start_len frame.now.len (changes_before before) sequential }
     requires short { new_size spelled next.changes ≤ frame.now.max }
@@ -58,7 +58,7 @@ fn advance<V: Drop, M: EffectMaps<V>>(
     refusal: &mut Option<TransactionError>,
     frame: &Frame<M>,
 ) -> Result<Draft<V>, TransactionError>
-    requires frame { IsFrame (M.map_count frame.now.maps.now) frame.now.kinds.now frame.now.max }
+    requires frame { IsFrame (M.can_map frame.now.maps.now) (M.map_count frame.now.maps.now) frame.now.kinds.now frame.now.max }
     requires before { IsBefore frame.now.len frame.now.max before }
     ensures draft { IfOk result (λ draft. Advances frame.now.len frame.now.max frame.now.kinds.now (M.map_value frame.now.maps.now) before spec refusal.old refusal.new draft) }
     ensures refused { IfErr result (λ error. error ≢ TransactionError.NoMemory → spec_changes_refusal frame.now.len frame.now.max (changes_before before) spec ≡ Some error) }
@@ -81,7 +81,7 @@ pub fn resolve<V: Drop, M: EffectMaps<V>>(
     specs: Vec<Spec<V>>,
     frame: &Frame<M>,
 ) -> Result<Draft<V>, TransactionError>
-    requires { IsFrame (M.map_count frame.now.maps.now) frame.now.kinds.now frame.now.max }
+    requires { IsFrame (M.can_map frame.now.maps.now) (M.map_count frame.now.maps.now) frame.now.kinds.now frame.now.max }
     ensures draft { IfOk result (λ draft. draft ≡ merged frame.now.kinds.now (M.map_value frame.now.maps.now) frame.now.len specs.items) }
     ensures is_draft { IfOk result (λ draft. IsDraft frame.now.len draft) }
     ensures short { IfOk result (λ draft. frame.now.len ≤ frame.now.max → new_size spelled draft.changes ≤ frame.now.max) }
@@ -100,7 +100,7 @@ fn resolve_known<V: Drop, M: EffectMaps<V>>(
     specs: Vec<Spec<V>>,
     frame: &Frame<M>,
 ) -> Result<Draft<V>, TransactionError>
-    requires frame { IsFrame (M.map_count frame.now.maps.now) frame.now.kinds.now frame.now.max }
+    requires frame { IsFrame (M.can_map frame.now.maps.now) (M.map_count frame.now.maps.now) frame.now.kinds.now frame.now.max }
     requires known { unknown_effect frame.now.kinds.now specs.items ≡ None }
     ensures draft { IfOk result (λ draft. draft ≡ merged frame.now.kinds.now (M.map_value frame.now.maps.now) frame.now.len specs.items) }
     ensures is_draft { IfOk result (λ draft. IsDraft frame.now.len draft) }
@@ -132,7 +132,7 @@ fn merge_known<V: Drop, M: EffectMaps<V>>(
     spec: Spec<V>,
     frame: &Frame<M>,
 ) -> Result<Draft<V>, TransactionError>
-    requires frame { IsFrame (M.map_count frame.now.maps.now) frame.now.kinds.now frame.now.max }
+    requires frame { IsFrame (M.can_map frame.now.maps.now) (M.map_count frame.now.maps.now) frame.now.kinds.now frame.now.max }
     requires before { IsDraft frame.now.len draft }
     requires short { new_size spelled draft.changes ≤ frame.now.max }
     requires known { unknown_in frame.now.kinds.now spec.effects ≡ None }
@@ -160,7 +160,7 @@ pub fn merge<V: Drop, M: EffectMaps<V>>(
     spec: Spec<V>,
     frame: &Frame<M>,
 ) -> Result<Draft<V>, TransactionError>
-    requires frame { IsFrame (M.map_count frame.now.maps.now) frame.now.kinds.now frame.now.max }
+    requires frame { IsFrame (M.can_map frame.now.maps.now) (M.map_count frame.now.maps.now) frame.now.kinds.now frame.now.max }
     requires before { IsDraft frame.now.len draft }
     requires short { new_size spelled draft.changes ≤ frame.now.max }
     ensures draft { IfOk result (λ both. both ≡ with_spec frame.now.kinds.now (M.map_value frame.now.maps.now) frame.now.len (Some draft) spec) }

@@ -56,7 +56,7 @@ fn text(alloc: Global, characters: &[char]) -> Result<Text, AllocError> {
 }
 
 /// The change of a range.
-fn change(
+pub(crate) fn change(
     alloc: Global,
     from: u32,
     to: u32,

@@ -2,7 +2,10 @@ ghost use Rattle.std.specs.Prelude.{◌≤◌};
 ghost use Rattle.change_desc.specs.Sections.{new_size, spelled};
 ghost use Rattle.transaction.specs.Merging.{IsDraft};
 
-use crate::drafts::{PlainMaps, alone, are_effects, changing, effect, kinds, place, together};
+use crate::drafts::{
+    PlainMaps, alone, are_effects, change, changing, effect, kinds, place, together,
+};
+use change_set::ChangeSet;
 use cm_plain::{Plain, Str};
 use line_tree::Text;
 use selection::Selection;
@@ -147,11 +150,20 @@ fn one_more(alloc: Global) -> Result<Draft<Plain>, TransactionError> {
     merged_with(alloc, draft, next)
 }
 
+/// Whether changes of a document of four characters are the insertion of these at its end.
+fn append(alloc: Global, changes: &ChangeSet, inserted: &[char]) -> Result<bool, AllocError> {
+    let want = change(alloc, 4, 4, inserted)?;
+    match ChangeSet::of(alloc, want.as_slice(), 4, 100) {
+        Ok(want) => Ok(want.same(changes)),
+        Err(_) => Ok(false),
+    }
+}
+
 /// Whether the draft with one more spec is as it is to be.
 fn is_one_more(alloc: Global) -> Result<bool, TransactionError> {
     let both = one_more(alloc)?;
     Ok(
-        is_text_after(alloc, &both, &['a', 'b', 'c', 'd', 'x', 'y'])?
+        append(alloc, &both.changes, &['x', 'y'])?
             && is_cursor(&both.selection, 6)
             && are_effects(both.effects.as_slice(), &[(1, 6, -1), (1, 5, -1)])
             && both.annotations.as_slice().is_empty()

@@ -1,15 +1,16 @@
 -- The shipped rules that update a field (manual: StateFieldSpec.update). Each is given the old value, the transaction, and what
 -- the field reads in the new state.
-use Rattle.std.specs.Prelude.{ℕ, Bool, true, false, cond, ◌&&◌, nat_lt, nat_le, ℤ, pos, List, [], ◌∷◌, ◌++◌, map, fold, filter_map, length, codes, Option, Some, None}
+use Rattle.std.specs.Prelude.{ℕ, Bool, true, false, cond, ◌&&◌, nat_eq, nat_lt, nat_le, ℤ, pos, List, [], ◌∷◌, ◌++◌, map, fold, filter_map, length, codes, Option, Some, None}
 use Rattle.std.specs.Option.{option_and_then, option_or, unwrap_or}
 use Rattle.std.specs.Prelude.{option_map}
+use Rattle.std.specs.Cmp.Lexicographic.{pointwise}
 use Rattle.std.specs.List.{list_any, find}
 use Rattle.line_tree.specs.Text.{TextView}
 use Rattle.change_desc.specs.declared.section.Section.{Section}
 use Rattle.change_desc.specs.Sections.{lengths, spelled}
 use Rattle.change_desc.specs.Ranges.{changes_nothing}
 use Rattle.cm_plain.specs.Datum.{Datum}
-use Rattle.cm_plain.specs.Form.{Form, any, lists, ranges, history, same_text}
+use Rattle.cm_plain.specs.Form.{Form, any, lists, ranges, history}
 use Rattle.cm_plain.specs.declared.plain.Plain.{Plain as PlainData}
 use Rattle.cm_plain.specs.declared.plain.Plain.TheVariants as plain
 use Rattle.kept_effects.specs.MappedValues.{two_numbers, ends_in}
@@ -139,9 +140,9 @@ bool_note kind t = option_and_then bool_in (annotation_of kind t.annotations)
 
 abbrev pub isolation_of : List ℕ → Option Isolation
 isolation_of cs =
-    cond (same_text cs (codes "before")) (Some Before)
-    (cond (same_text cs (codes "after")) (Some After)
-    (cond (same_text cs (codes "full")) (Some Full) None))
+    cond (pointwise nat_eq cs (codes "before")) (Some Before)
+    (cond (pointwise nat_eq cs (codes "after")) (Some After)
+    (cond (pointwise nat_eq cs (codes "full")) (Some Full) None))
 
 -- minDepth and newGroupDelay, as the first read has them where it is a list of two numbers
 abbrev pub history_bounds : DepsView → ℤ × ℤ

@@ -1,4 +1,4 @@
-use Rattle.std.proofs.Common.{◌≡◌, ◌++◌, drop}
+use Rattle.std.proofs.Common.{◌≡◌, ◌++◌, length}
 use Rattle.change_desc.specs.Sections.{old_size}
 use Rattle.history.specs.Histories.{LeadOn}
 use Rattle.history.specs.Moving.{items_over}
@@ -7,6 +7,9 @@ use Rattle.history.proofs.moving.extend_moved.Given as goal
 -- what is left leads on from the changes as they stand after what is done, and both are the whole
 abbrev pub invariant-loop-item : goal.invariant-loop-item
 invariant-loop-item l = record {
-  lead_on : LeadOn (old_size l.after) (drop l.item-index l.items);
-  gives : l.to.items ++ items_over l.after (drop l.item-index l.items) ≡ l.fn.to.items ++ items_over l.fn.over l.items;
+  lead_on : LeadOn (old_size l.after) l.rest;
+  gives : l.to.items ++ items_over l.after l.rest ≡ l.fn.to.items ++ items_over l.fn.over l.items;
 }
+
+abbrev pub decreases-loop-item : goal.decreases-loop-item
+decreases-loop-item l = length l.rest

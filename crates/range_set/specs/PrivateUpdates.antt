@@ -1,0 +1,34 @@
+-- An update under way, chunk by chunk: what functions that put ranges after a run say of it. Private.
+use Rattle.std.specs.Prelude.{◌≡◌, ℕ, ◌≤◌, Bool, true, false, List, [], ◌∷◌, ◌++◌, length}
+use Rattle.std.specs.List.{list_any}
+use Rattle.range_set.specs.Rules.{RangeRules}
+use Rattle.range_set.specs.Order.{before}
+use Rattle.range_set.specs.declared.ranged.Ranged.{Ranged}
+
+module _ {T : Type 0} where
+  -- a test that none of a run and none of a chunk passes, none of the new run does, which has no more ranges than both
+  pub record KeepsPart (chunk old new : List (Ranged T)) : Type 0 where
+    pub none : (q : Ranged T → Bool) → list_any q old ≡ false → list_any q chunk ≡ false → list_any q new ≡ false
+    pub room : length new ≤ length (old ++ chunk)
+
+module _ {T : Type 0} (rules : RangeRules T) where
+  -- each added range belongs before the first of a chunk
+  abbrev pub StandBefore : List (Ranged T) → (taken : List (Ranged T)) → Type 0
+  StandBefore [] [] = Unit {0}
+  StandBefore [] (x ∷ taken) = ⊥
+  StandBefore (u ∷ chunk) [] = Unit {0}
+  StandBefore (u ∷ chunk) (x ∷ taken) = (before rules x u ≡ true) × StandBefore (u ∷ chunk) taken
+
+  -- added ranges that belong before the first of a chunk are taken from the others and put after a run
+  pub record TakesBefore (chunk old_run old_added new_run new_added : List (Ranged T)) : Type 0 where
+    pub taken : List (Ranged T)
+    pub run : new_run ≡ old_run ++ taken
+    pub added : old_added ≡ taken ++ new_added
+    pub before : StandBefore chunk taken
+
+  -- the first added range doesn't belong before the last of a chunk
+  abbrev pub IsBeyond : (chunk added : List (Ranged T)) → Type 0
+  IsBeyond chunk [] = Unit {0}
+  IsBeyond [] (x ∷ added) = Unit {0}
+  IsBeyond (u ∷ []) (x ∷ added) = before rules x u ≡ false
+  IsBeyond (u ∷ v ∷ chunk) (x ∷ added) = IsBeyond (v ∷ chunk) (x ∷ added)

@@ -1,0 +1,137 @@
+ghost use Rattle.std.specs.Prelude.{IfOk, IsTrue, None, [], All, filter, length, map, ◌++◌, ◌+◌, ◌<◌, ◌^◌, ◌≡◌};
+ghost use Rattle.range_set.specs.Order.{AllForward, before, first_fault};
+ghost use Rattle.range_set.specs.PrivateChunks.{AreChunks, AreSound, IsChunk, flat, shift};
+ghost use Rattle.range_set.specs.PrivateUpdates.{IsBeyond, KeepsPart, TakesBefore};
+ghost use Rattle.range_set.specs.Updating.{AnswersAs, updated};
+
+use crate::chunk::Placed;
+use crate::chunk_builder::ChunkBuilder;
+use crate::moving::put_sorted;
+use crate::range_ref::RangeRef;
+use crate::range_value::RangeValue;
+use crate::ranged::Ranged;
+use std::alloc::{AllocError, Global};
+use std::collections::VecDeque;
+
+/// The chunks of the ranges of others that a test allows and of added ones, which stand in order, and how many ranges they have.
+/// A chunk whose ranges all stay, and among which no added one belongs, is shared; of the others the ranges that stay are
+/// copied. `Err`: out of memory.
+pub(crate) fn updated_chunks<T: RangeValue, F: Fn(&RangeRef<'_, T>) -> bool>(
+    alloc: Global,
+    chunks: &[Placed<T>],
+    add: Vec<Ranged<T>>,
+    keep: &F,
+) -> Result<(Vec<Placed<T>>, usize), AllocError>
+    requires callable { F.IsAlwaysCallable keep.now }
+    requires chunks { AreChunks T.rules chunks.now }
+    requires order { first_fault T.rules (flat chunks.now) ≡ None }
+    requires added { first_fault T.rules add.items ≡ None }
+    requires room { length (flat chunks.now) + length add.items < 2 ^ 64 }
+    ensures chunks { IfOk result (λ made. AreSound T.rules made.0.items made.1) }
+    ensures order { IfOk result (λ made. first_fault T.rules (flat made.0.items) ≡ None) }
+    ensures ranges { IfOk result (λ made. (p : _) → AnswersAs F.Fn keep.now p → flat made.0.items ≡ updated T.rules p (flat chunks.now) add.items) }
+{
+    let mut added = VecDeque::from_vec(add);
+    let mut builder = ChunkBuilder::new(alloc);
+    let mut run = Vec::new(alloc);
+    for placed in chunks {
+        take_before(placed, &mut added, &mut run)?;
+        if is_beyond(placed, &added) && is_kept(placed, keep) {
+            put_sorted(&mut run, &mut builder)?;
+            builder.share(placed.start, &placed.chunk)?;
+        } else {
+            keep_each(alloc, placed, keep, &mut run)?;
+        }
+    }
+    let mut others = Vec::from(added);
+    run.append(&mut others)?;
+    put_sorted(&mut run, &mut builder)?;
+    builder.finish()
+}
+
+/// Whether an added range belongs before a range of a chunk at a place.
+fn is_before<T: RangeValue>(added: &Ranged<T>, start: u32, range: &Ranged<T>) -> bool
+    requires { start + range.now.from < 2 ^ 32 }
+    ensures { result ≡ before T.rules added.now (shift start range.now) }
+{
+    let from = start + range.from;
+    added.from < from || (added.from == from && added.value.start_side() < range.value.start_side())
+}
+
+/// Puts the added ranges that belong before the first of a chunk after a run. `Err`: out of memory.
+fn take_before<T: RangeValue>(
+    placed: &Placed<T>,
+    added: &mut VecDeque<Ranged<T>>,
+    run: &mut Vec<Ranged<T>>,
+) -> Result<(), AllocError>
+    requires { IsChunk T.rules placed.now.start placed.now.chunk.value }
+    ensures { IfOk result (λ _. TakesBefore T.rules (map (shift placed.now.start) placed.now.chunk.value.ranges.items) run.old.items added.old.items run.new.items added.new.items) }
+{
+    let Some(first) = placed.chunk.ranges.first() else {
+        return Ok(());
+    };
+    while let Some(next) = added.front() {
+        if !is_before(next, placed.start, first) {
+            return Ok(());
+        }
+        if let Some(taken) = added.pop_front() {
+            run.push(taken)?;
+        }
+    }
+    Ok(())
+}
+
+/// Whether no added range belongs before the last of a chunk.
+fn is_beyond<T: RangeValue>(placed: &Placed<T>, added: &VecDeque<Ranged<T>>) -> bool
+    requires { IsChunk T.rules placed.now.start placed.now.chunk.value }
+    ensures { IsTrue result → IsBeyond T.rules (map (shift placed.now.start) placed.now.chunk.value.ranges.items) added.now.items }
+{
+    match (added.front(), placed.chunk.ranges.last()) {
+        (Some(next), Some(last)) => !is_before(next, placed.start, last),
+        _ => true,
+    }
+}
+
+/// Whether a test allows each range of a chunk.
+fn is_kept<T: RangeValue, F: Fn(&RangeRef<'_, T>) -> bool>(placed: &Placed<T>, keep: &F) -> bool
+    requires callable { F.IsAlwaysCallable keep.now }
+    requires chunk { IsChunk T.rules placed.now.start placed.now.chunk.value }
+    ensures { (p : _) → AnswersAs F.Fn keep.now p → IsTrue result → filter p (map (shift placed.now.start) placed.now.chunk.value.ranges.items) ≡ map (shift placed.now.start) placed.now.chunk.value.ranges.items }
+{
+    for range in &placed.chunk.ranges {
+        let range = RangeRef {
+            from: range.from + placed.start,
+            to: range.to + placed.start,
+            value: &range.value,
+        };
+        if !keep(&range) {
+            return false;
+        }
+    }
+    true
+}
+
+/// Puts copies of the ranges of a chunk that a test allows after a run. `Err`: out of memory.
+fn keep_each<T: RangeValue, F: Fn(&RangeRef<'_, T>) -> bool>(
+    alloc: Global,
+    placed: &Placed<T>,
+    keep: &F,
+    run: &mut Vec<Ranged<T>>,
+) -> Result<(), AllocError>
+    requires callable { F.IsAlwaysCallable keep.now }
+    requires chunk { IsChunk T.rules placed.now.start placed.now.chunk.value }
+    ensures kept { IfOk result (λ _. (p : _) → AnswersAs F.Fn keep.now p → run.new.items ≡ run.old.items ++ filter p (map (shift placed.now.start) placed.now.chunk.value.ranges.items)) }
+    ensures part { IfOk result (λ _. KeepsPart (map (shift placed.now.start) placed.now.chunk.value.ranges.items) run.old.items run.new.items) }
+{
+    for range in &placed.chunk.ranges {
+        let range = RangeRef {
+            from: range.from + placed.start,
+            to: range.to + placed.start,
+            value: &range.value,
+        };
+        if keep(&range) {
+            run.push(range.try_copy(alloc)?)?;
+        }
+    }
+    Ok(())
+}
