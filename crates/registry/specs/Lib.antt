@@ -3,6 +3,7 @@ pub mod Predeclared
 pub use Rattle.configuration.specs.Present
 pub use Rattle.ext_tree.specs.Links
 pub use Rattle.ext_tree.specs.Tree
+pub use Rattle.transaction.specs.Effects
 pub use Rattle.transaction.specs.Numbers
 pub use Rattle.values.specs.Rules
 pub use Rattle.values.specs.Vals
