@@ -6,4 +6,5 @@ pub mod Lists
 pub mod Pairs
 pub mod Passing
 pub mod Placing
+pub mod Providing
 pub mod Widening
