@@ -45,6 +45,7 @@ lawful-nothing rules = record {
   fields = λ i x e. absurd (none-some x e);
   nodes = λ i x e. absurd (none-some x e);
   maps = λ i x e. absurd (none-some x e);
+  pairs = λ i j e. absurd (none-some j e);
   aligned = record { node_defs = refl; enabled = refl; provided = refl; placed = refl; pairs = refl };
   linked = record { older = λ n l. absurd (omega (arith, l)); enabled = λ i. tt; provided = λ i. tt; placed = λ n field e. absurd (none-some field e) };
   within = record { facets = omega arith; fields = omega arith; nodes = omega arith; effects = omega arith; compartments = omega arith };

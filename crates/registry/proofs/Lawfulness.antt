@@ -16,6 +16,7 @@ use Rattle.values.specs.Declarations.{Declarations, is_placed, with_compartment,
 use Rattle.values.specs.Lawful.{AreKnown, IsDefined, IsLawful, IsLawfulFacet, IsLawfulField, IsMap}
 use Rattle.registry.proofs.Lists.{All-map, all-pushed, at-pushed, both-pushed, get-kept, get_or-default}
 use Rattle.registry.proofs.Linking.{enabled-kept, facet-known, listed-pushed, node-pushed, provided-kept}
+use Rattle.registry.proofs.Pairs.{CanPair, pairs-effect, pairs-pair}
 use Rattle.registry.proofs.Widening.{Widens, defined-widens, field-widens}
 
 -- one more
@@ -47,6 +48,7 @@ module _ (rules : Rules) (d : Declarations) (h : IsLawful rules d) where
         fields = λ i x e. field-widens w rules x (h.fields i x e);
         nodes = λ n node e. defined-widens w rules node (slice_get d.node_defs n) (h.nodes n node e);
         maps = h.maps;
+        pairs = h.pairs;
         aligned = record {
           node_defs = h.aligned.node_defs;
           enabled = omega (arith, one-more d.facets def, one-more d.links.enabled enables, h.aligned.enabled);
@@ -88,6 +90,7 @@ module _ (rules : Rules) (d : Declarations) (h : IsLawful rules d) where
         fields = all-pushed (IsLawfulField rules new) d.fields def (λ i x e. field-widens w rules x (h.fields i x e)) (field-widens w rules def f);
         nodes = λ n node e. defined-widens w rules node (slice_get d.node_defs n) (h.nodes n node e);
         maps = h.maps;
+        pairs = h.pairs;
         aligned = record {
           node_defs = h.aligned.node_defs;
           enabled = h.aligned.enabled;
@@ -132,6 +135,7 @@ module _ (rules : Rules) (d : Declarations) (h : IsLawful rules d) where
         fields = λ i x e. field-widens w rules x (h.fields i x e);
         nodes = both-pushed (IsDefined rules new) d.nodes d.node_defs node def h.aligned.node_defs (λ n x e. defined-widens w rules x (slice_get d.node_defs n) (h.nodes n x e)) (defined-widens w rules node (Some def) f);
         maps = h.maps;
+        pairs = h.pairs;
         aligned = record {
           node_defs = omega (arith, one-more d.nodes node, one-more d.node_defs def, h.aligned.node_defs);
           enabled = h.aligned.enabled;
@@ -173,6 +177,7 @@ module _ (rules : Rules) (d : Declarations) (h : IsLawful rules d) where
         fields = λ i x e. field-widens w rules x (h.fields i x e);
         nodes = λ n node e. defined-widens w rules node (slice_get d.node_defs n) (h.nodes n node e);
         maps = all-pushed (IsMap rules) d.maps map h.maps f;
+        pairs = pairs-effect d.maps d.pairs map h.aligned.pairs h.pairs;
         aligned = record {
           node_defs = h.aligned.node_defs;
           enabled = h.aligned.enabled;
@@ -208,6 +213,7 @@ module _ (rules : Rules) (d : Declarations) (h : IsLawful rules d) where
         fields = λ i x e. field-widens w rules x (h.fields i x e);
         nodes = λ n node e. defined-widens w rules node (slice_get d.node_defs n) (h.nodes n node e);
         maps = h.maps;
+        pairs = h.pairs;
         aligned = record { node_defs = h.aligned.node_defs; enabled = h.aligned.enabled; provided = h.aligned.provided; placed = h.aligned.placed; pairs = h.aligned.pairs };
         linked = record { older = h.linked.older; enabled = h.linked.enabled; provided = h.linked.provided; placed = h.linked.placed };
         within = record {
@@ -229,14 +235,15 @@ module _ (rules : Rules) (d : Declarations) (h : IsLawful rules d) where
     compartments = omega arith;
   }
 
-  pub lawful-pair : (effect back : ℕ) → IsLawful rules (with_pair d effect back)
-  lawful-pair effect back =
+  pub lawful-pair : (effect back : ℕ) → CanPair d.maps d.pairs effect back → IsLawful rules (with_pair d effect back)
+  lawful-pair effect back can =
       let w : Widens d (with_pair d effect back) = pair-wider effect back in
       record {
         facets = h.facets;
         fields = λ i x e. field-widens w rules x (h.fields i x e);
         nodes = λ n node e. defined-widens w rules node (slice_get d.node_defs n) (h.nodes n node e);
         maps = h.maps;
+        pairs = pairs-pair d.maps d.pairs effect back can h.aligned.pairs h.pairs;
         aligned = record {
           node_defs = h.aligned.node_defs;
           enabled = h.aligned.enabled;

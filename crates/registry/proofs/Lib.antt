@@ -3,6 +3,8 @@ pub mod Growing
 pub mod Lawfulness
 pub mod Linking
 pub mod Lists
+pub mod Pairs
 pub mod Passing
 pub mod Placing
+pub mod Providing
 pub mod Widening

@@ -44,6 +44,7 @@ module _ (rules : Rules) (d : Declarations) (h : IsLawful rules d) (field : ℕ)
         fields = λ i x e. field-widens w rules x (h.fields i x e);
         nodes = λ n node e. defined-widens w rules node (slice_get d.node_defs n) (h.nodes n node e);
         maps = h.maps;
+        pairs = h.pairs;
         aligned = record {
           node_defs = h.aligned.node_defs;
           enabled = h.aligned.enabled;

@@ -1,8 +1,11 @@
 pub mod Refusals
 pub mod Predeclared
+pub mod WholeFields
+pub mod PrivateUndoing
 pub use Rattle.configuration.specs.Present
 pub use Rattle.ext_tree.specs.Links
 pub use Rattle.ext_tree.specs.Tree
+pub use Rattle.transaction.specs.Effects
 pub use Rattle.transaction.specs.Numbers
 pub use Rattle.values.specs.Rules
 pub use Rattle.values.specs.Vals

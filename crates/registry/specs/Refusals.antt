@@ -1,5 +1,5 @@
 -- Why each declaration is refused: the first of its refusals in order.
-use Rattle.std.specs.Prelude.{◌≡◌, ℕ, List, [], ◌∷◌, Bool, true, false, cond, not, ◌&&◌, ◌||◌, is_none, nat_lt, nat_le, eqb, map, Option, Some, None, length, slice_get, ⊤}
+use Rattle.std.specs.Prelude.{◌≡◌, ℕ, List, [], ◌∷◌, Bool, cond, not, ◌&&◌, is_none, nat_lt, nat_le, map, Option, Some, None, length, slice_get, ⊤}
 use Rattle.std.specs.Option.{option_or}
 use Rattle.cm_plain.specs.Form.{Form, fits}
 use Rattle.configuration.specs.declared.dependency.Dependency.{Dependency}
@@ -17,6 +17,7 @@ use Rattle.registry.specs.declared.rule_sort.RuleSort.TheVariants.{Combine, Comp
 use Rattle.registry.specs.declared.registry_error.RegistryError.{RegistryError}
 use Rattle.registry.specs.declared.registry_error.RegistryError.TheVariants.{NoMemory, UnknownId, UnknownRule, StaticFacet, WrongShape, AlreadyPlaced, BadInverse, InverseTaken, TooMany}
 use Rattle.values.specs.Declarations.{Declarations, is_placed, max_count}
+use Rattle.values.specs.Lawful.{are_inverse}
 
 -- refused as this error unless a condition holds
 abbrev pub unless : Bool → RegistryError → Option RegistryError
@@ -201,12 +202,6 @@ init_refusals rules d field value =
     ∷ init_fits rules field (slice_get d.fields field) value
     ∷ has_room Node (length d.nodes)
     ∷ []
-
--- the maps of two effect kinds that undo each other: none of both, or one whose number is 1 or 2
-abbrev pub are_inverse : Option ℕ → Option ℕ → Bool
-are_inverse None None = true
-are_inverse (Some map) (Some back) = eqb map back && (eqb map 1 || eqb map 2)
-are_inverse map back = false
 
 -- an effect kind has no pair yet
 abbrev pub unpaired : Declarations → ℕ → Option RegistryError

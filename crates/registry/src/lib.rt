@@ -6,12 +6,14 @@
 //! memory.
 #![tactic(auto)]
 
+mod field_ids;
 mod id_sort;
 mod known;
 mod linked;
 mod lookup;
 mod parts;
 mod predeclared;
+mod provided;
 mod refusals;
 mod registry;
 mod registry_error;
@@ -19,6 +21,7 @@ mod rule_sort;
 mod shapes;
 mod undo;
 
+pub use field_ids::FieldIds;
 pub use id_sort::IdSort;
 pub use lookup::Lookup;
 pub use predeclared::{
@@ -26,6 +29,7 @@ pub use predeclared::{
     HISTORY_NODE, NOTE, READ_ONLY, SAVE_SEPARATOR, TAB_SIZE, TRANSACTION_EXTENDER,
     TRANSACTION_FILTER,
 };
+pub use provided::Provided;
 pub use registry::Registry;
 pub use registry_error::RegistryError;
 pub use rule_sort::RuleSort;

@@ -1,10 +1,12 @@
 // What a registry holds.
-ghost use Rattle.std.specs.Prelude.{◌≡◌, ◌<◌, ◌≤◌, length, slice_get, is_none, Some, IfOk, OnOk, OnErr};
+ghost use Rattle.std.specs.Prelude.{◌≡◌, ◌<◌, ◌≤◌, ◌-◌, length, slice_get, is_none, Some, IfOk, OnOk, OnErr};
+ghost use Rattle.std.specs.List.{range_with_len};
 ghost use Rattle.transaction.specs.Effects.{map_of};
 ghost use Rattle.values.specs.Declarations.{AreDefs, is_placed, nothing, with_compartment, with_effect, with_facet, with_field, with_node, with_pair, with_placed, max_count};
+ghost use Rattle.registry.specs.PrivateUndoing.{shortened};
 
 use crate::linked;
-use crate::undo::push_both;
+use crate::undo::{push_both, shorten};
 use configuration::{Defs, FacetDef, FieldDef, NodeDef};
 use ext_tree::{Arena, ExtId, ExtIds, Links, Node};
 use listed::Listed;
@@ -12,6 +14,17 @@ use std::alloc::{AllocError, Global};
 use std::marker::Model;
 use transaction::EffectKinds;
 use values::Val;
+
+/// The ids from one to another.
+fn ids_between(alloc: Global, first: ExtId, end: ExtId) -> Result<ExtIds, AllocError>
+    ensures { IfOk result (λ ids. ids ≡ range_with_len first (end - first)) }
+{
+    let mut ids = Vec::new(alloc);
+    for id in first..end {
+        ids.push(id)?;
+    }
+    Ok(ExtIds::of(ids))
+}
 
 /// What a registry holds, lawful or not. Contracts see it as plain data.
 #[derive(Drop)]
@@ -229,6 +242,26 @@ impl Parts {
         self.defs.links.provide(field, provides);
         self.placed[field as usize] = true;
         Ok(id)
+    }
+
+    /// The ids of the nodes from one on.
+    pub fn nodes_from(&self, first: ExtId) -> Result<ExtIds, AllocError>
+        requires first { first ≤ length self.now.nodes }
+        requires count { length self.now.nodes ≤ max_count }
+        ensures { IfOk result (λ ids. ids ≡ range_with_len first (length self.now.nodes - first)) }
+    {
+        ids_between(self.alloc, first, self.node_count() as u32)
+    }
+
+    /// Takes away the fields and the nodes from these counts on. Takes no memory.
+    pub fn shorten(&mut self, fields: usize, nodes: usize)
+        ensures { self.new ≡ shortened self.old fields nodes }
+    {
+        shorten(self.alloc, &mut self.defs.fields, fields);
+        shorten(self.alloc, &mut self.defs.node_defs, nodes);
+        self.defs.links.truncate_fields(fields);
+        self.arena.truncate(nodes);
+        self.placed.truncate(fields);
     }
 
     /// Adds an effect kind. When out of memory all is as before.

@@ -1,8 +1,8 @@
 // Why each declaration is refused.
 ghost use Rattle.values.specs.Declarations.{max_count};
 ghost use Rattle.std.specs.Prelude.{◌≡◌, ◌≤◌, length, slice_get, IfErr, OnOk};
-ghost use Rattle.values.specs.Lawful.{AllAt, IsLawfulFacet, IsLawfulField};
-ghost use Rattle.registry.specs.Refusals.{IsRefused, are_inverse, Passes, compute_n_refusals, compute_refusals, computed_names, computes, effect_refusals, facet_refusals, field_names, field_refusals, first_of, group_refusals, init_refusals, input_refusals, map_known, pair_refusals, place_refusals, prec_refusals, slot_refusals};
+ghost use Rattle.values.specs.Lawful.{AllAt, IsLawfulFacet, IsLawfulField, are_inverse};
+ghost use Rattle.registry.specs.Refusals.{IsRefused, Passes, compute_n_refusals, compute_refusals, computed_names, computes, effect_refusals, facet_refusals, field_names, field_refusals, first_of, group_refusals, init_refusals, input_refusals, map_known, pair_refusals, place_refusals, prec_refusals, slot_refusals};
 
 use crate::id_sort::IdSort;
 use crate::known::{all_known, ended, has_room, known, reads_known, rule_known, unless};

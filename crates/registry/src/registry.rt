@@ -1,5 +1,5 @@
 // The registry.
-ghost use Rattle.std.specs.Prelude.{◌≡◌, [], ◌∷◌, length, IfErr, IfOk, OnErr, OnOk};
+ghost use Rattle.std.specs.Prelude.{◌≡◌, ◌+◌, [], ◌∷◌, length, IfErr, IfOk, OnErr, OnOk};
 ghost use Rattle.configuration.specs.declared.node_def.NodeDef.TheVariants as defs;
 ghost use Rattle.ext_tree.specs.Tree.{AreLinksOlder};
 ghost use Rattle.ext_tree.specs.declared.node.Node.TheVariants as nodes;
@@ -7,11 +7,15 @@ ghost use Rattle.values.specs.Rules.{Rules};
 ghost use Rattle.values.specs.Declarations.{AreDefs, nothing, with_compartment, with_effect, with_facet, with_field, with_node, with_pair, with_placed};
 ghost use Rattle.values.specs.Growth.{IsGrowth};
 ghost use Rattle.values.specs.Lawful.{IsLawful};
+ghost use Rattle.registry.specs.PrivateUndoing.{IsBegun};
+ghost use Rattle.registry.specs.WholeFields.{inputs_refusals, provided_refusals, whole_field_refusals, with_inputs_from, with_provided, with_whole_field};
 ghost use Rattle.registry.specs.Refusals.{IsRefused, Passes, compartment_refusals, compute_n_refusals, compute_refusals, effect_refusals, facet_refusals, field_refusals, from_refusals, group_refusals, init_refusals, input_refusals, pair_refusals, place_refusals, prec_refusals, slot_refusals};
 
+use crate::field_ids::FieldIds;
 use crate::id_sort::IdSort;
 use crate::known::has_room;
 use crate::parts::Parts;
+use crate::provided::Provided;
 use crate::refusals::{
     compute_n_refusal, compute_refusal, effect_refusal, facet_refusal, field_refusal,
     group_refusal, init_refusal, input_refusal, pair_refusal, place_refusal, prec_refusal,
@@ -143,6 +147,60 @@ impl<M: Meanings> Registry<M> {
         }
         let id = self.parts.place(field, provides)?;
         Ok(id)
+    }
+
+    /// Makes inputs of facets that a rule each computes from a field's value, in order. Refused as the first `input_from` that
+    /// is; then, as when out of memory, the ones before it are made.
+    fn inputs_from(&mut self, field: u32, provides: &[Provided]) -> Result<(), RegistryError>
+        ensures made { OnOk result (self.new ≡ with_inputs_from self.old field provides.now) }
+        ensures passes { OnOk result (Passes (inputs_refusals M.rules self.old field provides.now)) }
+        ensures refused { IfErr result (IsRefused (inputs_refusals M.rules self.old field provides.now)) }
+        ensures begun { OnErr result (IsBegun self.old field self.new) }
+        ensures grows { IsGrowth self.old self.new }
+    {
+        for provided in provides {
+            self.input_from(provided.facet, field, provided.rule)?;
+        }
+        Ok(())
+    }
+
+    /// Makes such inputs, and places the field with them. Where it doesn't answer Ok, some of them are made.
+    fn provide(&mut self, field: u32, provides: &[Provided]) -> Result<ExtId, RegistryError>
+        ensures id { IfOk result (λ id. id ≡ length self.old.nodes + length provides.now) }
+        ensures made { OnOk result (self.new ≡ with_provided self.old field provides.now) }
+        ensures passes { OnOk result (Passes (provided_refusals M.rules self.old field provides.now)) }
+        ensures refused { IfErr result (IsRefused (provided_refusals M.rules self.old field provides.now)) }
+        ensures begun { OnErr result (IsBegun self.old field self.new) }
+        ensures grows { IsGrowth self.old self.new }
+    {
+        let first = self.parts.node_count() as u32;
+        self.inputs_from(field, provides)?;
+        let inputs = self.parts.nodes_from(first)?;
+        self.field_place(field, inputs)
+    }
+
+    /// Declares a field by its rules, what it reads and what it listens to, makes the inputs of facets that it provides, and
+    /// places it, all or nothing. (Reference Manual, StateField.define, provide.) Refused as `field_declare`, else as the first
+    /// `input_from` that is, else as `field_place`.
+    pub fn field(&mut self, def: FieldDef, provides: &[Provided]) -> Result<FieldIds, RegistryError>
+        ensures field { IfOk result (λ ids. ids.field ≡ length self.old.fields) }
+        ensures node { IfOk result (λ ids. ids.node ≡ length self.old.nodes + length provides.now) }
+        ensures declared { OnOk result (self.new ≡ with_whole_field self.old def provides.now) }
+        ensures passes { OnOk result (Passes (whole_field_refusals M.rules self.old def provides.now)) }
+        ensures refused { IfErr result (IsRefused (whole_field_refusals M.rules self.old def provides.now)) }
+        ensures same { OnErr result (self.new ≡ self.old) }
+        ensures grows { IsGrowth self.old self.new }
+    {
+        let fields = self.parts.field_count();
+        let nodes = self.parts.node_count();
+        let field = self.field_declare(def)?;
+        match self.provide(field, provides) {
+            Ok(node) => Ok(FieldIds { field, node }),
+            Err(error) => {
+                self.parts.shorten(fields, nodes);
+                Err(error)
+            }
+        }
     }
 
     /// Declares an effect kind, which may have a map. (Reference Manual, StateEffect.define.) Refused as `UnknownRule` or

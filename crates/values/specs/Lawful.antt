@@ -1,5 +1,5 @@
 -- When what is declared is lawful: each rule number is one of its sort, each id is declared, each value and each output fits.
-use Rattle.std.specs.Prelude.{◌≡◌, ℕ, ◌<◌, ◌≤◌, List, [], ◌∷◌, true, false, Option, Some, None, length, slice_get, ⊤}
+use Rattle.std.specs.Prelude.{◌≡◌, ℕ, ◌<◌, ◌≤◌, List, [], ◌∷◌, Bool, true, false, ◌&&◌, ◌||◌, eqb, Option, Some, None, length, slice_get, ⊤}
 use Rattle.std.specs.List.{AllByRecursion}
 use Rattle.cm_plain.specs.Form.{Form, fits}
 use Rattle.configuration.specs.declared.dependency.Dependency.{Dependency}
@@ -12,6 +12,7 @@ use Rattle.configuration.specs.Present.{field_in}
 use Rattle.ext_tree.specs.declared.node.Node.{Node}
 use Rattle.ext_tree.specs.declared.node.Node.TheVariants as nodes
 use Rattle.ext_tree.specs.Tree.{AreLinksOlder, IsOlder, listed}
+use Rattle.transaction.specs.Effects.{map_of}
 use Rattle.transaction.specs.Numbers.{IsNumber}
 use Rattle.values.specs.declared.val.Val.{Val}
 use Rattle.values.specs.Rules.{Rules}
@@ -81,6 +82,23 @@ abbrev pub IsMap : Rules → Option ℕ → Type 0
 IsMap rules None = ⊤
 IsMap rules (Some number) = IsNumber rules.effect_maps number
 
+-- inverse maps of two effect kinds: none of both, or one whose number is 1 or 2 (Reference Manual, invertedEffects)
+abbrev pub are_inverse : Option ℕ → Option ℕ → Bool
+are_inverse None None = true
+are_inverse (Some map) (Some back) = eqb map back && (eqb map 1 || eqb map 2)
+are_inverse map back = false
+
+-- pair of an effect kind, by the maps and the pairs of all kinds: a declared kind whose own pair is the first one, and whose
+-- map undoes its map
+pub record IsPair (maps pairs : List (Option ℕ)) (effect back : ℕ) : Type 0 where
+  pub declared : back < length maps
+  pub paired_back : map_of pairs back ≡ Some effect
+  pub inverse : are_inverse (map_of maps effect) (map_of maps back) ≡ true
+
+-- each pair is lawful
+abbrev pub ArePairs : (maps pairs : List (Option ℕ)) → Type 0
+ArePairs maps pairs = (effect back : ℕ) → map_of pairs effect ≡ Some back → IsPair maps pairs effect back
+
 -- lists of links name nodes that are there
 abbrev pub AreKnown : Declarations → List (List ℕ) → Type 0
 AreKnown d lists = (i : ℕ) → AllByRecursion (IsOlder (length d.nodes)) (listed lists i)
@@ -108,12 +126,13 @@ pub record AreWithin (d : Declarations) : Type 0 where
   pub effects : length d.maps ≤ max_count
   pub compartments : d.compartments ≤ max_count
 
--- lawful: each facet, field, node and effect kind is
+-- lawful: each facet, field, node, effect kind and pair is
 pub record IsLawful (rules : Rules) (d : Declarations) : Type 0 where
   pub facets : AllAt (IsLawfulFacet rules) d.facets
   pub fields : AllAt (IsLawfulField rules d) d.fields
   pub nodes : (n : ℕ) (node : Node) → slice_get d.nodes n ≡ Some node → IsDefined rules d node (slice_get d.node_defs n)
   pub maps : AllAt (IsMap rules) d.maps
+  pub pairs : ArePairs d.maps d.pairs
   pub aligned : AreAligned d
   pub linked : AreLinked d
   pub within : AreWithin d
