@@ -1,3 +1,4 @@
 pub mod ColumnSteps
+pub mod Groups
 pub mod RunSteps
 pub mod Windows

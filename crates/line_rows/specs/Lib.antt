@@ -1,4 +1,5 @@
 pub mod Row
+pub mod Groups
 pub mod Column
 pub mod Run
 pub use Rattle.pieces.specs.Piece
