@@ -8,6 +8,8 @@
 #![tactic(auto)]
 
 mod block_pieces;
+mod edge;
+mod filling;
 mod item;
 mod items;
 mod piece;
@@ -15,6 +17,7 @@ mod shading;
 mod style_range;
 mod styles;
 
-pub use block_pieces::pieces;
+pub use block_pieces::{pieces, pieces_before};
+pub use edge::Edge;
 pub use piece::{Piece, Pieces};
 pub use styles::same_style;
