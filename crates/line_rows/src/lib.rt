@@ -13,6 +13,6 @@ mod runs;
 pub use blocks::{Block, Blocks};
 pub use columns::column_of;
 pub use cursor::Cursor;
-pub use pieces::{Piece, Pieces, pieces, same_style};
+pub use pieces::{Edge, Piece, Pieces, pieces, pieces_before, same_style};
 pub use rows::{StyledCell, row};
 pub use runs::{Run, runs_of};
