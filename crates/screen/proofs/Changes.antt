@@ -1,7 +1,11 @@
 -- One row further, and what equal keys mean.
-use Rattle.std.proofs.Common.{◌≡◌, ℕ, ◌+◌, ◌-◌, ◌<◌, ◌≤◌, true, List, [], ◌∷◌, ◌++◌, Option, Some, append_assoc, append-nil, arith, drop, map, refl, sym, ap, ◌∙◌, suc, zero}
+use Rattle.std.proofs.Common.{◌≡◌, ℕ, ◌+◌, ◌-◌, ◌<◌, ◌≤◌, true, List, [], ◌∷◌, ◌++◌, Option, Some, None, length, append_assoc, append-nil, arith, drop, map, refl, sym, ap, ◌∙◌, suc, zero}
 use Rattle.std.specs.Prelude.{slice_get}
 use Rattle.std.proofs.lemmas.Bool.{and_parts, eqb-true}
+use Rattle.std.proofs.lemmas.Option.{slice_get_past}
+use Rattle.blocks.specs.Hiding.{blocks_of}
+use Rattle.pieces.specs.Edge.{cut_at, up_to_edge}
+use Rattle.pieces.specs.Styles.{plain}
 use Rattle.selection.specs.declared.range.Range.{Range}
 use Rattle.selection.specs.Ranges.{high}
 use Rattle.selection.specs.Selections.{LieIn}
@@ -22,6 +26,19 @@ same_key-row a b same =
     let cols_is : a.cols ≡ b.cols = eqb-true a.cols b.cols cols.1 in
     let left_is : a.left ≡ b.left = eqb-true a.left b.left left.1 in
     (λ i. row_of (tab_is i) (cols_is i) (left_is i) a.pieces) ∙ same_row b.tab b.cols b.left a.pieces b.pieces (same_pieces-is a.pieces b.pieces pieces.1)
+
+-- no block has the number 0, or one past the last
+pub zero_block : (v : ViewView) (number : ℕ) → number ≡ 0 → block_at v number ≡ None
+zero_block v number is = ap (block_at v) is
+
+pub no_block : (v : ViewView) (number : ℕ) → length (blocks_of v.text v.layers) < number → block_at v number ≡ None
+no_block v zero past = refl
+no_block v (suc n) past = slice_get_past (blocks_of v.text v.layers) n (omega (arith, past))
+
+-- a row past the last block has no pieces
+pub past_row : (v : ViewView) (number : ℕ) → block_at v number ≡ None → record { style = plain; pieces = [] } ≡ cut_at (edge_of v) (pieces_at v (block_at v number))
+unfolding up_to_edge
+past_row v number none = rw none refl
 
 -- the rows of a view are those that are made anew
 pub rendered_is : (v : ViewView) (number n : ℕ) → map row_cells (rows_from v number n) ≡ rendered_from v number n
