@@ -1,5 +1,5 @@
 -- What a row doesn't depend on: the places of its pieces, and the pieces past the right edge.
-use Rattle.std.proofs.Common.{◌≡◌, ℕ, ◌+◌, ◌≤◌, nat_le, Bool, true, false, List, [], ◌∷◌, ◌++◌, length, map, refl, sym, ap, ◌∙◌, arith, if◌then◌else◌}
+use Rattle.std.proofs.Common.{◌≡◌, ℕ, ◌+◌, ◌≤◌, Bool, true, false, List, [], ◌∷◌, length, map, refl, sym, ap, ◌∙◌, arith, if◌then◌else◌}
 use Rattle.std.proofs.lemmas.Bool.Decides.{nat_tests}
 use Rattle.decoration.specs.declared.style.Style.{Style}
 use Rattle.cells.specs.Layout.{cells_of}
@@ -7,7 +7,7 @@ use Rattle.pieces.specs.Edge.{cut_at, is_past, up_to_edge}
 use Rattle.pieces.specs.Piece.{PieceView, PiecesView}
 use Rattle.pieces.specs.SamePieces.{look, look_of}
 use Rattle.pieces.specs.declared.edge.Edge.{Edge}
-use Rattle.line_rows.specs.Row.{filled, in_window, pieces_in_window, row_of}
+use Rattle.line_rows.specs.Row.{filled, pieces_in_window, row_of}
 use Rattle.line_rows.specs.declared.rows.StyledCell.{StyledCell}
 use Rattle.line_rows.proofs.Windows.{pieces_past}
 

@@ -1,5 +1,5 @@
 -- One cluster further, and one item further, in the pieces of a block.
-use Rattle.std.proofs.Common.{◌≡◌, ℕ, ◌+◌, ◌-◌, ◌<◌, ◌≤◌, min, max, Bool, true, false, List, [], ◌∷◌, ◌++◌, length, drop, map, nat_le, get_or, refl, sym, ap, ◌∙◌, append_assoc, append-nil, arith, length-append, length-drop, if◌then◌else◌}
+use Rattle.std.proofs.Common.{◌≡◌, ℕ, ◌+◌, ◌-◌, ◌<◌, ◌≤◌, min, max, Bool, true, false, List, [], ◌∷◌, ◌++◌, length, drop, map, nat_le, get_or, refl, sym, ap, ◌∙◌, arith, length-append, length-drop, if◌then◌else◌}
 use Rattle.std.proofs.lemmas.List.{length-take}
 use Rattle.std.proofs.lemmas.Bool.Decides.{nat_tests}
 use Rattle.std.specs.Str.{chars, IsUtf8}
@@ -9,7 +9,6 @@ use Rattle.decoration.specs.declared.style.Style.{Style}
 use Rattle.line_tree.specs.Text.{slice}
 use Rattle.cells.specs.Layout.{clusters}
 use Rattle.cells.proofs.Layouts.{clusters-bytes}
-use Rattle.pieces.specs.Piece.{PieceView}
 use Rattle.pieces.specs.Items.{ItemView, item_piece}
 use Rattle.pieces.specs.Styles.{plain}
 use Rattle.pieces.specs.Filling.{FillingView, is_full, put, put_all}

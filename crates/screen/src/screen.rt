@@ -59,6 +59,7 @@ impl Screen {
         ensures cursor { OnOk result (IsCursor (shown_view view.now) self.new.row self.new.column) }
         ensures failed { OnErr result (self.new ≡ self.old) }
         ensures bound { laid.new ≤ laid.old + changed self.old.rows (drawn (shown_view view.now)) }
+        ensures most { laid.new ≤ laid.old + (shown_view view.now).window.rows }
     {
         let alloc = *self.rows.allocator();
         let blocks = Blocks::of(alloc, view.doc, view.layers)?;

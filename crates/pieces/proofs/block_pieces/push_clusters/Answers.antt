@@ -1,4 +1,4 @@
-use Rattle.std.proofs.Common.{ℕ, ◌+◌, arith, ap, sym, ◌∙◌}
+use Rattle.std.proofs.Common.{ℕ, ◌+◌, ap, sym, ◌∙◌}
 use Rattle.unicode_segmentation.specs.Iter.{graphemes_left}
 use Rattle.pieces.specs.Pieces.{style_in}
 use Rattle.pieces.proofs.Walks.{place_begin, place_full, place_step, place_end}

@@ -1,4 +1,4 @@
-use Rattle.std.proofs.Common.{◌≡◌, ◌+◌, ◌≤◌, length}
+use Rattle.std.proofs.Common.{◌+◌, length}
 use Rattle.std.specs.Str.{chars}
 use Rattle.unicode_segmentation.specs.Iter.{graphemes_left}
 use Rattle.cells.specs.Layout.{clusters}

@@ -1,7 +1,6 @@
 use Rattle.std.proofs.Common.{◌≡◌, [], sym, ◌∙◌, arith}
 use Rattle.pieces.specs.Pieces.{run}
 use Rattle.pieces.specs.Blocks.{shown_block}
-use Rattle.pieces.specs.Filling.{put_all}
 use Rattle.pieces.proofs.Fillings.{put_all-full, put_all-nil}
 use Rattle.pieces.proofs.Walks.{run-none}
 use Rattle.pieces.proofs.block_pieces.push_run.Goals as goal
