@@ -1,3 +1,5 @@
 pub mod ColumnSteps
+pub mod Groups
 pub mod RunSteps
+pub mod SameRows
 pub mod Windows

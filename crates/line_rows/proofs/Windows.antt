@@ -30,7 +30,7 @@ unfolding pieces_in_window
 pieces_end tab left cols at pieces index done all past goes = sym (append-nil done) ∙ (rw (drop_all index pieces past) at goes)
 
 -- past the right edge nothing is shown
-past_edge : (left cols at : ℕ) → left + cols ≤ at → (nat_le left at && nat_lt (at - left) cols) ≡ false
+pub past_edge : (left cols at : ℕ) → left + cols ≤ at → (nat_le left at && nat_lt (at - left) cols) ≡ false
 past_edge left cols at past = grind (arith, nat_tests)
 
 cells_past : (left cols : ℕ) (style : Style) (at : ℕ) (cells : List Shown) → left + cols ≤ at → in_window left cols style at cells ≡ []

@@ -2,7 +2,8 @@
 //!
 //! `row` gives the cells that the window shows of a block's pieces, and counts that it did; `column_of` tells in which
 //! column of its block a place stands; `runs_of` cuts a row where its style changes. A layer above may rely on their
-//! exact results, and on each row having exactly as many cells as the window has columns.
+//! exact results, on each row having exactly as many cells as the window has columns, and on its showing whole groups of
+//! cells, so that no wide cluster is half shown.
 #![tactic(auto)]
 
 mod columns;
@@ -13,6 +14,6 @@ mod runs;
 pub use blocks::{Block, Blocks};
 pub use columns::column_of;
 pub use cursor::Cursor;
-pub use pieces::{Piece, Pieces, pieces, same_style};
+pub use pieces::{Edge, Piece, Pieces, pieces, pieces_before, same_style};
 pub use rows::{StyledCell, row};
 pub use runs::{Run, runs_of};

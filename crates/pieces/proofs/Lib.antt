@@ -1,4 +1,5 @@
 pub mod Covering
+pub mod Fillings
 pub mod Gathering
 pub mod Ruled
 pub mod SameText

@@ -1,6 +1,6 @@
 -- Equality of styles, texts and pieces, as tests.
-use lib.Pointwise.{pointwise, bytes_decides, pointwise_decides}
-use Rattle.std.proofs.Common.{◌≡◌, ◌↔◌, ℕ, Bool, true, false, nat_eq, List, Option, Some, None, IsTrue, refl, sym, ap, ◌∙◌}
+use lib.Pointwise.{pointwise, bytes_decides}
+use Rattle.std.proofs.Common.{◌≡◌, ◌↔◌, ℕ, Bool, true, false, nat_eq, List, [], ◌∷◌, map, Option, Some, None, IsTrue, refl, sym, ap, ◌∙◌}
 use Rattle.std.specs.Str.{IsUtf8, chars, bytes_eq}
 use Rattle.std.specs.Prelude.{encode_utf8_all}
 use Rattle.std.proofs.lemmas.Str.{encodes-chars}
@@ -10,7 +10,7 @@ use Rattle.decoration.specs.declared.style.Style.{Style}
 use Rattle.decoration.specs.Colors.{number_of}
 use Rattle.decoration.proofs.Colors.{same_number}
 use Rattle.pieces.specs.Piece.{PieceView, PiecesView}
-use Rattle.pieces.specs.SamePieces.{same_piece, same_pieces}
+use Rattle.pieces.specs.SamePieces.{look, look_of, same_piece, same_pieces}
 use Rattle.pieces.specs.Styles.{same_color, same_flag, same_style}
 
 -- two tests that hold of each other are equal
@@ -68,39 +68,43 @@ pub style_same : (a b : Style) (result : Bool) → IsTrue result ↔ (a ≡ b) �
 style_same a b result decides =
     both result (same_style a b) (λ same. rw (← decides.0 same) (same_style-own a)) (λ same. decides.1 (same_style-is a b same))
 
-pub same_piece-is : (a b : PieceView) → same_piece a b ≡ true → a ≡ b
-same_piece-is a b same =
-    let text = and_parts _ _ same in
-    let cursor = and_parts _ _ text.0 in
-    let place = and_parts _ _ cursor.0 in
-    λ i. record {
-      place = eqb-true a.place b.place place.0 i;
-      style = same_style-is a.style b.style place.1 i;
-      before_cursor = same_flag-is a.before_cursor b.before_cursor cursor.1 i;
-      text = (bytes_decides a.text b.text).0 text.1 i;
-    }
+style_test : (a b : Style) → a ≡ b → same_style a b ≡ true
+style_test a b e = rw (← e) (same_style-own a)
 
-same_piece-own : (a : PieceView) → same_piece a a ≡ true
-same_piece-own a =
-    and_from _ _ (and_from _ _ (and_from _ _ (eq-eqb a.place a.place refl) (same_style-own a.style)) (same_flag-own a.before_cursor)) ((bytes_decides a.text a.text).1 refl)
+piece_is : (a b : PieceView) → same_piece a b ≡ true → look a ≡ look b
+piece_is a b same =
+    let parts = and_parts (same_style a.style b.style) (bytes_eq a.text b.text) same in
+    λ i. ((bytes_decides a.text b.text).0 parts.1 i, same_style-is a.style b.style parts.0 i)
 
--- the test of lists of pieces holds exactly of equal ones
-pub same_list-decides : (ps qs : List PieceView) → (pointwise same_piece ps qs ≡ true → ps ≡ qs) × (ps ≡ qs → pointwise same_piece ps qs ≡ true)
-same_list-decides =
-    pointwise_decides (λ (a : PieceView) (b : PieceView). (same_piece-is a b, λ e. rw (← e) (same_piece-own a)))
+piece_test : (a b : PieceView) → look a ≡ look b → same_piece a b ≡ true
+piece_test a b e =
+    and_from _ _ (style_test a.style b.style (ap (λ (r : List ℕ × Style). r.1) e)) ((bytes_decides a.text b.text).1 (ap (λ (r : List ℕ × Style). r.0) e))
 
--- equal pieces are equal data
-pub same_pieces-is : (a b : PiecesView) → same_pieces a b ≡ true → a ≡ b
+list_is : (ps qs : List PieceView) → pointwise same_piece ps qs ≡ true → map look ps ≡ map look qs
+list_is [] [] same = refl
+list_is [] (q ∷ qs) same = cc
+list_is (p ∷ ps) [] same = cc
+list_is (p ∷ ps) (q ∷ qs) same =
+    let parts = and_parts (same_piece p q) (pointwise same_piece ps qs) same in
+    λ i. piece_is p q parts.0 i ∷ list_is ps qs parts.1 i
+
+list_test : (ps qs : List PieceView) → map look ps ≡ map look qs → pointwise same_piece ps qs ≡ true
+list_test [] [] e = refl
+list_test [] (q ∷ qs) e = cc
+list_test (p ∷ ps) [] e = cc
+list_test (p ∷ ps) (q ∷ qs) e =
+    let here : look p ≡ look q = cc in
+    let more : map look ps ≡ map look qs = cc in
+    and_from _ _ (piece_test p q here) (list_test ps qs more)
+
+-- the test holds exactly of pieces that look the same
+pub same_pieces-is : (a b : PiecesView) → same_pieces a b ≡ true → look_of a ≡ look_of b
 same_pieces-is a b same =
     let parts = and_parts (same_style a.style b.style) (pointwise same_piece a.pieces b.pieces) same in
-    λ i. record {
-      style = same_style-is a.style b.style parts.0 i;
-      pieces = (same_list-decides a.pieces b.pieces).0 parts.1 i;
-    }
+    λ i. (same_style-is a.style b.style parts.0 i, list_is a.pieces b.pieces parts.1 i)
 
-same_pieces-own : (a : PiecesView) → same_pieces a a ≡ true
-same_pieces-own a = and_from _ _ (same_style-own a.style) ((same_list-decides a.pieces a.pieces).1 refl)
-
--- the test of pieces is their equality
-pub pieces_same : (a b : PiecesView) (result : Bool) → result ≡ same_pieces a b → IsTrue result ↔ (a ≡ b)
-pieces_same a b result is = (λ same. same_pieces-is a b (sym is ∙ same), λ e. is ∙ (rw (← e) (same_pieces-own a)))
+pub pieces_same : (a b : PiecesView) (result : Bool) → result ≡ same_pieces a b → IsTrue result ↔ (look_of a ≡ look_of b)
+pieces_same a b result is = (
+  λ same. same_pieces-is a b (sym is ∙ same),
+  λ e. is ∙ and_from _ _ (style_test a.style b.style (ap (λ (r : Style × List (List ℕ × Style)). r.0) e)) (list_test a.pieces b.pieces (ap (λ (r : Style × List (List ℕ × Style)). r.1) e)),
+)

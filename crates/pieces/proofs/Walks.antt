@@ -1,6 +1,7 @@
 -- One cluster further, and one item further, in the pieces of a block.
-use Rattle.std.proofs.Common.{◌≡◌, ℕ, ◌+◌, ◌-◌, ◌<◌, ◌≤◌, min, max, Bool, true, false, List, [], ◌∷◌, ◌++◌, length, drop, map, get_or, refl, sym, ap, ◌∙◌, append_assoc, append-nil, arith, length-append, length-drop, if◌then◌else◌}
+use Rattle.std.proofs.Common.{◌≡◌, ℕ, ◌+◌, ◌-◌, ◌<◌, ◌≤◌, min, max, Bool, true, false, List, [], ◌∷◌, ◌++◌, length, drop, map, nat_le, get_or, refl, sym, ap, ◌∙◌, arith, length-append, length-drop, if◌then◌else◌}
 use Rattle.std.proofs.lemmas.List.{length-take}
+use Rattle.std.proofs.lemmas.Bool.Decides.{nat_tests}
 use Rattle.std.specs.Str.{chars, IsUtf8}
 use Rattle.unicode_segmentation.specs.Grapheme.{graphemes, is_grapheme_break}
 use Rattle.unicode_segmentation.specs.Segments.{Rule, cut, prepend}
@@ -8,9 +9,10 @@ use Rattle.decoration.specs.declared.style.Style.{Style}
 use Rattle.line_tree.specs.Text.{slice}
 use Rattle.cells.specs.Layout.{clusters}
 use Rattle.cells.proofs.Layouts.{clusters-bytes}
-use Rattle.pieces.specs.Piece.{PieceView}
-use Rattle.pieces.specs.Items.{ItemView}
+use Rattle.pieces.specs.Items.{ItemView, item_piece}
 use Rattle.pieces.specs.Styles.{plain}
+use Rattle.pieces.specs.Filling.{FillingView, is_full, put, put_all}
+use Rattle.pieces.proofs.Fillings.{put_all-append, put_full}
 use Rattle.pieces.specs.Pieces.{BlockView, by_clusters, cluster_piece, run, style_in, up_to, walked}
 
 -- how many characters pieces of text have together
@@ -75,38 +77,39 @@ pub length-slice : (from to : ℕ) (cs : List ℕ) → to ≤ length cs → leng
 length-slice from to cs within = omega (arith, length-take (to - from) (drop from cs), length-drop from cs)
 
 -- one cluster further
-pub record Placing (f : ℕ → Style) (place : ℕ) (left : List (List ℕ)) (done all : List PieceView) (end : ℕ) : Type 0 where
+pub record Placing (f : ℕ → Style) (place : ℕ) (left : List (List ℕ)) (filling all : FillingView) (end : ℕ) : Type 0 where
   pub place_is : place + total (map chars left) ≡ end
-  pub pieces : done ++ by_clusters f place (map chars left) ≡ all
+  pub puts : put_all filling (by_clusters f place (map chars left)) ≡ all
 
-pub place_begin : (f : ℕ → Style) (base : ℕ) (bytes : List ℕ) (left : List (List ℕ)) (done : List PieceView) → IsUtf8 bytes → left ≡ graphemes true bytes → Placing f base left done (done ++ by_clusters f base (clusters (chars bytes))) (base + length (chars bytes))
-place_begin f base bytes left done spelled all =
+pub place_begin : (f : ℕ → Style) (base : ℕ) (bytes : List ℕ) (left : List (List ℕ)) (filling : FillingView) → IsUtf8 bytes → left ≡ graphemes true bytes → Placing f base left filling (put_all filling (by_clusters f base (clusters (chars bytes)))) (base + length (chars bytes))
+place_begin f base bytes left filling spelled all =
     let same : map chars left ≡ clusters (chars bytes) = ap (map chars) all ∙ clusters-bytes bytes spelled in
     record {
       place_is = omega (arith, ap total same, total-clusters (chars bytes));
-      pieces = rw same refl;
+      puts = rw same refl;
     }
 
-pub place_step : (f : ℕ → Style) (place now : ℕ) (g : List ℕ) (left rest : List (List ℕ)) (done more all : List PieceView) (end : ℕ) → left ≡ g ∷ rest → now ≡ place + length (chars g) → more ≡ done ++ cluster_piece f place (chars g) ∷ [] → Placing f place left done all end → Placing f now rest more all end
-unfolding by_clusters
-place_step f place now g left rest done more all end taken at adds before =
+pub place_step : (f : ℕ → Style) (place now : ℕ) (g : List ℕ) (left rest : List (List ℕ)) (filling more all : FillingView) (end : ℕ) → left ≡ g ∷ rest → now ≡ place + length (chars g) → more ≡ put filling (cluster_piece f place (chars g)) → Placing f place left filling all end → Placing f now rest more all end
+unfolding by_clusters put_all
+place_step f place now g left rest filling more all end taken at adds before =
     let place_is = rw taken at before.place_is in
-    let goes = rw taken at before.pieces in
+    let goes = rw taken at before.puts in
     record {
       place_is = omega (arith, place_is, at);
-      pieces = rw (adds, at) (append_assoc done _ _ ∙ goes);
+      puts = rw (adds, at) goes;
     }
 
-pub place_fits : (f : ℕ → Style) (place : ℕ) (g : List ℕ) (left rest : List (List ℕ)) (done all : List PieceView) (end : ℕ) → left ≡ g ∷ rest → Placing f place left done all end → place + length (chars g) ≤ end
-place_fits f place g left rest done all end taken before =
+pub place_fits : (f : ℕ → Style) (place : ℕ) (g : List ℕ) (left rest : List (List ℕ)) (filling all : FillingView) (end : ℕ) → left ≡ g ∷ rest → Placing f place left filling all end → place + length (chars g) ≤ end
+place_fits f place g left rest filling all end taken before =
     let place_is = rw taken at before.place_is in
     omega (arith, place_is)
 
-pub place_end : (f : ℕ → Style) (place : ℕ) (left : List (List ℕ)) (done all : List PieceView) (end : ℕ) → left ≡ [] → Placing f place left done all end → done ≡ all
-unfolding by_clusters
-place_end f place left done all end none before =
-    let goes = rw none at before.pieces in
-    sym (append-nil done) ∙ goes
+pub place_full : (f : ℕ → Style) (place : ℕ) (left : List (List ℕ)) (filling all : FillingView) (end : ℕ) → is_full filling ≡ true → Placing f place left filling all end → filling ≡ all
+place_full f place left filling all end full before = put_full filling (by_clusters f place (map chars left)) all full before.puts
+
+pub place_end : (f : ℕ → Style) (place : ℕ) (left : List (List ℕ)) (filling all : FillingView) (end : ℕ) → left ≡ [] → Placing f place left filling all end → filling ≡ all
+unfolding by_clusters put_all
+place_end f place left filling all end none before = rw none at before.puts
 
 -- no characters have no clusters
 pub run-none : (b : BlockView) (at end : ℕ) → min end b.to ≤ at → run b at end ≡ []
@@ -115,21 +118,36 @@ run-none b at end past =
     let none : min end b.to - at ≡ 0 = omega arith in
     rw none refl
 
--- one item further
-pub walk_step : (b : BlockView) (at now : ℕ) (x : ItemView) (left xs : List ItemView) (done more all : List PieceView) → left ≡ x ∷ xs → now ≡ max at x.to → more ≡ done ++ up_to b at x → done ++ walked b at left ≡ all → more ++ walked b now xs ≡ all
-unfolding walked
-walk_step b at now x left xs done more all taken further adds goes = rw (adds, further) (append_assoc done _ _ ∙ (rw taken at goes))
+pub le_is : (a b : ℕ) → a ≤ b → nat_le a b ≡ true
+le_is a b less = grind (arith, nat_tests)
 
-pub walk_end : (b : BlockView) (at : ℕ) (left : List ItemView) (done more all : List PieceView) → left ≡ [] → more ≡ done ++ run b at b.to → done ++ walked b at left ≡ all → more ≡ all
+pub not_le_is : (a b : ℕ) → b < a → nat_le a b ≡ false
+not_le_is a b more = grind (arith, nat_tests)
+
+-- the characters before an item, and the item
+pub put_up_to : (b : BlockView) (at : ℕ) (x : ItemView) (filling more now : FillingView) → nat_le at x.place ≡ true → more ≡ put_all filling (run b at x.place) → now ≡ put more (item_piece b.from b.style x) → now ≡ put_all filling (up_to b at x)
+unfolding put_all
+put_up_to b at x filling more now before run_is adds =
+    rw before (adds ∙ ap (λ (f : FillingView). put f (item_piece b.from b.style x)) run_is ∙ sym (put_all-append filling (run b at x.place) (item_piece b.from b.style x ∷ [])))
+
+pub put_none : (b : BlockView) (at : ℕ) (x : ItemView) (filling : FillingView) → nat_le at x.place ≡ false → filling ≡ put_all filling (up_to b at x)
+unfolding put_all
+put_none b at x filling late = rw late refl
+
+-- one item further
+pub walk_step : (b : BlockView) (at now : ℕ) (x : ItemView) (left xs : List ItemView) (filling more all : FillingView) → left ≡ x ∷ xs → now ≡ max at x.to → more ≡ put_all filling (up_to b at x) → put_all filling (walked b at left) ≡ all → put_all more (walked b now xs) ≡ all
 unfolding walked
-walk_end b at left done more all none adds goes = adds ∙ (rw none at goes)
+walk_step b at now x left xs filling more all taken further adds goes =
+    rw (adds, further) (sym (put_all-append filling (up_to b at x) (walked b (max at x.to) xs)) ∙ (rw taken at goes))
+
+pub walk_end : (b : BlockView) (at : ℕ) (left : List ItemView) (filling more all : FillingView) → left ≡ [] → more ≡ put_all filling (run b at b.to) → put_all filling (walked b at left) ≡ all → more ≡ all
+unfolding walked
+walk_end b at left filling more all none adds goes = adds ∙ (rw none at goes)
 
 -- clusters whose styles stand in a list have those of their places
-pub styles_placed : (style_fn : ℕ → Style) (from at end : ℕ) (text cs : List ℕ) (styles : List Style) → from ≤ at → at ≤ end → end ≤ length text → cs ≡ slice at end text → ((p : ℕ) → p < end - at → get_or styles p plain ≡ style_fn (at + p)) → by_clusters (style_in styles (at - from)) (at - from) (clusters cs) ≡ by_clusters (λ p. style_fn (from + p)) (at - from) (clusters (slice at end text))
-styles_placed style_fn from at end text cs styles started order within is placed =
+pub styles_placed : (style_fn : ℕ → Style) (from to at end : ℕ) (text cs : List ℕ) (styles : List Style) → from ≤ at → at ≤ end → end ≤ to → end ≤ length text → cs ≡ slice at end text → ((p : ℕ) → p < to - from → get_or styles p plain ≡ style_fn p) → by_clusters (style_in styles) (at - from) (clusters cs) ≡ by_clusters style_fn (at - from) (clusters (slice at end text))
+styles_placed style_fn from to at end text cs styles started order ended within is placed =
     let long = total-clusters (slice at end text) in
     let count = length-slice at end text within in
-    rw is (by_clusters-same (style_in styles (at - from)) (λ p. style_fn (from + p)) (at - from) (clusters (slice at end text)) (some-clusters (slice at end text))
-    (λ q after before.
-    let same : at + (q - (at - from)) ≡ from + q = omega arith in
-    placed (q - (at - from)) (omega (arith, long, count)) ∙ ap style_fn same))
+    rw is (by_clusters-same (style_in styles) style_fn (at - from) (clusters (slice at end text)) (some-clusters (slice at end text))
+    (λ q after before. placed q (omega (arith, long, count))))

@@ -7,3 +7,5 @@ pub mod ItemOrder
 pub mod Pieces
 pub mod Blocks
 pub mod Rules
+pub mod Edge
+pub mod Filling

@@ -11,9 +11,9 @@ use Rattle.pieces.specs.Shading.{block_style, style_at, style_ranges}
 use Rattle.pieces.specs.Styles.{plain}
 use Rattle.pieces.specs.Items.{ItemView, item_piece}
 
--- the style of the character at place p, where the first of the styles is that of the place `base`
-abbrev pub style_in : List Style → (base p : ℕ) → Style
-style_in styles base p = get_or styles (p - base) plain
+-- the style of the character at place p, where the first of the styles is that of the place 0
+abbrev pub style_in : List Style → ℕ → Style
+style_in styles p = get_or styles p plain
 
 -- a cluster has the style of its first character
 abbrev pub cluster_piece : (ℕ → Style) → ℕ → List ℕ → PieceView

@@ -1,12 +1,16 @@
 // Cutting a block into its pieces.
-ghost use Rattle.std.specs.Prelude.{false, ◌≡◌, ◌+◌, ◌-◌, ◌<◌, ◌≤◌, ◌^◌, [], ◌∷◌, ◌++◌, min, length, chars, IfOk, OnOk};
+ghost use Rattle.std.specs.Prelude.{false, ◌≡◌, ◌+◌, ◌-◌, ◌<◌, ◌≤◌, ◌^◌, length, chars, IfOk, OnOk};
 ghost use Rattle.std.specs.String.{string_bytes};
 ghost use Rattle.line_tree.specs.Text.{slice};
 ghost use Rattle.cells.specs.Layout.{clusters};
 ghost use Rattle.pieces.specs.Pieces.{block_of, by_clusters, run, style_in, up_to, walked};
-ghost use Rattle.pieces.specs.Blocks.{shown_block};
+ghost use Rattle.pieces.specs.Blocks.{AreStyled, shown_block};
+ghost use Rattle.pieces.specs.Edge.{cut_at};
+ghost use Rattle.pieces.specs.Filling.{EdgeFits, cut_if, put, put_all};
 ghost use Rattle.pieces.specs.Rules.{pieces_of};
 
+use crate::edge::Edge;
+use crate::filling::Filling;
 use crate::item::Item;
 use crate::items::items_of;
 use crate::piece::{Piece, Pieces};
@@ -18,7 +22,7 @@ use selection::Selection;
 use std::alloc::{AllocError, Global};
 use unicode_segmentation::UnicodeSegmentation;
 
-/// A block of a text, from a place to a place, with its style and what styles its characters.
+/// A block of a text, from a place to a place, with its style, what styles its characters, and the style of each.
 #[derive(Drop)]
 struct Block<'a> {
     text: &'a Text,
@@ -26,6 +30,7 @@ struct Block<'a> {
     to: u32,
     style: Style,
     ranges: Vec<StyleRange>,
+    styles: Vec<Style>,
 }
 
 /// The pieces of the block of a text from one place to another, in characters: its clusters, and the texts of widgets and
@@ -42,9 +47,46 @@ pub fn pieces(
     requires within { to ≤ length text.now.characters }
     ensures { IfOk result (λ pieces. pieces ≡ pieces_of text.now.characters from to layers.now selection.now.ranges) }
 {
+    pieces_if(alloc, text, from, to, layers, selection, None)
+}
+
+/// Those of them that begin before the edge. `Err`: out of memory.
+pub fn pieces_before(
+    alloc: Global,
+    text: &Text,
+    from: u32,
+    to: u32,
+    layers: &Layers,
+    selection: &Selection,
+    edge: Edge,
+) -> Result<Pieces, AllocError>
+    requires order { from ≤ to }
+    requires within { to ≤ length text.now.characters }
+    requires positive { 0 < edge.tab }
+    requires small { edge.tab ≤ 16 }
+    ensures { IfOk result (λ pieces. pieces ≡ cut_at edge (pieces_of text.now.characters from to layers.now selection.now.ranges)) }
+{
+    pieces_if(alloc, text, from, to, layers, selection, Some(edge))
+}
+
+/// The pieces, up to the edge where there is one.
+fn pieces_if(
+    alloc: Global,
+    text: &Text,
+    from: u32,
+    to: u32,
+    layers: &Layers,
+    selection: &Selection,
+    edge: Option<Edge>,
+) -> Result<Pieces, AllocError>
+    requires order { from ≤ to }
+    requires within { to ≤ length text.now.characters }
+    requires edge { EdgeFits edge }
+    ensures { IfOk result (λ pieces. pieces ≡ cut_if edge (pieces_of text.now.characters from to layers.now selection.now.ranges)) }
+{
     let block = block_of(alloc, text, from, to, layers, selection)?;
     let items = items_of(alloc, layers, from, to)?;
-    let pieces = walked(alloc, &block, items)?;
+    let pieces = walked(alloc, &block, items, edge)?;
     Ok(pieces)
 }
 
@@ -56,77 +98,113 @@ fn block_of<'a>(
     layers: &Layers,
     selection: &Selection,
 ) -> Result<Block<'a>, AllocError>
+    requires { from ≤ to }
     ensures block { IfOk result (λ block. shown_block block ≡ block_of text.now.characters from to layers.now selection.now.ranges) }
+    ensures styled { IfOk result (λ block. AreStyled block) }
 {
     let ranges = style_ranges(alloc, layers, selection, from, to)?;
+    let style = block_style(layers, from);
+    let styles = styles_of(alloc, from, to - from, style, ranges.as_slice())?;
     Ok(Block {
         text,
         from,
         to,
-        style: block_style(layers, from),
+        style,
         ranges,
+        styles,
     })
 }
 
-/// The pieces of the block, in which these items stand.
-fn walked(alloc: Global, block: &Block<'_>, items: Vec<Item>) -> Result<Pieces, AllocError>
+/// The pieces of the block, in which these items stand, up to the edge where there is one.
+fn walked(
+    alloc: Global,
+    block: &Block<'_>,
+    items: Vec<Item>,
+    edge: Option<Edge>,
+) -> Result<Pieces, AllocError>
     requires order { block.now.from ≤ block.now.to }
     requires within { block.now.to ≤ length block.now.text.now.characters }
-    ensures { IfOk result (λ pieces. pieces ≡ record { style = block.now.style; pieces = walked (shown_block block.now) block.now.from items.items }) }
+    requires styled { AreStyled block.now }
+    requires edge { EdgeFits edge }
+    ensures { IfOk result (λ pieces. pieces ≡ cut_if edge (record { style = block.now.style; pieces = walked (shown_block block.now) block.now.from items.items })) }
 {
-    let mut pieces = Pieces::none(alloc, block.style);
-    let mut at = block.from;
-    for item in items {
-        let to = item.to;
-        push_up_to(alloc, &mut pieces, block, at, item)?;
-        at = at.max(to);
-    }
-    push_run(alloc, &mut pieces, block, at, block.to)?;
-    Ok(pieces)
+    let mut filling = Filling::new(alloc, block.style, edge);
+    push_items(alloc, &mut filling, block, items)?;
+    Ok(filling.into_pieces())
 }
 
-/// Adds the characters from the place `at` to before an item, and its text, unless it starts before `at`.
+/// Puts the pieces of the block, in which these items stand.
+fn push_items(
+    alloc: Global,
+    filling: &mut Filling,
+    block: &Block<'_>,
+    items: Vec<Item>,
+) -> Result<(), AllocError>
+    requires order { block.now.from ≤ block.now.to }
+    requires within { block.now.to ≤ length block.now.text.now.characters }
+    requires styled { AreStyled block.now }
+    ensures { OnOk result (filling.new ≡ put_all filling.old (walked (shown_block block.now) block.now.from items.items)) }
+{
+    let mut at = block.from;
+    for item in items {
+        if filling.is_full() {
+            return Ok(());
+        }
+        let to = item.to;
+        push_up_to(alloc, filling, block, at, item)?;
+        at = at.max(to);
+    }
+    push_run(alloc, filling, block, at, block.to)?;
+    Ok(())
+}
+
+/// Puts the characters from the place `at` to before an item, and its text, unless it starts before `at`.
 fn push_up_to(
     alloc: Global,
-    pieces: &mut Pieces,
+    filling: &mut Filling,
     block: &Block<'_>,
     at: u32,
     item: Item,
 ) -> Result<(), AllocError>
     requires within { block.now.to ≤ length block.now.text.now.characters }
     requires started { block.now.from ≤ at }
-    ensures { OnOk result (pieces.new ≡ record { style = pieces.old.style; pieces = pieces.old.pieces ++ up_to (shown_block block.now) at item }) }
+    requires styled { AreStyled block.now }
+    ensures { OnOk result (filling.new ≡ put_all filling.old (up_to (shown_block block.now) at item)) }
 {
     if at <= item.place {
-        push_run(alloc, pieces, block, at, item.place)?;
-        pieces.push(item.into_piece(block.from, block.style))?;
+        push_run(alloc, filling, block, at, item.place)?;
+        filling.push(item.into_piece(block.from, block.style))?;
     }
     Ok(())
 }
 
-/// Adds the clusters of the block's characters from the place `at` to before the place `end`.
+/// Puts the clusters of the block's characters from the place `at` to before the place `end`.
 fn push_run(
     alloc: Global,
-    pieces: &mut Pieces,
+    filling: &mut Filling,
     block: &Block<'_>,
     at: u32,
     end: u32,
 ) -> Result<(), AllocError>
     requires within { block.now.to ≤ length block.now.text.now.characters }
     requires started { block.now.from ≤ at }
-    ensures { OnOk result (pieces.new ≡ record { style = pieces.old.style; pieces = pieces.old.pieces ++ run (shown_block block.now) at end }) }
+    requires styled { AreStyled block.now }
+    ensures { OnOk result (filling.new ≡ put_all filling.old (run (shown_block block.now) at end)) }
 {
     let end = end.min(block.to);
     if at >= end {
         return Ok(());
     }
-    push_some(alloc, pieces, block, at, end)
+    if filling.is_full() {
+        return Ok(());
+    }
+    push_some(alloc, filling, block, at, end)
 }
 
 /// The same of at least one character.
 fn push_some(
     alloc: Global,
-    pieces: &mut Pieces,
+    filling: &mut Filling,
     block: &Block<'_>,
     at: u32,
     end: u32,
@@ -135,15 +213,15 @@ fn push_some(
     requires started { block.now.from ≤ at }
     requires some { at < end }
     requires ended { end ≤ block.now.to }
-    ensures { OnOk result (pieces.new ≡ record { style = pieces.old.style; pieces = pieces.old.pieces ++ by_clusters (shown_block block.now).style_of (at - block.now.from) (clusters (slice at end block.now.text.now.characters)) }) }
+    requires styled { AreStyled block.now }
+    ensures { OnOk result (filling.new ≡ put_all filling.old (by_clusters (shown_block block.now).style_of (at - block.now.from) (clusters (slice at end block.now.text.now.characters)))) }
 {
     let text = slice_text(block.text, at, end)?;
-    let styles = styles_of(alloc, at, end - at, block.style, block.ranges.as_slice())?;
     push_clusters(
         alloc,
-        pieces,
+        filling,
         text.as_str(),
-        styles.as_slice(),
+        block.styles.as_slice(),
         at - block.from,
     )
 }
@@ -159,48 +237,50 @@ fn slice_text(text: &Text, from: u32, to: u32) -> Result<String, AllocError>
     Ok(text)
 }
 
-/// Adds the clusters of the text, whose characters have these styles and of which the first stands at the place `base` of
-/// the block.
+/// Puts the clusters of the text, of which the first stands at the place `base` of the block, whose characters have these
+/// styles.
 fn push_clusters(
     alloc: Global,
-    pieces: &mut Pieces,
+    filling: &mut Filling,
     text: &str,
     styles: &[Style],
     base: u32,
 ) -> Result<(), AllocError>
     requires { base + length (chars text.now) < 2 ^ 32 }
-    ensures { OnOk result (pieces.new ≡ record { style = pieces.old.style; pieces = pieces.old.pieces ++ by_clusters (style_in styles.now base) base (clusters (chars text.now)) }) }
+    ensures { OnOk result (filling.new ≡ put_all filling.old (by_clusters (style_in styles.now) base (clusters (chars text.now)))) }
 {
     let mut place = base;
     for cluster in text.graphemes(true) {
-        push_cluster(alloc, pieces, cluster, place, style_in(styles, base, place))?;
+        if filling.is_full() {
+            return Ok(());
+        }
+        push_cluster(alloc, filling, cluster, place, style_in(styles, place))?;
         place += char_count(cluster) as u32;
     }
     Ok(())
 }
 
-/// The style of the character at a place, where the first style is that of the place `base`.
-fn style_in(styles: &[Style], base: u32, place: u32) -> Style
-    requires { base ≤ place }
-    ensures { result ≡ style_in styles.now base place }
+/// The style of the character at a place, where the first style is that of the place 0.
+fn style_in(styles: &[Style], place: u32) -> Style
+    ensures { result ≡ style_in styles.now place }
 {
     styles
-        .get((place - base) as usize)
+        .get(place as usize)
         .copied()
         .unwrap_or(Style::plain())
 }
 
 fn push_cluster(
     alloc: Global,
-    pieces: &mut Pieces,
+    filling: &mut Filling,
     cluster: &str,
     place: u32,
     style: Style,
 ) -> Result<(), AllocError>
-    ensures { OnOk result (pieces.new ≡ record { style = pieces.old.style; pieces = pieces.old.pieces ++ (record { place = place; text = chars cluster.now; style = style; before_cursor = false }) ∷ [] }) }
+    ensures { OnOk result (filling.new ≡ put filling.old (record { place = place; text = chars cluster.now; style = style; before_cursor = false })) }
 {
     let text = String::from_str(alloc, cluster)?;
-    pieces.push(Piece::new(place, text, style, false))?;
+    filling.push(Piece::new(place, text, style, false))?;
     Ok(())
 }
 

@@ -1,9 +1,9 @@
 // The pieces of a block.
 ghost use lib.Pointwise.{pointwise};
-ghost use Rattle.std.specs.Prelude.{◌≡◌, ◌↔◌, ◌≤◌, ◌^◌, [], ◌∷◌, ◌++◌, chars, length, IsTrue, OnOk, OnErr};
+ghost use Rattle.std.specs.Prelude.{◌≡◌, ◌↔◌, ◌<◌, ◌≤◌, ◌^◌, [], ◌∷◌, ◌++◌, chars, length, IsTrue, OnOk, OnErr};
 ghost use Rattle.std.specs.Str.{bytes_eq};
 ghost use Rattle.std.specs.String.{string_bytes};
-ghost use Rattle.pieces.specs.SamePieces.{same_piece, same_pieces};
+ghost use Rattle.pieces.specs.SamePieces.{look_of, same_piece, same_pieces};
 
 use crate::styles::same_style;
 use decoration::Style;
@@ -70,14 +70,11 @@ impl Piece {
         self.before_cursor
     }
 
-    /// Whether both pieces are equal.
+    /// Whether both pieces show the same.
     pub(crate) fn same(&self, other: &Piece) -> bool
         ensures { result ≡ same_piece self.now other.now }
     {
-        self.place == other.place
-            && same_style(self.style, other.style)
-            && self.before_cursor == other.before_cursor
-            && same_text(self.text.as_str(), other.text.as_str())
+        same_style(self.style, other.style) && same_text(self.text.as_str(), other.text.as_str())
     }
 }
 
@@ -119,6 +116,7 @@ impl Pieces {
     /// Adds a piece after the others. `Err`: out of memory, which 2 ^ 60 pieces count as; the pieces are as before.
     pub(crate) fn push(&mut self, piece: Piece) -> Result<(), AllocError>
         ensures ok { OnOk result (self.new ≡ record { style = self.old.style; pieces = self.old.pieces ++ piece ∷ [] }) }
+        ensures few { OnOk result (length self.old.pieces < 2 ^ 60) }
         ensures err { OnErr result (self.new ≡ self.old) }
     {
         if self.list.len() >= 1 << 60 {
@@ -143,10 +141,10 @@ impl Pieces {
         self.list.as_slice()
     }
 
-    /// Whether the pieces and the blocks' own styles are equal.
+    /// Whether the pieces show the same, and the blocks' own styles are equal. Their places don't count.
     pub fn same(&self, other: &Pieces) -> bool
         ensures value { result ≡ same_pieces self.now other.now }
-        ensures equal { IsTrue result ↔ (self.now ≡ other.now) }
+        ensures look { IsTrue result ↔ (look_of self.now ≡ look_of other.now) }
     {
         are_same(self, other)
     }

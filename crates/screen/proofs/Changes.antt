@@ -1,25 +1,51 @@
 -- One row further, and what equal keys mean.
-use Rattle.std.proofs.Common.{◌≡◌, ℕ, ◌+◌, ◌-◌, ◌<◌, ◌≤◌, true, List, [], ◌∷◌, ◌++◌, Option, Some, append_assoc, append-nil, arith, drop, refl, sym, ap, ◌∙◌, suc, zero}
+use Rattle.std.proofs.Common.{◌≡◌, ℕ, ◌+◌, ◌-◌, ◌<◌, ◌≤◌, true, List, [], ◌∷◌, ◌++◌, Option, Some, None, length, append_assoc, append-nil, arith, drop, map, refl, sym, ap, ◌∙◌, suc, zero}
 use Rattle.std.specs.Prelude.{slice_get}
 use Rattle.std.proofs.lemmas.Bool.{and_parts, eqb-true}
+use Rattle.std.proofs.lemmas.Option.{slice_get_past}
+use Rattle.blocks.specs.Hiding.{blocks_of}
+use Rattle.pieces.specs.Edge.{cut_at, up_to_edge}
+use Rattle.pieces.specs.Styles.{plain}
 use Rattle.selection.specs.declared.range.Range.{Range}
 use Rattle.selection.specs.Ranges.{high}
 use Rattle.selection.specs.Selections.{LieIn}
 use Rattle.pieces.specs.SamePieces.{same_pieces}
 use Rattle.pieces.proofs.SameText.{same_pieces-is}
-use Rattle.screen.specs.Screen.{RowKey, ViewView, same_key, changed, cost, key_at, rows_from}
+use Rattle.line_rows.specs.Row.{row_of}
+use Rattle.line_rows.specs.declared.rows.StyledCell.{StyledCell}
+use Rattle.line_rows.proofs.SameRows.{cut_row, same_row}
+use Rattle.screen.specs.Screen.{RowKey, ViewView, block_at, changed, cost, edge_of, key_at, pieces_at, rendered_from, row_cells, rows_from, same_key}
 
-pub same_key-is : (a b : RowKey) → same_key a b ≡ true → a ≡ b
-same_key-is a b same =
+-- rows of equal keys are equal
+pub same_key-row : (a b : RowKey) → same_key a b ≡ true → row_cells a ≡ row_cells b
+same_key-row a b same =
     let pieces = and_parts _ (same_pieces a.pieces b.pieces) same in
     let left = and_parts _ _ pieces.0 in
     let cols = and_parts _ _ left.0 in
-    λ i. record {
-      pieces = same_pieces-is a.pieces b.pieces pieces.1 i;
-      tab = eqb-true a.tab b.tab cols.0 i;
-      cols = eqb-true a.cols b.cols cols.1 i;
-      left = eqb-true a.left b.left left.1 i;
-    }
+    let tab_is : a.tab ≡ b.tab = eqb-true a.tab b.tab cols.0 in
+    let cols_is : a.cols ≡ b.cols = eqb-true a.cols b.cols cols.1 in
+    let left_is : a.left ≡ b.left = eqb-true a.left b.left left.1 in
+    (λ i. row_of (tab_is i) (cols_is i) (left_is i) a.pieces) ∙ same_row b.tab b.cols b.left a.pieces b.pieces (same_pieces-is a.pieces b.pieces pieces.1)
+
+-- no block has the number 0, or one past the last
+pub zero_block : (v : ViewView) (number : ℕ) → number ≡ 0 → block_at v number ≡ None
+zero_block v number is = ap (block_at v) is
+
+pub no_block : (v : ViewView) (number : ℕ) → length (blocks_of v.text v.layers) < number → block_at v number ≡ None
+no_block v zero past = refl
+no_block v (suc n) past = slice_get_past (blocks_of v.text v.layers) n (omega (arith, past))
+
+-- a row past the last block has no pieces
+pub past_row : (v : ViewView) (number : ℕ) → block_at v number ≡ None → record { style = plain; pieces = [] } ≡ cut_at (edge_of v) (pieces_at v (block_at v number))
+unfolding up_to_edge
+past_row v number none = rw none refl
+
+-- the rows of a view are those that are made anew
+pub rendered_is : (v : ViewView) (number n : ℕ) → map row_cells (rows_from v number n) ≡ rendered_from v number n
+unfolding rows_from rendered_from
+rendered_is v number zero = refl
+rendered_is v number (suc n) =
+    rw (rendered_is v (number + 1) n) (ap (λ (cs : List StyledCell). cs ∷ rendered_from v (number + 1) n) (cut_row (edge_of v) (pieces_at v (block_at v number))))
 
 -- the count of changed rows, one row further
 changed_step : (i : ℕ) (old : List RowKey) (new : RowKey) (news : List RowKey) → changed (drop i old) (new ∷ news) ≡ cost (slice_get old i) new + changed (drop (suc i) old) news

@@ -8,14 +8,19 @@ use Rattle.line_tree.specs.declared.line.Line as lines
 use Rattle.viewport.specs.Window.{Window}
 use Rattle.viewport.specs.Reveal.{Shows}
 use Rattle.blocks.specs.Hiding.{blocks_of}
+use Rattle.pieces.specs.Edge.{cut_at}
+use Rattle.pieces.specs.declared.edge.Edge.{Edge}
 use Rattle.pieces.specs.Piece.{PiecesView}
 use Rattle.pieces.specs.Rules.{pieces_of}
 use Rattle.pieces.specs.SamePieces.{same_pieces}
 use Rattle.pieces.specs.Styles.{plain}
 use Rattle.line_rows.specs.Column.{column_of}
+use Rattle.line_rows.specs.Row.{row_of}
+use Rattle.line_rows.specs.declared.rows.StyledCell.{StyledCell}
 use Rattle.screen.specs.declared.view.View.{View}
 
--- what a row depends on: the pieces of its block with the block's style, the tab size, and the columns that it shows
+-- what a row depends on: the pieces of its block up to the window's right edge with the block's style, the tab size, and the
+-- columns that it shows
 pub record RowKey : Type 0 where
   pub pieces : PiecesView
   pub tab : ℕ
@@ -50,8 +55,12 @@ abbrev pub pieces_at : ViewView → Option lines.Line → PiecesView
 pieces_at v (Some block) = block_pieces v block
 pieces_at v None = record { style = plain; pieces = [] }
 
+-- the right edge of the window
+abbrev pub edge_of : ViewView → Edge
+edge_of v = record { tab = v.tab; left = v.window.left; cols = v.window.cols }
+
 abbrev pub key_at : ViewView → ℕ → RowKey
-key_at v number = record { pieces = pieces_at v (block_at v number); tab = v.tab; cols = v.window.cols; left = v.window.left }
+key_at v number = record { pieces = cut_at (edge_of v) (pieces_at v (block_at v number)); tab = v.tab; cols = v.window.cols; left = v.window.left }
 
 -- so many rows, the first of which shows the block of a number
 unfoldable pub rows_from : ViewView → ℕ → ℕ → List RowKey
@@ -61,6 +70,19 @@ rows_from v number (suc n) = key_at v number ∷ rows_from v (number + 1) n
 -- Drawn: the rows of the window, of which row i, from 0, shows block `top + i`.
 abbrev pub drawn : ViewView → List RowKey
 drawn v = rows_from v v.window.top v.window.rows
+
+abbrev pub row_cells : RowKey → List StyledCell
+row_cells k = row_of k.tab k.cols k.left k.pieces
+
+-- the cells of so many rows, the first of which shows the block of a number
+unfoldable pub rendered_from : ViewView → ℕ → ℕ → List (List StyledCell)
+rendered_from v number zero = []
+rendered_from v number (suc n) =
+    row_of v.tab v.window.cols v.window.left (pieces_at v (block_at v number)) ∷ rendered_from v (number + 1) n
+
+-- Rendered: the cells of the window's rows, each made anew from all pieces of its block.
+abbrev pub rendered : ViewView → List (List StyledCell)
+rendered v = rendered_from v v.window.top v.window.rows
 
 -- the main range, and the block in which its head stands
 pub record IsHeadAt (v : ViewView) (main : Range) (block : lines.Line) : Type 0 where

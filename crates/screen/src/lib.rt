@@ -2,7 +2,7 @@
 //!
 //! `Screen::draw` shows a `View` of a document. It lays out only the rows whose pieces, tab size or columns differ from
 //! those of the same row drawn last, and puts the cursor where the main range's head stands. A layer above may rely on
-//! `drawn` of specs/Screen: the whole view rendered anew.
+//! `rendered` of specs/Screen: the whole view rendered anew.
 #![tactic(auto)]
 
 mod drawn_row;

@@ -1,15 +1,17 @@
 // The rows of the window, kept from one frame to the next.
-ghost use Rattle.std.specs.Prelude.{◌≡◌, ◌+◌, ◌<◌, ◌≤◌, ◌^◌, [], length, slice_get, IfOk, OnOk, OnErr};
+ghost use Rattle.std.specs.Prelude.{◌≡◌, ◌+◌, ◌<◌, ◌≤◌, ◌^◌, [], length, map, slice_get, IfOk, OnOk, OnErr};
 ghost use Rattle.std.specs.Option.{option_copied};
 ghost use Rattle.selection.specs.Selections.{LieIn};
 ghost use Rattle.blocks.specs.Hiding.{blocks_of};
-ghost use Rattle.screen.specs.Screen.{IsCursor, RowKey, ShowsHead, block_at, changed, cost, drawn, key_at, pieces_at, shown_view};
+ghost use Rattle.pieces.specs.Edge.{cut_at};
+ghost use Rattle.pieces.specs.Rules.{pieces_of};
+ghost use Rattle.screen.specs.Screen.{IsCursor, RowKey, ShowsHead, block_at, changed, cost, drawn, edge_of, key_at, pieces_at, rendered, row_cells, shown_view};
 
 use crate::drawn_row::DrawnRow;
 use crate::head::{cursor_at, head_place};
 use crate::view::View;
 use decoration::Style;
-use line_rows::{Blocks, Cursor, Pieces, pieces};
+use line_rows::{Block, Blocks, Cursor, Edge, Pieces, pieces_before};
 use std::alloc::{AllocError, Global};
 use std::marker::Model;
 use std::sync::ledger::Ledger;
@@ -53,9 +55,11 @@ impl Screen {
         requires inside { LieIn (length (shown_view view.now).text) (shown_view view.now).selection.ranges }
         requires shows { ShowsHead (shown_view view.now) }
         ensures drawn { OnOk result (self.new.rows ≡ drawn (shown_view view.now)) }
+        ensures rendered { OnOk result (map row_cells self.new.rows ≡ rendered (shown_view view.now)) }
         ensures cursor { OnOk result (IsCursor (shown_view view.now) self.new.row self.new.column) }
         ensures failed { OnErr result (self.new ≡ self.old) }
         ensures bound { laid.new ≤ laid.old + changed self.old.rows (drawn (shown_view view.now)) }
+        ensures most { laid.new ≤ laid.old + (shown_view view.now).window.rows }
     {
         let alloc = *self.rows.allocator();
         let blocks = Blocks::of(alloc, view.doc, view.layers)?;
@@ -147,27 +151,46 @@ fn drawn_row<L: Ledger>(
     )
 }
 
-/// The pieces of the block of a number, none past the last one.
+/// The pieces of the block of a number up to the window's right edge, none past the last block.
 fn row_pieces(
     alloc: Global,
     view: &View<'_>,
     blocks: &Blocks,
     number: u128,
 ) -> Result<Pieces, AllocError>
+    requires positive { 0 < (shown_view view.now).tab }
+    requires small { (shown_view view.now).tab ≤ 16 }
     requires blocks { blocks.now ≡ record { text = (shown_view view.now).text; blocks = blocks_of (shown_view view.now).text (shown_view view.now).layers } }
-    ensures { IfOk result (λ pieces. pieces ≡ pieces_at (shown_view view.now) (block_at (shown_view view.now) number)) }
+    ensures { IfOk result (λ pieces. pieces ≡ cut_at (edge_of (shown_view view.now)) (pieces_at (shown_view view.now) (block_at (shown_view view.now) number))) }
 {
     if number == 0 || number > u128::from(blocks.count()) {
         return Ok(Pieces::none(alloc, Style::plain()));
     }
     let block = blocks.span(number as u64);
-    pieces(
+    block_pieces(alloc, view, block)
+}
+
+/// The pieces of a block up to the window's right edge.
+fn block_pieces(alloc: Global, view: &View<'_>, block: Block) -> Result<Pieces, AllocError>
+    requires positive { 0 < (shown_view view.now).tab }
+    requires small { (shown_view view.now).tab ≤ 16 }
+    requires order { block.from ≤ block.to }
+    requires within { block.to ≤ length (shown_view view.now).text }
+    ensures { IfOk result (λ pieces. pieces ≡ cut_at (edge_of (shown_view view.now)) (pieces_of (shown_view view.now).text block.from block.to (shown_view view.now).layers (shown_view view.now).selection.ranges)) }
+{
+    let edge = Edge {
+        tab: view.tab,
+        left: view.window.left(),
+        cols: view.window.cols(),
+    };
+    pieces_before(
         alloc,
         view.doc,
         block.from,
         block.to,
         view.layers,
         view.selection,
+        edge,
     )
 }
 

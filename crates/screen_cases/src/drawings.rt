@@ -4,7 +4,7 @@ ghost use Rattle.screen.specs.Screen.{ShowsHead, shown_view};
 
 use cm_plain::Str;
 use decoration::{Color, Deco, DecoSet, Inclusive, Layers, Style};
-use line_rows::{Cursor, Run, runs_of};
+use line_rows::{Block, Blocks, Run, runs_of};
 use line_tree::{Text, cut_len};
 use range_set::{RangeSet, Ranged};
 use screen::{Screen, View, reveal};
@@ -255,6 +255,33 @@ fn replaced_breaks_join_lines(rt: HostRuntime) -> Result<(), Fail> {
         };
         assert!(rt; shows(rt.alloc(), &case, want)?);
     }
+    Ok(())
+}
+
+/// The blocks in which two places of a document stand, under one layer.
+fn blocks_at(
+    alloc: Global,
+    text: &str,
+    layer: &[Given],
+    places: (u32, u32),
+) -> Result<(Block, Block), Fail> {
+    let doc = document(alloc, text)?;
+    let layers = layers_of(alloc, &[layer])?;
+    let blocks = Blocks::of(alloc, &doc, &layers)?;
+    if places.0 > doc.len() || places.1 > doc.len() {
+        return Err("places of the document".into());
+    }
+    Ok((blocks.at(places.0), blocks.at(places.1)))
+}
+
+#[test]
+fn a_block_knows_its_first_and_last_line(rt: HostRuntime) -> Result<(), Fail> {
+    let joined = [(Kind::Replace, 1, 4, "+", plain())];
+    let (block, last) = blocks_at(rt.alloc(), "ab\ncd\nef", &joined, (3, 6))?;
+    assert!(rt; block.number == 1 && block.first == 1 && block.last == 2);
+    assert!(rt; block.from == 0 && block.to == 5);
+    assert!(rt; last.number == 2 && last.first == 3 && last.last == 3);
+    assert!(rt; last.from == 6 && last.to == 8);
     Ok(())
 }
 

@@ -1,15 +1,13 @@
-use Rattle.std.proofs.Common.{◌≡◌, ◌+◌, ◌≤◌, ◌++◌, length}
+use Rattle.std.proofs.Common.{◌+◌, length}
 use Rattle.std.specs.Str.{chars}
 use Rattle.unicode_segmentation.specs.Iter.{graphemes_left}
 use Rattle.cells.specs.Layout.{clusters}
+use Rattle.pieces.specs.Filling.{put_all}
 use Rattle.pieces.specs.Pieces.{by_clusters, style_in}
 use Rattle.pieces.proofs.Walks.{Placing}
 use Rattle.pieces.proofs.block_pieces.push_clusters.Given as goal
 
 abbrev pub invariant-loop-cluster : goal.invariant-loop-cluster
-invariant-loop-cluster l = record {
-  from : l.base ≤ l.place;
-  style : l.pieces.style ≡ l.fn.pieces.style;
-  placing : Placing (style_in l.styles l.base) l.place (graphemes_left l.cluster-iterator) l.pieces.pieces
-      (l.fn.pieces.pieces ++ by_clusters (style_in l.styles l.base) l.base (clusters (chars l.text))) (l.base + length (chars l.text));
-}
+invariant-loop-cluster l =
+    Placing (style_in l.styles) l.place (graphemes_left l.cluster-iterator) l.filling
+    (put_all l.fn.filling (by_clusters (style_in l.styles) l.base (clusters (chars l.text)))) (l.base + length (chars l.text))
