@@ -21,6 +21,9 @@ pub fn mapped_value(
 ) -> Result<Option<Plain>, AllocError>
     ensures { IfOk result (λ mapped. mapped ≡ mapped_value map value.now changes.now) }
 {
+    if map.is_none() {
+        return Ok(Some(value.try_copy(alloc)?));
+    }
     let mapper = ValueMapper::new(alloc, changes)?;
     mapper.mapped(alloc, map, value)
 }

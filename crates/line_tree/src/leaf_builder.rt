@@ -266,7 +266,7 @@ impl LeafBuilder {
         if self.pieces.is_empty() && self.last.is_empty() {
             return true;
         }
-        count > CHUNK_LEN.saturating_sub(self.pieces.len())
+        count >= (CHUNK_LEN - 1).saturating_sub(self.pieces.len())
     }
 
     /// Adds some characters of a chunk, and shares it where it is added whole and stays a chunk of its own.

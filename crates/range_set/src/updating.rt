@@ -14,8 +14,8 @@ use std::alloc::{AllocError, Global};
 use std::collections::VecDeque;
 
 /// The chunks of the ranges of others that a test allows and of added ones, which stand in order, and how many ranges they have.
-/// A chunk whose ranges all stay, and among which no added one belongs, is shared; of the others the ranges that stay are
-/// copied. `Err`: out of memory.
+/// A chunk of more than a few ranges, all of which stay and among which no added one belongs, is shared; of the others the
+/// ranges that stay are copied. `Err`: out of memory.
 pub(crate) fn updated_chunks<T: RangeValue, F: Fn(&RangeRef<'_, T>) -> bool>(
     alloc: Global,
     chunks: &[Placed<T>],
@@ -36,7 +36,7 @@ pub(crate) fn updated_chunks<T: RangeValue, F: Fn(&RangeRef<'_, T>) -> bool>(
     let mut run = Vec::new(alloc);
     for placed in chunks {
         take_before(placed, &mut added, &mut run)?;
-        if is_beyond(placed, &added) && is_kept(placed, keep) {
+        if is_beyond(placed, &added) && stays_whole(placed, keep) {
             put_sorted(&mut run, &mut builder)?;
             builder.share(placed.start, &placed.chunk)?;
         } else {
@@ -92,12 +92,18 @@ fn is_beyond<T: RangeValue>(placed: &Placed<T>, added: &VecDeque<Ranged<T>>) -> 
     }
 }
 
-/// Whether a test allows each range of a chunk.
-fn is_kept<T: RangeValue, F: Fn(&RangeRef<'_, T>) -> bool>(placed: &Placed<T>, keep: &F) -> bool
+/// How many ranges are few: a chunk of so many isn't shared by an update, so that small chunks go into one with what comes next.
+const FEW: usize = 32;
+
+/// Whether a chunk of more than a few ranges stays whole: a test allows each of them.
+fn stays_whole<T: RangeValue, F: Fn(&RangeRef<'_, T>) -> bool>(placed: &Placed<T>, keep: &F) -> bool
     requires callable { F.IsAlwaysCallable keep.now }
     requires chunk { IsChunk T.rules placed.now.start placed.now.chunk.value }
     ensures { (p : _) → AnswersAs F.Fn keep.now p → IsTrue result → filter p (map (shift placed.now.start) placed.now.chunk.value.ranges.items) ≡ map (shift placed.now.start) placed.now.chunk.value.ranges.items }
 {
+    if placed.chunk.ranges.len() <= FEW {
+        return false;
+    }
     for range in &placed.chunk.ranges {
         let range = RangeRef {
             from: range.from + placed.start,

@@ -5,14 +5,14 @@ use Rattle.range_set.specs.declared.ranged.Ranged.{Ranged}
 use Rattle.std.proofs.lemmas.List.{take_all}
 use Rattle.range_set.proofs.Each.{item_fits}
 use Rattle.range_set.proofs.UpdateLoops.{all_kept, more_shifted}
-use Rattle.range_set.proofs.updating.is_kept.Goals as goal
+use Rattle.range_set.proofs.updating.stays_whole.Goals as goal
 
 pub overflow_add-range : goal.overflow_add-range
 overflow_add-range g c =
     let r = c.range-item.result in
     let i = c.loop-range.range-index in
     let items = c.args.placed.now.chunk.value.ranges.items in
-    let same = c.deref-range-items.ensures.value ∙ ap (λ (ch : Chunk g.row.T.Denot). ch.ranges.items) c.deref.ensures in
+    let same = c.deref-range-items.ensures.value ∙ ap (λ (ch : Chunk g.row.T.Denot). ch.ranges.items) c.deref-2.ensures in
     let l : i < length items = subst (λ (xs : List (Ranged g.row.T.Denot)). i < length xs) same c.loop-range-test.true in
     let is : r ≡ get_or items i r = subst (λ (xs : List (Ranged g.row.T.Denot)). r ≡ get_or xs i r) same c.range-item.is in
     let fits = item_fits g.T.RangeValue.rules c.args.placed.now.start c.args.placed.now.chunk.value i r c.requires.chunk l is in
@@ -23,7 +23,7 @@ overflow_add-range-in-loop-range g c =
     let r = c.range-item.result in
     let i = c.loop-range.range-index in
     let items = c.args.placed.now.chunk.value.ranges.items in
-    let same = c.deref-range-items.ensures.value ∙ ap (λ (ch : Chunk g.row.T.Denot). ch.ranges.items) c.deref.ensures in
+    let same = c.deref-range-items.ensures.value ∙ ap (λ (ch : Chunk g.row.T.Denot). ch.ranges.items) c.deref-2.ensures in
     let l : i < length items = subst (λ (xs : List (Ranged g.row.T.Denot)). i < length xs) same c.loop-range-test.true in
     let is : r ≡ get_or items i r = subst (λ (xs : List (Ranged g.row.T.Denot)). r ≡ get_or xs i r) same c.range-item.is in
     let fits = item_fits g.T.RangeValue.rules c.args.placed.now.start c.args.placed.now.chunk.value i r c.requires.chunk l is in
@@ -35,7 +35,7 @@ loop-range-preserved g c = λ p a.
     let i = c.loop-range.range-index in
     let start = c.args.placed.now.start in
     let items = c.args.placed.now.chunk.value.ranges.items in
-    let same = c.deref-range-items.ensures.value ∙ ap (λ (ch : Chunk g.row.T.Denot). ch.ranges.items) c.deref.ensures in
+    let same = c.deref-range-items.ensures.value ∙ ap (λ (ch : Chunk g.row.T.Denot). ch.ranges.items) c.deref-2.ensures in
     let l : i < length items = subst (λ (xs : List (Ranged g.row.T.Denot)). i < length xs) same c.loop-range-test.true in
     let is : r ≡ get_or items i r = subst (λ (xs : List (Ranged g.row.T.Denot)). r ≡ get_or xs i r) same c.range-item.is in
     let k = a _ c.keep.result (record { shown = _; shows = refl; says = record { met = c.keep.ensures } }) in
@@ -47,7 +47,7 @@ returns g c = λ p a t.
     let i = c.loop-range.range-index in
     let start = c.args.placed.now.start in
     let items = c.args.placed.now.chunk.value.ranges.items in
-    let same = c.deref-range-items.ensures.value ∙ ap (λ (ch : Chunk g.row.T.Denot). ch.ranges.items) c.deref.ensures in
+    let same = c.deref-range-items.ensures.value ∙ ap (λ (ch : Chunk g.row.T.Denot). ch.ranges.items) c.deref-2.ensures in
     let n = ap length same in
     let h = c.loop-range-test.false in
     subst (λ xs. filter p (map (shift start) xs) ≡ map (shift start) xs) (take_all i items (omega (arith, n, h))) (c.loop-range.invariant p a)

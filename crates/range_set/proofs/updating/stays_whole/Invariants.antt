@@ -2,7 +2,7 @@ use Rattle.std.proofs.Common.{◌≡◌, Bool, drop, filter, map, take}
 use Rattle.range_set.specs.PrivateChunks.{shift}
 use Rattle.range_set.specs.Updating.{AnswersAs}
 use Rattle.range_set.specs.declared.ranged.Ranged.{Ranged}
-use Rattle.range_set.proofs.updating.is_kept.Given as goal
+use Rattle.range_set.proofs.updating.stays_whole.Given as goal
 
 abbrev pub invariant-loop-range : goal.invariant-loop-range
 invariant-loop-range g l =
