@@ -7,4 +7,5 @@ pub mod Pairs
 pub mod Passing
 pub mod Placing
 pub mod Providing
+pub mod Starting
 pub mod Widening

@@ -1,9 +1,13 @@
 // What is declared from the start.
-ghost use Rattle.std.specs.Prelude.{◌≡◌, ◌∷◌, [], None, IfOk, OnOk};
-ghost use Rattle.values.specs.Declarations.{nothing, with_effect, with_facet, with_field, with_placed};
+ghost use Rattle.std.specs.Prelude.{◌≡◌, ◌<◌, ◌≤◌, ◌+◌, ◌∷◌, [], false, length, None, IfOk, OnOk};
+ghost use Rattle.std.specs.List.{AllByRecursion};
+ghost use Rattle.values.specs.Declarations.{is_placed, max_count, nothing, with_effect, with_facet, with_field, with_placed};
+ghost use Rattle.values.specs.Lawful.{IsLawfulFacet};
+ghost use Rattle.registry.specs.declared.registry_error.RegistryError.TheVariants.{NoMemory};
 ghost use Rattle.registry.specs.Predeclared.{combined_by, history_def, predeclared, with_facets};
 
 use crate::registry::Registry;
+use crate::registry_error::RegistryError;
 use configuration::{Dependency, FacetDef, FieldDef};
 use ext_tree::ExtIds;
 use listed::Listed;
@@ -58,19 +62,30 @@ fn history_reads(alloc: Global) -> Result<Listed<Dependency>, AllocError>
     Ok(reads)
 }
 
+/// The error of a call that isn't refused.
+fn out_of_memory(_error: RegistryError) -> AllocError
+    requires { _error ≡ NoMemory }
+{
+    AllocError
+}
+
 impl<M: Meanings> Registry<M> {
     /// Declares a facet that enables nothing.
     fn add_facet(&mut self, alloc: Global, def: FacetDef) -> Result<(), AllocError>
+        requires lawful { IsLawfulFacet M.rules def }
+        requires room { length self.old.facets < max_count }
         ensures { OnOk result (self.new ≡ with_facet self.old def []) }
     {
         match self.facet(def, ExtIds::of(Vec::new(alloc))) {
             Ok(_) => Ok(()),
-            Err(_) => Err(AllocError),
+            Err(error) => Err(out_of_memory(error)),
         }
     }
 
     /// Declares facets that enable nothing.
     fn add_facets(&mut self, alloc: Global, defs: &[FacetDef]) -> Result<(), AllocError>
+        requires lawful { AllByRecursion (IsLawfulFacet M.rules) defs.now }
+        requires room { length self.old.facets + length defs.now ≤ max_count }
         ensures { OnOk result (self.new ≡ with_facets self.old defs.now) }
     {
         for def in defs {
@@ -81,16 +96,19 @@ impl<M: Meanings> Registry<M> {
 
     /// Declares an effect kind without a map.
     fn add_note(&mut self) -> Result<(), AllocError>
+        requires { length self.old.maps < max_count }
         ensures { OnOk result (self.new ≡ with_effect self.old None) }
     {
         match self.effect(None) {
             Ok(_) => Ok(()),
-            Err(_) => Err(AllocError),
+            Err(error) => Err(out_of_memory(error)),
         }
     }
 
     /// Declares the field of the history.
     fn add_history(&mut self, alloc: Global) -> Result<(), AllocError>
+        requires reads { 8 < length self.old.facets }
+        requires room { length self.old.fields < max_count }
         ensures { OnOk result (self.new ≡ with_field self.old history_def) }
     {
         let reads = history_reads(alloc)?;
@@ -103,21 +121,24 @@ impl<M: Meanings> Registry<M> {
         };
         match self.field_declare(def) {
             Ok(_) => Ok(()),
-            Err(_) => Err(AllocError),
+            Err(error) => Err(out_of_memory(error)),
         }
     }
 
     /// Places the first field, which provides nothing.
     fn place_history(&mut self, alloc: Global) -> Result<(), AllocError>
+        requires known { 0 < length self.old.fields }
+        requires unplaced { is_placed self.old 0 ≡ false }
+        requires room { length self.old.nodes < max_count }
         ensures { OnOk result (self.new ≡ with_placed self.old 0 []) }
     {
         match self.field_place(HISTORY, ExtIds::of(Vec::new(alloc))) {
             Ok(_) => Ok(()),
-            Err(_) => Err(AllocError),
+            Err(error) => Err(out_of_memory(error)),
         }
     }
 
-    /// What is declared from the start. `Err`: out of memory.
+    /// What is declared from the start. None of it is refused, whatever the rules are. `Err`: out of memory.
     pub fn new(alloc: Global) -> Result<Self, AllocError>
         ensures { IfOk result (λ registry. registry ≡ predeclared) }
     {
