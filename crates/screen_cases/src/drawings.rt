@@ -258,15 +258,15 @@ fn replaced_breaks_join_lines(rt: HostRuntime) -> Result<(), Fail> {
     Ok(())
 }
 
-/// The blocks in which two places of a document stand, under one layer.
+/// The blocks in which two places of a document stand, under these layers.
 fn blocks_at(
     alloc: Global,
     text: &str,
-    layer: &[Given],
+    layers: &[&[Given]],
     places: (u32, u32),
 ) -> Result<(Block, Block), Fail> {
     let doc = document(alloc, text)?;
-    let layers = layers_of(alloc, &[layer])?;
+    let layers = layers_of(alloc, layers)?;
     let blocks = Blocks::of(alloc, &doc, &layers)?;
     if places.0 > doc.len() || places.1 > doc.len() {
         return Err("places of the document".into());
@@ -277,7 +277,7 @@ fn blocks_at(
 #[test]
 fn a_block_knows_its_first_and_last_line(rt: HostRuntime) -> Result<(), Fail> {
     let joined = [(Kind::Replace, 1, 4, "+", plain())];
-    let (block, last) = blocks_at(rt.alloc(), "ab\ncd\nef", &joined, (3, 6))?;
+    let (block, last) = blocks_at(rt.alloc(), "ab\ncd\nef", &[&joined], (3, 6))?;
     assert!(rt; block.number == 1 && block.first == 1 && block.last == 2);
     assert!(rt; block.from == 0 && block.to == 5);
     assert!(rt; last.number == 2 && last.first == 3 && last.last == 3);
