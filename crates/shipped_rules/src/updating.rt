@@ -1,7 +1,6 @@
 ghost use Rattle.std.specs.Prelude.{◌≡◌, ◌++◌, IfOk, map, option_copied};
 ghost use Rattle.cm_plain.specs.Plain.{datum_of};
-ghost use Rattle.values.specs.Computing.{items_in};
-ghost use Rattle.values.specs.Reading.{item};
+ghost use Rattle.values.specs.Reading.{item, items_in};
 ghost use Rattle.values.specs.Updating.{collected, counted_up, last_effect, number_or_zero, plain_values};
 ghost use Rattle.shipped_rules.specs.Items.{AreItems};
 ghost use Rattle.shipped_rules.specs.Effects.{last_of};
