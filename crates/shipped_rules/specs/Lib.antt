@@ -1,6 +1,9 @@
 pub use Rattle.values.specs.Shipped
+pub mod InRange
+pub mod Fitting
 pub mod Lawful
 pub mod Greatest
 pub mod Items
 pub mod Lists
 pub mod Effects
+pub mod Stepping

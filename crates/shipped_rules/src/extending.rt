@@ -1,5 +1,5 @@
 ghost use Rattle.std.specs.Prelude.{◌≡◌, IfOk};
-ghost use Rattle.values.specs.Guarding.{extend, nothing_more, start_length, touched_note};
+ghost use Rattle.values.specs.Extending.{extend, nothing_more, start_length, touched_note};
 
 use cm_plain::{Plain, Str};
 use listed::Listed;

@@ -1,7 +1,7 @@
 ghost use Rattle.std.specs.Prelude.{◌≡◌, IfOk, filter_map, map, [], Some};
 ghost use Rattle.cm_plain.specs.Plain.{datum_of};
 ghost use Rattle.values.specs.Combining.{greatest_of};
-ghost use Rattle.values.specs.Guarding.{break_at, filter, limit_in, number_item, unless_long, with_break};
+ghost use Rattle.values.specs.Filtering.{break_at, filter, limit_in, number_item, unless_long, with_break};
 ghost use Rattle.shipped_rules.specs.Greatest.{greater_of};
 
 use change_set::{Change, InsertedText};

@@ -1,8 +1,8 @@
 ghost use Rattle.std.specs.Prelude.{◌≡◌, IfOk, filter_map, map};
 ghost use Rattle.cm_plain.specs.Plain.{datum_of};
-ghost use Rattle.values.specs.Guarding.{guard, place_in, places_in, protected_ranges, range_item};
+ghost use Rattle.values.specs.Guarding.{guard, protected_ranges, range_item};
 
-use crate::reading::two_numbers;
+use crate::reading::{places_in, two_numbers};
 use cm_plain::Plain;
 use listed::Listed;
 use std::alloc::{AllocError, Global};
@@ -56,21 +56,4 @@ fn range_item(item: &Plain) -> Option<(u32, u32)>
         Some((from, to)) => places_in(from, to),
         None => None,
     }
-}
-
-/// Two whole numbers as two places.
-fn places_in(from: i64, to: i64) -> Option<(u32, u32)>
-    ensures { result ≡ places_in (from, to) }
-{
-    Some((place_in(from)?, place_in(to)?))
-}
-
-/// A whole number as a place, if it is at least 0 and fits 32 bits.
-fn place_in(number: i64) -> Option<u32>
-    ensures { result ≡ place_in number }
-{
-    if number < 0 || number > 4_294_967_295 {
-        return None;
-    }
-    Some(number as u32)
 }

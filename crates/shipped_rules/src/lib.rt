@@ -13,9 +13,11 @@ mod extending;
 mod filtering;
 mod guarding;
 mod listing;
+mod marking;
 mod reading;
 mod shapes;
 mod shipped;
+mod stepping;
 mod updating;
 
 pub use combining::combine;
@@ -28,4 +30,4 @@ pub use filtering::filter;
 pub use guarding::guard;
 pub use listing::compute_list;
 pub use shipped::Shipped;
-pub use updating::{collected, counted_up, last_effect};
+pub use updating::update;

@@ -1,7 +1,7 @@
 ghost use Rattle.std.specs.Prelude.{◌≡◌, IfOk, length, map, pos};
 ghost use Rattle.line_tree.specs.Lines.{line_texts};
 ghost use Rattle.cm_plain.specs.Plain.{datum_of};
-ghost use Rattle.values.specs.Computing.{compute_list, first_items, line_lengths};
+ghost use Rattle.values.specs.ListComputing.{compute_list, first_items, line_lengths};
 ghost use Rattle.values.specs.Reading.{int, value_of};
 ghost use Rattle.values.specs.declared.val.Val.TheVariants as val;
 

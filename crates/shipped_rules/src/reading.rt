@@ -2,7 +2,7 @@ ghost use Rattle.std.specs.Prelude.{◌≡◌, IfOk, None, Some, option_copied, 
 ghost use Rattle.kept_effects.specs.MappedValues.{two_numbers};
 ghost use Rattle.values.specs.Combining.{pair_in};
 ghost use Rattle.values.specs.Computing.{document_length};
-ghost use Rattle.values.specs.Reading.{first_plain, first_read, number_in};
+ghost use Rattle.values.specs.Reading.{first_plain, first_read, number_in, place_in, places_in};
 
 use cm_plain::Plain;
 use std::alloc::{AllocError, Global};
@@ -69,4 +69,21 @@ pub(crate) fn pair_in(value: &Val) -> Option<(i64, i64)>
         Val::Plain(plain) => two_numbers(plain),
         _ => None,
     }
+}
+
+/// Two whole numbers as two places.
+pub(crate) fn places_in(from: i64, to: i64) -> Option<(u32, u32)>
+    ensures { result ≡ places_in (from, to) }
+{
+    Some((place_in(from)?, place_in(to)?))
+}
+
+/// A whole number as a place, if it is at least 0 and fits 32 bits.
+pub(crate) fn place_in(number: i64) -> Option<u32>
+    ensures { result ≡ place_in number }
+{
+    if number < 0 || number > 4_294_967_295 {
+        return None;
+    }
+    Some(number as u32)
 }

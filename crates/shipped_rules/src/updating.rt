@@ -1,20 +1,39 @@
 ghost use Rattle.std.specs.Prelude.{◌≡◌, ◌++◌, IfOk, map, option_copied};
 ghost use Rattle.cm_plain.specs.Plain.{datum_of};
-ghost use Rattle.values.specs.Computing.{items_in};
-ghost use Rattle.values.specs.Reading.{item};
-ghost use Rattle.values.specs.Updating.{collected, counted_up, last_effect, number_or_zero, plain_values};
+ghost use Rattle.values.specs.Reading.{item, items_in};
+ghost use Rattle.values.specs.Updating.{collected, counted_up, last_effect, number_or_zero, plain_values, update};
 ghost use Rattle.shipped_rules.specs.Items.{AreItems};
 ghost use Rattle.shipped_rules.specs.Effects.{last_of};
 
 use crate::combining::{item_of, listed};
-use crate::reading::number_in;
+use crate::marking::{marked_lines, marks};
+use crate::reading::{first_plain, number_in};
+use crate::stepping::next_history;
 use cm_plain::Plain;
 use std::alloc::{AllocError, Global};
 use values::{ShownEffect, UpdateView, Val};
 
+/// What the updater of a number makes of a field's old value, a transaction, and what the field reads in the new state. `Err`: out
+/// of memory.
+pub fn update(alloc: Global, number: u32, old: &Val, view: &UpdateView) -> Result<Val, AllocError>
+    ensures { IfOk result (λ v. v ≡ update number old.now view.now.transaction view.now.deps) }
+{
+    match number {
+        1 => old.try_copy(alloc),
+        2 => counted_up(alloc, old, view),
+        3 => last_effect(alloc, old, view),
+        4 => marks(alloc, old, view),
+        5 => marked_lines(alloc, old, view),
+        6 => next_history(alloc, old, view),
+        7 => collected(alloc, old, view),
+        8 => first_plain(alloc, &view.deps),
+        _ => first_plain(alloc, &view.deps),
+    }
+}
+
 /// The second shipped updater: the old number and 1 more where the changes aren't empty; it stops at the end of 64 bits.
 /// `Err`: out of memory.
-pub fn counted_up(alloc: Global, old: &Val, view: &UpdateView) -> Result<Val, AllocError>
+fn counted_up(alloc: Global, old: &Val, view: &UpdateView) -> Result<Val, AllocError>
     ensures { IfOk result (λ v. v ≡ counted_up old.now view.now.transaction view.now.deps) }
 {
     if view.transaction.changes().is_empty() {
@@ -34,7 +53,7 @@ fn number_or_zero(value: &Val) -> i64
 }
 
 /// The third shipped updater: the value of the last listened effect that is plain, else the old one. `Err`: out of memory.
-pub fn last_effect(alloc: Global, old: &Val, view: &UpdateView) -> Result<Val, AllocError>
+fn last_effect(alloc: Global, old: &Val, view: &UpdateView) -> Result<Val, AllocError>
     ensures { IfOk result (λ v. v ≡ last_effect old.now view.now.transaction view.now.deps) }
 {
     match last_plain(view.transaction.effects()) {
@@ -58,7 +77,7 @@ fn last_plain(effects: &[ShownEffect]) -> Option<&Plain>
 
 /// The seventh shipped updater: the items of the old list, and then the plain values of the listened effects. `Err`: out of
 /// memory.
-pub fn collected(alloc: Global, old: &Val, view: &UpdateView) -> Result<Val, AllocError>
+fn collected(alloc: Global, old: &Val, view: &UpdateView) -> Result<Val, AllocError>
     ensures { IfOk result (λ v. v ≡ collected old.now view.now.transaction view.now.deps) }
 {
     let items = items_in(alloc, old)?;

@@ -1,5 +1,5 @@
 use Rattle.std.proofs.Common.{arith, ◌∙◌}
-use Rattle.shipped_rules.specs.Lawful.{lines-le, lines_of-length}
+use Rattle.shipped_rules.specs.Fitting.{lines-le, lines_of-length}
 use Rattle.shipped_rules.proofs.computing.count_lines.Goals as goal
 
 pub overflow_cast-result : goal.overflow_cast-result

@@ -1,7 +1,7 @@
 use Rattle.std.proofs.Common.{◌≡◌, take, map, filter_map}
 use Rattle.cm_plain.specs.Plain.{datum_of}
 use Rattle.values.specs.Combining.{greatest_of}
-use Rattle.values.specs.Guarding.{number_item}
+use Rattle.values.specs.Filtering.{number_item}
 use Rattle.shipped_rules.proofs.filtering.greatest_item.Given as goal
 
 abbrev pub invariant-loop-item : goal.invariant-loop-item

@@ -1,0 +1,48 @@
+-- Sets that lie in a document.
+use Rattle.std.proofs.Common.{◌≡◌, ℕ, ◌≤◌, Bool, true, false, ◌&&◌, cond, List, [], ◌∷◌, ◌++◌, None, refl, sym, subst, arith}
+use Rattle.std.specs.Prelude.{filter, nat_le}
+use Rattle.std.proofs.lemmas.Bool.Decides.{nat_tests}
+use Rattle.std.proofs.lemmas.List.{append-nil}
+use Rattle.stable_order.specs.StableSort.{insert_by, stable_sort}
+use Rattle.range_set.specs.declared.ranged.Ranged.{Ranged}
+use Rattle.range_set.specs.Mapping.{EndWithin}
+use Rattle.range_set.specs.Order.{before}
+use Rattle.range_set.proofs.Each.{Within, end_within}
+use Rattle.decoration.specs.declared.deco.Deco.{Deco}
+use Rattle.decoration.specs.Sides.{deco_rules}
+use Rattle.values.specs.declared.shown_effect.ShownEffect.{ShownEffect}
+use Rattle.values.specs.Updating.{DecoRanges, is_within, kept_within, line_of, with_ranges}
+use Rattle.shipped_rules.specs.InRange.{both}
+
+insert-within : (n : ℕ) (r : Ranged Deco) (rs : DecoRanges) → (r.from ≤ n) × (r.to ≤ n) → Within n rs → Within n (insert_by (before deco_rules) r rs)
+insert-within n r [] h k = (h, tt)
+insert-within n r (q ∷ rs) h k =
+    elim (before deco_rules q r) as (λ b. Within n (cond b (q ∷ insert_by (before deco_rules) r rs) (r ∷ q ∷ rs)))
+    [ true ↦ (k.0, insert-within n r rs h k.1) | false ↦ (h, k) ]
+
+sort-within : (n : ℕ) (rs : DecoRanges) → Within n rs → Within n (stable_sort (before deco_rules) rs)
+sort-within n [] h = tt
+sort-within n (r ∷ rs) h = insert-within n r (stable_sort (before deco_rules) rs) h.0 (sort-within n rs h.1)
+
+within-ends : (n : ℕ) (r : Ranged Deco) → is_within n r ≡ true → (r.from ≤ n) × (r.to ≤ n)
+within-ends n r e =
+    let k = both (nat_le r.from n) (nat_le r.to n) e in let c : nat_le r.from n ≡ true = k.0 in let d : nat_le r.to n ≡ true = k.1 in
+    (grind (arith, nat_tests), grind (arith, nat_tests))
+
+filter-within : (n : ℕ) (rs : DecoRanges) → Within n (filter (is_within n) rs)
+filter-within n [] = tt
+filter-within n (r ∷ rs) = at (is_within n r) refl (filter-within n rs)
+  where
+    at : (b : Bool) → is_within n r ≡ b → Within n (filter (is_within n) rs) → Within n (cond b (r ∷ filter (is_within n) rs) (filter (is_within n) rs))
+    at true e w = (within-ends n r e, w)
+    at false e w = w
+
+pub kept-inside : (n : ℕ) (rs : DecoRanges) → EndWithin n (kept_within n rs)
+kept-inside n rs =
+    end_within n (kept_within n rs)
+    (sort-within n (filter (is_within n) rs ++ []) (subst (Within n) (sym (append-nil (filter (is_within n) rs))) (filter-within n rs)))
+
+-- without a document effects make no line decorations
+pub none-made : (rs : DecoRanges) (es : List ShownEffect) → with_ranges (line_of None) rs es ≡ rs
+none-made rs [] = refl
+none-made rs (e ∷ es) = none-made rs es
