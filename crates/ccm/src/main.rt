@@ -1,4 +1,4 @@
-//! The program `ccm`: it replays script lines from standard input to standard output.
+//! The program `ccm`: it answers script lines from standard input to standard output.
 //!
 //! `main` makes the two devices, whose reads and writes count their faults, hands the words of the command line to
 //! `session::run`, and ends with the status of the run; a status other than 0 gives one line to standard error.
@@ -31,7 +31,7 @@ fn words(rt: &(impl Env + AllocGlobal)) -> io::Result<Vec<Str>> {
 fn complaint(status: Status) -> Option<&'static str> {
     match status {
         Status::Ok => None,
-        Status::Usage => Some("ccm: usage: ccm replay"),
+        Status::Usage => Some("ccm: usage: ccm replay | ccm collab"),
         Status::ReadFault => Some("ccm: read fault"),
         Status::WriteFault => Some("ccm: write fault"),
         Status::StoreFault => Some("ccm: store fault"),

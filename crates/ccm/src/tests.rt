@@ -10,7 +10,7 @@ use std::test::Fail;
 fn each_status_has_its_line(rt: HostRuntime) {
     let cases = [
         (Status::Ok, None),
-        (Status::Usage, Some("ccm: usage: ccm replay")),
+        (Status::Usage, Some("ccm: usage: ccm replay | ccm collab")),
         (Status::ReadFault, Some("ccm: read fault")),
         (Status::WriteFault, Some("ccm: write fault")),
         (Status::StoreFault, Some("ccm: store fault")),

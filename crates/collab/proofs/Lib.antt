@@ -8,3 +8,4 @@ pub mod Keeping
 pub mod Worlds
 pub mod Outcomes
 pub mod Distinct
+pub mod Places

@@ -91,6 +91,18 @@ impl Authority {
         Ok(Listed::new(copies(*self.updates.allocator(), part)?))
     }
 
+    /// The same authority once more. `Err`: out of memory.
+    pub(crate) fn try_copy(&self) -> Result<Authority, AllocError>
+        ensures { IfOk result (λ copy. copy ≡ self.now) }
+    {
+        let updates = copies(*self.updates.allocator(), self.updates.as_slice())?;
+        Ok(Authority {
+            start: self.start.try_copy()?,
+            updates,
+            doc: self.doc.try_copy()?,
+        })
+    }
+
     /// Takes updates over its text, none of which is too long.
     fn take(&mut self, name: &Str, updates: &[Update]) -> Result<(), AllocError>
         requires room { update_count self.old + length updates.now < 2 ^ 32 }

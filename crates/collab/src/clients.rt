@@ -1,4 +1,6 @@
 ghost use Rattle.std.specs.Prelude.{◌≡◌, ◌≢◌, ◌<◌, ◌≤◌, ℕ, length, map, option_and_then, IfOk, IfErr, OnOk, OnErr, Some, None, slice_get};
+ghost use Rattle.std.specs.List.{position_from};
+ghost use Rattle.std.specs.Str.{bytes_eq};
 ghost use Rattle.line_tree.specs.Text.{max_len};
 ghost use Rattle.collab.specs.declared.error.CollabError.TheVariants.{NoMemory};
 ghost use Rattle.collab.specs.Clients.{CanReceive, ClientView, IsLocal, joined, receive_refusal, received, unseen};
@@ -8,7 +10,7 @@ ghost use Rattle.collab.specs.Stepping.{after_local, local_refusal, local_set, r
 
 use crate::client::Client;
 use crate::error::CollabError;
-use crate::update::Update;
+use crate::update::{Update, is_same};
 use change_set::Change;
 use cm_plain::Str;
 use line_tree::Text;
@@ -24,6 +26,29 @@ pub(crate) fn joined(alloc: Global, text: &Text, names: Vec<Str>) -> Result<Vec<
         clients.push(Client::new(alloc, name, text.try_copy()?)?)?;
     }
     Ok(clients)
+}
+
+/// The place of the first client of a name.
+pub(crate) fn place_of(clients: &[Client], name: &Str) -> Option<usize>
+    ensures { result ≡ position_from (λ c. bytes_eq name.now c.name) 0 clients.now }
+{
+    for (index, client) in clients.iter().enumerate() {
+        if is_same(name, client.name()) {
+            return Some(index);
+        }
+    }
+    None
+}
+
+/// Copies of clients.
+pub(crate) fn copies_of(alloc: Global, clients: &[Client]) -> Result<Vec<Client>, AllocError>
+    ensures { IfOk result (λ all. all.items ≡ clients.now) }
+{
+    let mut all = Vec::new(alloc);
+    for client in clients {
+        all.push(client.try_copy()?)?;
+    }
+    Ok(all)
 }
 
 /// A client that exists changes its text.

@@ -1,4 +1,6 @@
-ghost use Rattle.std.specs.Prelude.{◌≡◌, ◌≢◌, ◌+◌, ◌<◌, ◌≤◌, ◌^◌, ◌↔◌, length, IfOk, IfErr, IsTrue, false, OnOk, OnErr, Some, None, slice_get, option_and_then};
+ghost use Rattle.std.specs.Prelude.{◌≡◌, ◌≢◌, ◌+◌, ◌<◌, ◌≤◌, ◌^◌, ◌↔◌, length, IfOk, IfErr, IfSome, IsTrue, false, OnOk, OnErr, Some, None, slice_get, option_and_then};
+ghost use Rattle.std.specs.List.{position_from};
+ghost use Rattle.std.specs.Str.{bytes_eq};
 ghost use Rattle.line_tree.specs.Text.{max_len};
 ghost use Rattle.collab.specs.declared.error.CollabError.TheVariants.{NoMemory};
 ghost use Rattle.collab.specs.Worlds.{AreDistinct, begun, changed_at, with_clients, with_message};
@@ -9,10 +11,10 @@ ghost use Rattle.collab.specs.Converging.{Converges};
 
 use crate::authority::Authority;
 use crate::client::Client;
-use crate::clients::{change, joined, received_by};
+use crate::clients::{self, change, joined, received_by};
 use crate::error::CollabError;
 use crate::event::Event;
-use crate::message::Message;
+use crate::message::{self, Message};
 use change_set::Change;
 use cm_plain::Str;
 use line_tree::Text;
@@ -77,6 +79,15 @@ impl World {
         self.clients.len()
     }
 
+    /// The place of the client of a name, if there is one. Takes no memory.
+    #[tactic(auto, using(crate::proofs::Places::place_within))]
+    pub fn place_of(&self, name: &Str) -> Option<usize>
+        ensures place { result ≡ position_from (λ c. bytes_eq name.now c.name) 0 self.now.clients }
+        ensures exists { IfSome result (λ place. place < length self.now.clients) }
+    {
+        clients::place_of(self.clients.as_slice(), name)
+    }
+
     /// How many messages were sent. Takes no memory.
     pub fn messages(&self) -> usize
         ensures value { result ≡ length self.now.messages }
@@ -91,6 +102,21 @@ impl World {
         ensures { result ≡ is_push (slice_get self.now.messages message) }
     {
         self.messages[message as usize].is_push()
+    }
+
+    /// The same world once more. `Err`: out of memory.
+    pub fn try_copy(&self) -> Result<World, AllocError>
+        ensures { IfOk result (λ copy. copy ≡ self.now) }
+    {
+        let alloc = *self.clients.allocator();
+        let authority = self.authority.try_copy()?;
+        let clients = clients::copies_of(alloc, self.clients.as_slice())?;
+        let messages = message::copies_of(alloc, self.messages.as_slice())?;
+        Ok(World {
+            authority,
+            clients,
+            messages,
+        })
     }
 
     /// Whether there are still fewer than 2 ^ 32 updates, messages and local changes of each client after an event. Takes no

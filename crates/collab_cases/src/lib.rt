@@ -5,6 +5,8 @@
 #[cfg(test)]
 mod names;
 #[cfg(test)]
+mod pushes;
+#[cfg(test)]
 mod rows;
 #[cfg(test)]
 mod steps;

@@ -59,7 +59,7 @@ pub(crate) fn text(alloc: Global, characters: &[char]) -> Result<Text, AllocErro
     Text::of(alloc, characters)
 }
 
-fn outcome(stepped: Result<(), CollabError>) -> Result<Seen, AllocError> {
+pub(crate) fn outcome(stepped: Result<(), CollabError>) -> Result<Seen, AllocError> {
     match stepped {
         Ok(()) => Ok(Seen::Done),
         Err(CollabError::Stale { version }) => Ok(Seen::Stale(version)),
@@ -95,7 +95,7 @@ fn keeping(alloc: Global, len: u32) -> Result<Listed<Change>, AllocError> {
 }
 
 /// A text of 8,388,608 characters.
-fn long(alloc: Global) -> Result<Text, AllocError> {
+pub(crate) fn long(alloc: Global) -> Result<Text, AllocError> {
     let mut all = text(alloc, &['x'])?;
     for _ in 0..23u32 {
         if all.len() > 4_194_304 {

@@ -13,6 +13,8 @@ const START: &[u8] = b"{\"start\":{\"doc\":\"\"}}\n";
 
 const STARTED: &[u8] = b"{\"ok\":{\"length\":0}}\n";
 
+const NO_COMMAND: &[u8] = b"{\"no\":{\"code\":\"NotCommand\",\"field\":\"start\"}}\n";
+
 /// Whether a run over this input, in pieces as long as its first line, ends so and writes this.
 fn ends(
     alloc: Global,
@@ -67,13 +69,14 @@ fn asked(alloc: Global, words: &[&str]) -> Result<Option<Words>, AllocError> {
 }
 
 #[test]
-fn one_word_is_accepted(rt: HostRuntime) -> Result<(), Fail> {
+fn two_words_are_accepted_alone(rt: HostRuntime) -> Result<(), Fail> {
     let alloc = rt.alloc();
     assert!(rt; asked(alloc, &["replay"])? == Some(Words::Replay));
+    assert!(rt; asked(alloc, &["collab"])? == Some(Words::Collab));
     assert!(rt; asked(alloc, &[])? == None);
     assert!(rt; asked(alloc, &["make"])? == None);
     assert!(rt; asked(alloc, &["replay "])? == None);
-    assert!(rt; asked(alloc, &["replay", "replay"])? == None);
+    assert!(rt; asked(alloc, &["replay", "collab"])? == None);
     Ok(())
 }
 
@@ -90,6 +93,7 @@ fn run_ends(alloc: Global, words: &[&str], want: (Status, &[u8])) -> Result<bool
 fn other_words_are_not_accepted(rt: HostRuntime) -> Result<(), Fail> {
     let alloc = rt.alloc();
     assert!(rt; run_ends(alloc, &["replay"], (Status::Ok, STARTED))?);
+    assert!(rt; run_ends(alloc, &["collab"], (Status::Ok, NO_COMMAND))?);
     assert!(rt; run_ends(alloc, &[], (Status::Usage, b""))?);
     assert!(rt; run_ends(alloc, &["make"], (Status::Usage, b""))?);
     assert!(rt; run_ends(alloc, &["replay", "replay"], (Status::Usage, b""))?);

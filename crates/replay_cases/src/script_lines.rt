@@ -11,7 +11,7 @@ fn is_refused_for(alloc: Global, line: &str, want: &str) -> Result<bool, AllocEr
     let Ok(value) = Value::from_str(alloc, line) else {
         return Ok(false);
     };
-    match command_of(alloc, &value) {
+    match command_of::<Command>(alloc, &value) {
         Err(LineError::Refused(Refusal::BadValue { field })) => Ok(field.text()?.as_str() == want),
         _ => Ok(false),
     }
@@ -81,7 +81,7 @@ fn values_are_whole_and_at_most_16_deep(rt: HostRuntime) -> Result<(), Fail> {
 /// The first spec of a line of an update.
 fn first_spec(alloc: Global, line: &str) -> Option<Spec<Plain>> {
     let value = Value::from_str(alloc, line).ok()?;
-    match command_of(alloc, &value) {
+    match command_of::<Command>(alloc, &value) {
         Ok(Command::Update(specs)) => specs.into_vec().into_iter().next(),
         _ => None,
     }

@@ -5,3 +5,4 @@ pub mod NoFloats
 pub mod Gathered
 pub mod Plains
 pub mod LengthLine
+pub mod Utf8

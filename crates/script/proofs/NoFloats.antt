@@ -10,9 +10,9 @@ use Rattle.selection.specs.declared.range.Range.{Range}
 use Rattle.script.specs.declared.mapped.MappedPlace.{MappedPlace}
 use Rattle.script.specs.declared.mapped.MappedPlace.TheVariants.{NotAsked, Deleted, At}
 use Rattle.script.specs.declared.refusal.Refusal.{Refusal}
-use Rattle.script.specs.declared.refusal.Refusal.TheVariants.{LineTooLong, NotUtf8, NotJson, NotCommand, BadValue, NoSession, BadRange, LengthMismatch, TooLong, NoRanges, BadMain, SelectionOutside, UnknownEffect, UnknownCompartment}
+use Rattle.script.specs.declared.refusal.Refusal.TheVariants.{LineTooLong, NotUtf8, NotJson, NotCommand, BadValue, UnknownName, NameTaken, NoSession, BadRange, LengthMismatch, TooLong, NoRanges, BadMain, SelectionOutside, UnknownEffect, UnknownCompartment, Stale, Ahead}
 use Rattle.script.specs.declared.reply.Answer.{Answer}
-use Rattle.script.specs.declared.reply.Answer.TheVariants.{Length, Text, Selection, Mapped}
+use Rattle.script.specs.declared.reply.Answer.TheVariants.{Length, Text, Selection, Mapped, Version, Message, Client, Authority}
 use Rattle.script.specs.declared.reply.Reply.{Reply}
 use Rattle.script.specs.declared.reply.Reply.TheVariants.{Ok, No}
 use Rattle.script.specs.Replies.{section_data, range_data, with_place, refusal_data, answer_data, reply_data}
@@ -38,6 +38,8 @@ refusal_has_none NotUtf8 = refl
 refusal_has_none NotJson = refl
 refusal_has_none (NotCommand field) = refl
 refusal_has_none (BadValue field) = refl
+refusal_has_none (UnknownName name) = refl
+refusal_has_none (NameTaken name) = refl
 refusal_has_none NoSession = refl
 refusal_has_none (BadRange index from to len) = refl
 refusal_has_none (LengthMismatch want have) = refl
@@ -47,12 +49,18 @@ refusal_has_none (BadMain main count) = refl
 refusal_has_none (SelectionOutside at len) = refl
 refusal_has_none (UnknownEffect id) = refl
 refusal_has_none (UnknownCompartment id) = refl
+refusal_has_none (Stale version) = refl
+refusal_has_none (Ahead from version) = refl
 
 answer_has_none : (answer : Answer) → has_float (answer_data answer) ≡ false
 answer_has_none (Length len) = refl
 answer_has_none (Text text) = refl
 answer_has_none (Selection selection) = ap (λ b. b || false) (ranges_have_none selection.ranges)
 answer_has_none (Mapped m) = mapped_has_none m.place m.set _
+answer_has_none (Version version) = refl
+answer_has_none (Message n) = refl
+answer_has_none (Client pending text version) = refl
+answer_has_none (Authority text version) = refl
 
 -- no reply has one
 pub reply_has_none : (reply : Reply) → has_float (reply_data reply) ≡ false

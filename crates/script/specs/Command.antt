@@ -1,7 +1,7 @@
--- The command of a value: an object with one member, whose name is that of the command and whose value is its argument.
+-- The commands of `replay`, each of a name and an argument.
 use Rattle.std.specs.Prelude.{ℕ, List, [], ◌∷◌, Option, Result, Ok, Err, Bool, true, false, if◌then◌else◌, codes, pos, option_map}
 use Rattle.std.specs.Str.{chars, bytes_eq}
-use Rattle.serde_json.specs.Data.{Data, null, boolean, number, string, array, object, Members, no_members, member}
+use Rattle.serde_json.specs.Data.{Data}
 use Rattle.cm_plain.specs.declared.plain.Plain.{Plain}
 use Rattle.line_tree.specs.Text.{cut}
 use Rattle.change_set.specs.declared.change.Change.{Change}
@@ -173,17 +173,3 @@ command_named name d =
     else (if bytes_eq name (codes "selection") then selection_of d
     else (if bytes_eq name (codes "map") then map_of d
     else Err (NotCommand (chars name))))))
-
-abbrev pub command_of_members : Members → Result Command Refusal
-command_of_members no_members = Err (NotCommand [])
-command_of_members (member name d no_members) = command_named name d
-command_of_members (member name d (member k e ms)) = Err (NotCommand [])
-
--- the command of a value, or the first refusal
-unfoldable pub command_of : Data → Result Command Refusal
-command_of null = Err (NotCommand [])
-command_of (boolean b) = Err (NotCommand [])
-command_of (number n) = Err (NotCommand [])
-command_of (string s) = Err (NotCommand [])
-command_of (array ds) = Err (NotCommand [])
-command_of (object ms) = command_of_members ms

@@ -11,9 +11,9 @@ use Rattle.script.specs.declared.mapped.MappedPlace.{MappedPlace}
 use Rattle.script.specs.declared.mapped.MappedPlace.TheVariants.{NotAsked, Deleted, At}
 use Rattle.script.specs.declared.mapped.MappedParts.{MappedParts}
 use Rattle.script.specs.declared.refusal.Refusal.{Refusal}
-use Rattle.script.specs.declared.refusal.Refusal.TheVariants.{LineTooLong, NotUtf8, NotJson, NotCommand, BadValue, NoSession, BadRange, LengthMismatch, TooLong, NoRanges, BadMain, SelectionOutside, UnknownEffect, UnknownCompartment}
+use Rattle.script.specs.declared.refusal.Refusal.TheVariants.{LineTooLong, NotUtf8, NotJson, NotCommand, BadValue, UnknownName, NameTaken, NoSession, BadRange, LengthMismatch, TooLong, NoRanges, BadMain, SelectionOutside, UnknownEffect, UnknownCompartment, Stale, Ahead}
 use Rattle.script.specs.declared.reply.Answer.{Answer}
-use Rattle.script.specs.declared.reply.Answer.TheVariants.{Length, Text, Selection, Mapped}
+use Rattle.script.specs.declared.reply.Answer.TheVariants.{Length, Text, Selection, Mapped, Version, Message, Client, Authority}
 use Rattle.script.specs.declared.reply.Reply.{Reply}
 use Rattle.script.specs.declared.reply.Reply.TheVariants.{Ok, No}
 
@@ -36,6 +36,8 @@ refusal_data NotUtf8 = coded (codes "NotUtf8") no_members
 refusal_data NotJson = coded (codes "NotJson") no_members
 refusal_data (NotCommand field) = coded (codes "NotCommand") (member (codes "field") (string (encode_utf8_all field)) no_members)
 refusal_data (BadValue field) = coded (codes "BadValue") (member (codes "field") (string (encode_utf8_all field)) no_members)
+refusal_data (UnknownName name) = coded (codes "UnknownName") (member (codes "name") (string (encode_utf8_all name)) no_members)
+refusal_data (NameTaken name) = coded (codes "NameTaken") (member (codes "name") (string (encode_utf8_all name)) no_members)
 refusal_data NoSession = coded (codes "NoSession") no_members
 refusal_data (BadRange index from to len) = coded (codes "BadRange")
     (member (codes "from") (whole from) (member (codes "index") (whole index) (member (codes "len") (whole len) (member (codes "to") (whole to) no_members))))
@@ -46,6 +48,8 @@ refusal_data (BadMain main count) = coded (codes "BadMain") (member (codes "coun
 refusal_data (SelectionOutside at len) = coded (codes "SelectionOutside") (member (codes "len") (whole len) (member (codes "pos") (whole at) no_members))
 refusal_data (UnknownEffect id) = coded (codes "UnknownEffect") (member (codes "id") (whole id) no_members)
 refusal_data (UnknownCompartment id) = coded (codes "UnknownCompartment") (member (codes "id") (whole id) no_members)
+refusal_data (Stale version) = coded (codes "Stale") (member (codes "version") (whole version) no_members)
+refusal_data (Ahead from version) = coded (codes "Ahead") (member (codes "from") (whole from) (member (codes "version") (whole version) no_members))
 
 -- a section of a set of changes: n where n characters are kept, [n, text] where n characters give way to a text
 abbrev pub section_data : Section (List ℕ) → Data
@@ -73,12 +77,25 @@ with_place (At n) ms = member (codes "pos") (whole n) ms
 abbrev pub mapped_data : MappedParts → Data
 mapped_data m = object (with_place m.place (member (codes "sections") (array (sections_data m.set)) (member (codes "text") (string (encode_utf8_all m.text)) no_members)))
 
+-- a client: how many of its updates are not confirmed, its text, and its version
+abbrev pub client_data : (pending : ℕ) → (text : List ℕ) → (version : ℕ) → Data
+client_data pending text version = object
+    (member (codes "pending") (whole pending) (member (codes "text") (string (encode_utf8_all text)) (member (codes "version") (whole version) no_members)))
+
+-- an authority: its text, and its version
+abbrev pub authority_data : (text : List ℕ) → (version : ℕ) → Data
+authority_data text version = object (member (codes "text") (string (encode_utf8_all text)) (member (codes "version") (whole version) no_members))
+
 -- an answer
 abbrev pub answer_data : Answer → Data
 answer_data (Length len) = single (codes "length") (whole len)
 answer_data (Text text) = string (encode_utf8_all text)
 answer_data (Selection selection) = selection_data selection
 answer_data (Mapped mapped) = mapped_data mapped
+answer_data (Version version) = single (codes "version") (whole version)
+answer_data (Message n) = single (codes "message") (whole n)
+answer_data (Client pending text version) = client_data pending text version
+answer_data (Authority text version) = authority_data text version
 
 abbrev pub reply_data : Reply → Data
 reply_data (Ok answer) = single (codes "ok") (answer_data answer)

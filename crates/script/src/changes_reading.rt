@@ -2,7 +2,7 @@ ghost use Rattle.serde_json.specs.View.{view};
 ghost use Rattle.script.specs.Command.{change_of, range_of};
 
 use crate::fields::{
-    members, no_item, only_fields, position, position_or, required_item, required_position,
+    members, no_item, number_member, only_fields, position, position_or, required_item,
     text_or_empty,
 };
 use crate::item::Item;
@@ -18,7 +18,7 @@ impl Item for Change {
     #[tactic(auto, unfolding(crate::specs::Command::change_of))]
     fn read(alloc: Global, name: &str, value: &Value) -> Result<Change, LineError> {
         let members = members(alloc, name, value)?;
-        let from = required_position(alloc, "from", value)?;
+        let from = number_member(alloc, "from", value)?;
         let to = position_or(alloc, "to", value, from)?;
         let insert = text_or_empty(alloc, "insert", value)?;
         only_fields(alloc, &["from", "to", "insert"], members)?;

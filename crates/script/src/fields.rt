@@ -9,8 +9,8 @@ use cm_plain::Str;
 use serde_json::{Map, Value};
 use std::alloc::Global;
 
-/// The refusal of a member.
-pub(crate) fn refused<T>(alloc: Global, name: &str) -> Result<T, LineError>
+/// The refusal of the member of this name. `Err`: it, or out of memory.
+pub fn refused<T>(alloc: Global, name: &str) -> Result<T, LineError>
     ensures { Gives (λ x. x) result (bad name.now) }
 {
     Err(LineError::Refused(Refusal::BadValue {
@@ -18,8 +18,9 @@ pub(crate) fn refused<T>(alloc: Global, name: &str) -> Result<T, LineError>
     }))
 }
 
+/// The value of the member of this name, which has to be there. `Err`: it is missing, or out of memory.
 #[tactic(auto, unfolding(crate::specs::Reading::required))]
-pub(crate) fn required_member<'v>(
+pub fn required_member<'v>(
     alloc: Global,
     name: &str,
     value: &'v Value,
@@ -52,18 +53,19 @@ pub(crate) fn position(alloc: Global, name: &str, value: &Value) -> Result<u32, 
     }
 }
 
-/// The text that the member of this name is, which has to be there.
+/// The text that the member of this name is, which has to be there. `Err`: it is missing or no text, or out of memory.
 #[tactic(auto, unfolding(crate::specs::Reading::text_member))]
-pub(crate) fn text_member(alloc: Global, name: &str, value: &Value) -> Result<Str, LineError>
+pub fn text_member(alloc: Global, name: &str, value: &Value) -> Result<Str, LineError>
     ensures { Gives (λ x. x) result (text_member name.now (view value.now)) }
 {
     let member = required_member(alloc, name, value)?;
     text(alloc, name, member)
 }
 
-/// The position that the member of this name is, which has to be there.
+/// The whole number from 0 that the member of this name is, which has to be there. `Err`: it is missing, or no number that fits
+/// 32 bits, or out of memory.
 #[tactic(auto, unfolding(crate::specs::Reading::number_member))]
-pub(crate) fn required_position(alloc: Global, name: &str, value: &Value) -> Result<u32, LineError>
+pub fn number_member(alloc: Global, name: &str, value: &Value) -> Result<u32, LineError>
     ensures { Gives (λ x. x) result (number_member name.now (view value.now)) }
 {
     let member = required_member(alloc, name, value)?;
@@ -84,8 +86,10 @@ pub(crate) fn items<'v>(
     }
 }
 
+/// The members of a value, which has to be an object. `Err`: it is none, and the member of this name, whose value it is, is
+/// refused; or out of memory.
 #[tactic(auto, unfolding(crate::specs::Reading::members_at))]
-pub(crate) fn members<'v>(
+pub fn members<'v>(
     alloc: Global,
     name: &str,
     value: &'v Value,
@@ -98,9 +102,9 @@ pub(crate) fn members<'v>(
     }
 }
 
-/// Each member's name is among these.
+/// Each member's name is among these. `Err`: the first one in byte order that isn't is refused; or out of memory.
 #[tactic(auto, unfolding(crate::specs::Reading::only))]
-pub(crate) fn only_fields(
+pub fn only_fields(
     alloc: Global,
     names: &[&str],
     members: &Map<String, Value>,
@@ -140,7 +144,9 @@ pub(crate) fn position_or(
     }
 }
 
-pub(crate) fn text_or_empty(alloc: Global, name: &str, value: &Value) -> Result<Str, LineError>
+/// The text that the member of this name is, or the empty one where there is no such member. `Err`: it is no text, or out of
+/// memory.
+pub fn text_or_empty(alloc: Global, name: &str, value: &Value) -> Result<Str, LineError>
     ensures { Gives (λ x. x) result (defaulted name.now text_at [] (view value.now)) }
 {
     match value.get(name) {
@@ -218,11 +224,8 @@ pub(crate) fn position_if_there(
     }
 }
 
-pub(crate) fn text_if_there(
-    alloc: Global,
-    name: &str,
-    value: &Value,
-) -> Result<Option<Str>, LineError>
+/// The text that the member of this name is, if there is such a member. `Err`: it is no text, or out of memory.
+pub fn text_if_there(alloc: Global, name: &str, value: &Value) -> Result<Option<Str>, LineError>
     ensures { Gives (λ x. x) result (optional name.now text_at (view value.now)) }
 {
     match value.get(name) {

@@ -2,22 +2,31 @@ ghost use Rattle.std.specs.Prelude.{ℕ, List, [], Result};
 ghost use Rattle.serde_json.specs.Data.{Data};
 ghost use Rattle.serde_json.specs.View.{view, items_view};
 ghost use Rattle.script.specs.declared.refusal.Refusal.{Refusal};
-ghost use Rattle.script.specs.Reading.{Gives, each, list_of, defaulted, optional};
+ghost use Rattle.script.specs.Reading.{Gives, each, list_of, defaulted, optional, text_at};
 
-use crate::fields::items;
+use crate::fields::{items, text};
 use crate::refusal::LineError;
+use cm_plain::Str;
 use listed::Listed;
 use serde_json::Value;
 use std::alloc::Global;
 
 /// What the items of a list are read as.
-pub(crate) trait Item: Drop {
+pub trait Item: Drop {
     /// What is read from a value, where the member that has the list is of this name.
     ghost item_of: { List ℕ → Data → Result Self Refusal };
 
-    /// The item that a value is.
+    /// The item that a value is. `Err`: it is none, or out of memory.
     fn read(alloc: Global, name: &str, value: &Value) -> Result<Self, LineError>
         ensures { Gives (λ x. x) result (item_of name.now (view value.now)) };
+}
+
+impl Item for Str {
+    ghost item_of = { text_at };
+
+    fn read(alloc: Global, name: &str, value: &Value) -> Result<Str, LineError> {
+        text(alloc, name, value)
+    }
 }
 
 fn read_each<T: Item>(alloc: Global, name: &str, items: &[Value]) -> Result<Vec<T>, LineError>
@@ -30,13 +39,9 @@ fn read_each<T: Item>(alloc: Global, name: &str, items: &[Value]) -> Result<Vec<
     Ok(list)
 }
 
-/// The list that the member of this name is.
+/// The list that a value is, which is the member of this name. `Err`: it is none, or the first item that is none; or out of memory.
 #[tactic(auto, unfolding(crate::specs::Reading::list_of))]
-pub(crate) fn list<T: Item>(
-    alloc: Global,
-    name: &str,
-    value: &Value,
-) -> Result<Listed<T>, LineError>
+pub fn list<T: Item>(alloc: Global, name: &str, value: &Value) -> Result<Listed<T>, LineError>
     ensures { Gives (λ x. x) result (list_of T.item_of name.now (view value.now)) }
 {
     let items = items(alloc, name, value)?;

@@ -10,6 +10,7 @@ mod changes_reading;
 mod command;
 mod fields;
 mod item;
+mod lines;
 mod map_reading;
 mod map_request;
 mod mapped;
@@ -22,10 +23,15 @@ mod start_request;
 mod texts;
 mod value_reading;
 
-pub use command::Command;
+pub use command::{Command, Commands};
+pub use fields::{
+    members, number_member, only_fields, refused, required_member, text_if_there, text_member,
+    text_or_empty,
+};
+pub use item::{Item, list};
+pub use lines::{command_of, line_command};
 pub use map_request::{MapOp, MapParts, MapPlace, MapRequest, MapSets};
 pub use mapped::{Mapped, MappedParts, MappedPlace};
-pub use reading::command_of;
 pub use refusal::{LineError, Refusal};
 pub use reply::{Answer, Reply, reply_text};
 pub use start_request::StartRequest;

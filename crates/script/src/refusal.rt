@@ -27,6 +27,14 @@ pub enum Refusal {
     BadValue {
         field: Str,
     },
+    /// The name isn't one of those that the field takes.
+    UnknownName {
+        name: Str,
+    },
+    /// The name that is to be declared is taken.
+    NameTaken {
+        name: Str,
+    },
     /// The command needs a document, and none was started.
     NoSession,
     /// The change of this index, from 0, has `from` past `to` or `to` past the document's length `len`, in characters.
@@ -67,6 +75,15 @@ pub enum Refusal {
     /// No compartment has this id. It doesn't come: a line has no effects.
     UnknownCompartment {
         id: u32,
+    },
+    /// A client's updates were sent at another version than the authority's, which is given.
+    Stale {
+        version: u32,
+    },
+    /// Updates from this position of the authority's list on came to a client at an earlier version, which is given.
+    Ahead {
+        from: u32,
+        version: u32,
     },
 }
 

@@ -1,8 +1,8 @@
 ghost use Rattle.std.specs.Prelude.{◌≡◌, IfOk, map, codes, string_bytes, encode_utf8_all};
 ghost use Rattle.serde_json.specs.Data.{string, member, no_members};
 ghost use Rattle.serde_json.specs.View.{view};
-ghost use Rattle.script.specs.declared.refusal.Refusal.TheVariants.{BadRange, LengthMismatch, TooLong, BadMain, SelectionOutside};
-ghost use Rattle.script.specs.Replies.{coded, whole, refusal_data, section_data, range_data, selection_data, mapped_data, answer_data, reply_data, reply_text};
+ghost use Rattle.script.specs.declared.refusal.Refusal.TheVariants.{BadRange, LengthMismatch, TooLong, BadMain, SelectionOutside, Stale, Ahead};
+ghost use Rattle.script.specs.Replies.{client_data, authority_data, coded, whole, refusal_data, section_data, range_data, selection_data, mapped_data, answer_data, reply_data, reply_text};
 
 use crate::mapped::{Mapped, MappedParts, MappedPlace};
 use crate::refusal::Refusal;
@@ -25,6 +25,21 @@ pub enum Answer {
     Selection(Selection),
     /// What `map` made.
     Mapped(Mapped),
+    /// How many updates an authority took.
+    Version(u32),
+    /// The number of a message, counted from 0.
+    Message(u32),
+    /// A client: how many of its updates are not confirmed, its text, and how many of the authority's updates it has seen.
+    Client {
+        pending: u64,
+        text: InsertedText,
+        version: u32,
+    },
+    /// An authority: its text, and how many updates it took.
+    Authority {
+        text: InsertedText,
+        version: u32,
+    },
 }
 
 /// What is answered to a line.
@@ -40,6 +55,13 @@ fn code_value(alloc: Global, code: &str) -> Result<Value, AllocError>
     ensures { IfOk result (λ v. view v ≡ coded code.now no_members) }
 {
     json!(in alloc; {"code": code})
+}
+
+fn name_value(alloc: Global, code: &str, name: &Str) -> Result<Value, AllocError>
+    ensures { IfOk result (λ v. view v ≡ coded code.now (member (codes "name") (string (encode_utf8_all name.now)) no_members)) }
+{
+    let name = name.text()?;
+    json!(in alloc; {"code": code, "name": name.as_str()})
 }
 
 fn field_value(alloc: Global, code: &str, field: &Str) -> Result<Value, AllocError>
@@ -91,6 +113,18 @@ fn unknown_value(alloc: Global, code: &str, id: u32) -> Result<Value, AllocError
     json!(in alloc; {"code": code, "id": id})
 }
 
+fn stale_value(alloc: Global, version: u32) -> Result<Value, AllocError>
+    ensures { IfOk result (λ v. view v ≡ refusal_data (Stale version)) }
+{
+    json!(in alloc; {"code": "Stale", "version": version})
+}
+
+fn ahead_value(alloc: Global, from: u32, version: u32) -> Result<Value, AllocError>
+    ensures { IfOk result (λ v. view v ≡ refusal_data (Ahead from version)) }
+{
+    json!(in alloc; {"code": "Ahead", "from": from, "version": version})
+}
+
 fn refusal_value(alloc: Global, refusal: &Refusal) -> Result<Value, AllocError>
     ensures { IfOk result (λ v. view v ≡ refusal_data refusal.now) }
 {
@@ -100,6 +134,8 @@ fn refusal_value(alloc: Global, refusal: &Refusal) -> Result<Value, AllocError>
         Refusal::NotJson => code_value(alloc, "NotJson"),
         Refusal::NotCommand { field } => field_value(alloc, "NotCommand", field),
         Refusal::BadValue { field } => field_value(alloc, "BadValue", field),
+        Refusal::UnknownName { name } => name_value(alloc, "UnknownName", name),
+        Refusal::NameTaken { name } => name_value(alloc, "NameTaken", name),
         Refusal::NoSession => code_value(alloc, "NoSession"),
         Refusal::BadRange {
             index,
@@ -114,6 +150,8 @@ fn refusal_value(alloc: Global, refusal: &Refusal) -> Result<Value, AllocError>
         Refusal::SelectionOutside { pos, len } => outside_value(alloc, *pos, *len),
         Refusal::UnknownEffect { id } => unknown_value(alloc, "UnknownEffect", *id),
         Refusal::UnknownCompartment { id } => unknown_value(alloc, "UnknownCompartment", *id),
+        Refusal::Stale { version } => stale_value(alloc, *version),
+        Refusal::Ahead { from, version } => ahead_value(alloc, *from, *version),
     }
 }
 
@@ -187,6 +225,25 @@ fn mapped_value(alloc: Global, mapped: &MappedParts) -> Result<Value, AllocError
     }
 }
 
+fn client_value(
+    alloc: Global,
+    pending: u64,
+    text: &InsertedText,
+    version: u32,
+) -> Result<Value, AllocError>
+    ensures { IfOk result (λ v. view v ≡ client_data pending text.now version) }
+{
+    let text = text_value(text)?;
+    json!(in alloc; {"pending": pending, "text": text, "version": version})
+}
+
+fn authority_value(alloc: Global, text: &InsertedText, version: u32) -> Result<Value, AllocError>
+    ensures { IfOk result (λ v. view v ≡ authority_data text.now version) }
+{
+    let text = text_value(text)?;
+    json!(in alloc; {"text": text, "version": version})
+}
+
 fn answer_value(alloc: Global, answer: &Answer) -> Result<Value, AllocError>
     ensures { IfOk result (λ v. view v ≡ answer_data answer.now) }
 {
@@ -195,6 +252,14 @@ fn answer_value(alloc: Global, answer: &Answer) -> Result<Value, AllocError>
         Answer::Text(text) => text_value(text),
         Answer::Selection(selection) => selection_value(alloc, selection),
         Answer::Mapped(mapped) => mapped_value(alloc, mapped.parts()),
+        Answer::Version(version) => json!(in alloc; {"version": *version}),
+        Answer::Message(message) => json!(in alloc; {"message": *message}),
+        Answer::Client {
+            pending,
+            text,
+            version,
+        } => client_value(alloc, *pending, text, *version),
+        Answer::Authority { text, version } => authority_value(alloc, text, *version),
     }
 }
 

@@ -1,26 +1,17 @@
 -- What a line does, and the replies to a list of lines.
-use Rattle.std.specs.Prelude.{◌≡◌, refl, ℕ, List, [], ◌∷◌, ◌++◌, length, Option, Some, None, Result, Err, nat_lt, if◌then◌else◌}
-use Rattle.std.specs.Str.{is_utf8}
-use Rattle.cm_outside.specs.Lines.{max_line}
-use Rattle.serde_json.specs.Data.{Data}
-use Rattle.serde_json.specs.Read.{read}
+use Rattle.std.specs.Prelude.{◌≡◌, refl, ℕ, List, [], ◌∷◌, ◌++◌, Option, Result}
 use Rattle.script.specs.declared.refusal.Refusal.{Refusal}
-use Rattle.script.specs.declared.refusal.Refusal.TheVariants.{LineTooLong, NotUtf8, NotJson}
 use Rattle.script.specs.Reading.{◌>>=◌}
-use Rattle.script.specs.Command.{command_of}
+use Rattle.script.specs.Command.{command_named}
+use Rattle.script.specs.Lines.{line_command}
 use Rattle.script.specs.Replies.{reply_text}
 use Rattle.session.specs.State.{PlainState, PlainSession}
 use Rattle.session.specs.declared.outcome.Outcome.{Outcome}
 use Rattle.session.specs.Session.{act, left_by, reply_of}
 
-abbrev pub of_data : Option Data → Option PlainState → Result Outcome Refusal
-of_data None state = Err NotJson
-of_data (Some d) state = command_of d >>= λ command. act command state
-
 -- what a line does, or the first refusal that holds
 unfoldable pub outcome : List ℕ → Option PlainState → Result Outcome Refusal
-outcome line state = if nat_lt max_line (length line) then Err LineTooLong
-    else (if is_utf8 line then of_data (read line) state else Err NotUtf8)
+outcome line state = line_command command_named line >>= λ command. act command state
 
 -- the session after a line
 unfoldable pub after : List ℕ → PlainSession → PlainSession

@@ -9,6 +9,7 @@ ghost use Rattle.session.specs.Headline.{Headline, byte_limit};
 use crate::session::Session;
 use cm_outside::{Sink, Source, Status};
 use cm_plain::Str;
+use collab_run::collab;
 use line_run::run_lines;
 use std::alloc::Global;
 use words::Words;
@@ -35,8 +36,9 @@ pub fn replay<S: Source, K: Sink>(alloc: Global, limit: u64, source: &mut S, sin
 }
 
 /// Does what the words of the command line, without the program's name, ask for. `replay` alone is accepted, and
-/// replays the source with the limit of 4,294,967,296 bytes; then the status is one of those of `replay`. `Usage`
-/// comes exactly where the words aren't accepted, and nothing is read or written then.
+/// replays the source with the limit of 4,294,967,296 bytes; `collab` alone is accepted, and answers each line of the
+/// source as a world of clients and an authority, with the same limit. In both cases the status is one of those of
+/// `replay`. `Usage` comes exactly where the words aren't accepted, and nothing is read or written then.
 pub fn run<S: Source, K: Sink>(alloc: Global, words: &[Str], source: &mut S, sink: &mut K) -> Status
     ensures { Headline (words_of words.now) result (record {
       limit = byte_limit;
@@ -48,6 +50,7 @@ pub fn run<S: Source, K: Sink>(alloc: Global, words: &[Str], source: &mut S, sin
 {
     match Words::of(words) {
         Some(Words::Replay) => replay(alloc, LIMIT, source, sink),
+        Some(Words::Collab) => collab(alloc, LIMIT, source, sink),
         None => Status::Usage,
     }
 }

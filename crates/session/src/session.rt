@@ -56,7 +56,7 @@ impl Session {
     }
 
     /// The reply to a line of more bytes than a line may have, which changes nothing.
-    #[tactic(auto, unfolding(crate::specs::Transcript::after, crate::specs::Transcript::reply, crate::specs::Transcript::outcome))]
+    #[tactic(auto, unfolding(crate::specs::Transcript::after, crate::specs::Transcript::reply, crate::specs::Transcript::outcome, script::specs::Lines::line_command))]
     pub(crate) fn long_line(&self) -> Result<String, AllocError>
         ensures reply { IfOk result (λ r. (line : List ℕ) → max_line < length line → string_bytes r ≡ reply line self.now) }
         ensures after { (line : List ℕ) → max_line < length line → self.now ≡ after line self.now }

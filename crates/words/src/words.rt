@@ -8,6 +8,8 @@ use cm_plain::Str;
 pub enum Words {
     /// `replay`: each line of standard input is answered.
     Replay,
+    /// `collab`: each line of standard input is answered, as a world of clients and an authority.
+    Collab,
 }
 
 impl Words {
@@ -18,6 +20,9 @@ impl Words {
         match words {
             [word] if word.chars() == ['r', 'e', 'p', 'l', 'a', 'y'].as_slice() => {
                 Some(Words::Replay)
+            }
+            [word] if word.chars() == ['c', 'o', 'l', 'l', 'a', 'b'].as_slice() => {
+                Some(Words::Collab)
             }
             _ => None,
         }

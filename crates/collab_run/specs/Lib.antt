@@ -1,0 +1,4 @@
+pub mod Refused
+pub mod Commands
+pub mod Playing
+pub mod Transcript

@@ -1,0 +1,11 @@
+use collab::World;
+use script::Answer;
+
+/// What a line does that isn't refused.
+#[derive(Drop)]
+pub enum Outcome {
+    /// It is answered, and nothing changes.
+    Answered(Answer),
+    /// It is answered, and this world takes the place of the one before.
+    Changed(Answer, World),
+}
