@@ -5,13 +5,16 @@ pub mod Creation
 pub mod Earlier
 pub mod Fitting
 pub mod Growing
-pub mod Kept
+pub mod Grown
+pub mod Held
 pub mod Laws
 pub mod Leaves
 pub mod Nexting
+pub mod Nodes
 pub mod Ordered
 pub mod Places
 pub mod Resolved
 pub mod Rounds
 pub mod Still
 pub mod Unflagged
+pub mod Walking

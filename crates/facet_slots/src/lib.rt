@@ -7,10 +7,31 @@
 //! rule is counted.
 #![tactic(auto)]
 
+mod before;
 mod deps;
+mod draft;
+mod field;
+mod heard;
+mod input_values;
+mod kept;
+mod marks;
+mod next;
+mod order;
 mod outputs;
+mod scene_flags;
+mod setup;
+mod shared_val;
 mod shelf;
+mod step;
+mod transition;
+mod walk;
 
 pub use deps::shown;
+pub use input_values::InputValues;
+pub use kept::Kept;
 pub use outputs::{FacetFound, facet_found, node_outputs};
+pub use setup::{Present, Setup};
+pub use shared_val::SharedVal;
 pub use shelf::Shelf;
+pub use transition::Transition;
+pub use walk::kept_after;
