@@ -15,6 +15,7 @@ pub mod Ordered
 pub mod Places
 pub mod Resolved
 pub mod Rounds
+pub mod Stated
 pub mod Still
 pub mod Unflagged
 pub mod Walking

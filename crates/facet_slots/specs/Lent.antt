@@ -1,6 +1,8 @@
 -- What is lent of a configuration, a field and a transition, and what is kept of a state, as plain data.
 use Rattle.std.specs.Prelude.{ℕ, List, map, option_copied}
 use Rattle.std.specs.Option.{unwrap_or}
+use Rattle.configuration.specs.declared.defs.Defs.{Defs}
+use Rattle.values.specs.declared.val.Val.{Val}
 use Rattle.configuration.specs.declared.facet_def.FacetDef.{FacetDef}
 use Rattle.values.specs.Rules.{Rules}
 use Rattle.facet_slots.specs.declared.before.Before.{Before}
@@ -10,7 +12,7 @@ use Rattle.facet_slots.specs.declared.setup.Setup.{Setup as LentSetup}
 use Rattle.facet_slots.specs.declared.setup.Present.{Present}
 use Rattle.facet_slots.specs.declared.transition.Transition.{Transition as LentTransition}
 use Rattle.facet_slots.specs.declared.transition.Transition.TheVariants as lent
-use Rattle.facet_slots.specs.Setups.{Setup, InputNode, PresentFacet, PresentField, input_node, inputs_at}
+use Rattle.facet_slots.specs.Setups.{Definitions, Setup, InputNode, PresentFacet, PresentField, input_node, inputs_at}
 use Rattle.facet_slots.specs.Scenes.{SceneView, Values}
 use Rattle.facet_slots.specs.Stepping.{State, Transition, Enter, Update, no_setup}
 use Rattle.facet_slots.specs.Keeping.{held, state_of, HasRoom, IsKept}
@@ -18,8 +20,12 @@ use Rattle.facet_slots.specs.Found.{scene_of}
 use Rattle.facet_slots.specs.Flags.{Flags}
 use Rattle.facet_slots.specs.Nexts.{flagged, HasFlagRoom}
 
+-- definitions without what leaves are followed by
+abbrev pub defs_of : Defs Val → Definitions
+defs_of defs = record { facets = defs.facets; fields = defs.fields; node_defs = defs.node_defs }
+
 abbrev pub setup_of : LentSetup → Setup
-setup_of s = record { defs = s.defs.now; config = unwrap_or (option_copied s.config) no_setup.config }
+setup_of s = record { defs = defs_of s.defs.now; config = unwrap_or (option_copied s.config) no_setup.config }
 
 abbrev pub present_of : Present → PresentField
 present_of p = record { def = p.def.now; init = option_copied p.init }

@@ -104,6 +104,20 @@ pub fn scene_again(document: &Text, selection: &Selection) -> Result<Scene, Allo
     })
 }
 
+/// A document with its selection once more. The text is shared. `Err`: out of memory.
+pub fn scene_copy(scene: &Scene) -> Result<Scene, AllocError>
+    ensures { IfOk result (λ copy. scene_of copy ≡ scene_of scene.now) }
+{
+    scene_again(&scene.document, &scene.selection)
+}
+
+/// The new document of a transaction with its new selection. The text is shared. `Err`: out of memory.
+pub fn end_scene(transaction: &TrView) -> Result<Scene, AllocError>
+    ensures { IfOk result (λ scene. scene_of scene ≡ record { document = transaction.now.document; selection = transaction.now.selection }) }
+{
+    scene_again(transaction.document(), transaction.selection())
+}
+
 /// A transaction as a field that listens to these kinds of effects is shown it: of the effects those, in order. Texts are
 /// shared. `Err`: out of memory.
 pub fn heard(alloc: Global, transaction: &TrView, listens: &[u32]) -> Result<TrView, AllocError>
