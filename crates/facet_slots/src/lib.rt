@@ -26,13 +26,4 @@ mod step;
 mod transition;
 mod walk;
 
-pub use deps::shown;
-pub use input_values::InputValues;
-pub use kept::Kept;
-pub use outputs::{FacetFound, facet_found, node_outputs};
-pub use setup::{Present, Setup};
-pub use shared_val::SharedVal;
-pub use shelf::Shelf;
 pub use slots::Slots;
-pub use transition::Transition;
-pub use walk::kept_after;
