@@ -1,6 +1,5 @@
 -- The calls that are due: worked numbers.
 use Rattle.std.specs.Prelude.{◌≡◌, ℕ, List, [], ◌∷◌, Bool, true, false, Some, pos, refl, codes, replicate}
-use Rattle.std.proofs.lemmas.Bool.{ltb-true}
 use Rattle.change_desc.specs.declared.section.Section.{Section}
 use Rattle.change_desc.specs.declared.section.Section.TheVariants as section
 use Rattle.configuration.specs.declared.dependency.Dependency.TheVariants as dependency
@@ -34,8 +33,6 @@ setup compare_input =
                 ∷ replicate 11 (record { combine = 1; compare_input = 1; compare = 1; is_static = false });
             fields = record { create = 2; update = 2; compare = 1; reads = []; listens = [] } ∷ [];
             node_defs = node_def.Compute 1 (dependency.Doc ∷ []) ∷ node_def.Compute 5 (dependency.Facet 0 ∷ []) ∷ node_def.Of (int (pos 7)) ∷ node_def.Field ∷ [];
-            links = record { enabled = []; provided = [] };
-            fits = ltb-true 14 4294967296 refl;
           };
       config =
           record {

@@ -13,7 +13,7 @@ use Rattle.facet_slots.specs.Lawful.{IsLawful}
 use Rattle.facet_slots.specs.Agreement.{Agree}
 use Rattle.facet_slots.specs.Keeping.{IsKept, state_of}
 use Rattle.facet_slots.specs.Flags.{SceneKept, change_of, moved_by}
-use Rattle.facet_slots.proofs.Kept.{settled-at}
+use Rattle.facet_slots.proofs.Held.{settled-at}
 use Rattle.facet_slots.proofs.Unflagged.{IsChange}
 
 module _ (rules : Rules) (transition : Transition) (old_setup : Setup) (old_scene : SceneView) (facets fields : List (Option Val)) (inputs : List (List (List Val))) (kept : IsKept rules old_setup old_scene facets fields inputs)

@@ -7,7 +7,8 @@ use Rattle.values.specs.Rules.{Rules}
 use Rattle.facet_slots.specs.Setups.{Setup, InputNode, PresentFacet, PresentField, facet_at, field_at}
 use Rattle.facet_slots.specs.Scenes.{SceneView}
 use Rattle.facet_slots.specs.Stepping.{State, Enter, empty_state}
-use Rattle.facet_slots.specs.Flags.{SceneFlags, Flags, Change, change_of}
+use Rattle.facet_slots.specs.declared.scene_flags.SceneFlags.{SceneFlags}
+use Rattle.facet_slots.specs.Flags.{Flags, Change, change_of}
 use Rattle.facet_slots.specs.Due.{call_of, calls_of, inputs_due, facet_calls, field_calls, calls_due}
 use Rattle.facet_slots.proofs.Nexting.{one-at-most}
 

@@ -18,7 +18,8 @@ use Rattle.facet_slots.specs.Setups.{InputNode}
 use Rattle.facet_slots.specs.Scenes.{SceneView, IsScene, Values, reads_document, reads_selection, shown}
 use Rattle.facet_slots.specs.FacetValues.{outputs, node_outputs, joined}
 use Rattle.facet_slots.specs.Lawful.{FitsCombiner, FitsIn}
-use Rattle.facet_slots.specs.Flags.{SceneFlags, Flags, any_flagged}
+use Rattle.facet_slots.specs.declared.scene_flags.SceneFlags.{SceneFlags}
+use Rattle.facet_slots.specs.Flags.{Flags, any_flagged}
 use Rattle.facet_slots.specs.Nexts.{kept_outputs, next_from, next_outputs}
 
 All-weaker : {X : Type 0} (P Q : X → Type 0) → ((x : X) → P x → Q x) → (xs : List X) → All P xs → All Q xs

@@ -4,13 +4,12 @@ use Rattle.std.specs.Option.{option_and_then, option_flatten, option_map}
 use Rattle.std.specs.List.{AllByRecursion}
 use Rattle.std.proofs.lemmas.Option.{slice_get_cases}
 use Rattle.std.proofs.lemmas.List.{length-append}
-use Rattle.configuration.specs.declared.defs.Defs.{Defs}
 use Rattle.configuration.specs.declared.facet_def.FacetDef.{FacetDef}
 use Rattle.configuration.specs.declared.field_def.FieldDef.{FieldDef}
 use Rattle.configuration.specs.declared.node_def.NodeDef.{NodeDef}
 use Rattle.configuration.specs.Config.{ConfigView}
 use Rattle.values.specs.declared.val.Val.{Val}
-use Rattle.facet_slots.specs.Setups.{Setup, InputNode, PresentFacet, PresentField, input_node, inputs_at, facet_at, init_of, node_at, field_with, field_at}
+use Rattle.facet_slots.specs.Setups.{Definitions, Setup, InputNode, PresentFacet, PresentField, input_node, inputs_at, facet_at, init_of, node_at, field_with, field_at}
 use Rattle.facet_slots.specs.Agreement.{Extends, IsGrown, NodesAgree, Agree, IsContinued}
 use Rattle.facet_slots.specs.Resolving.{IsFormed}
 
@@ -90,7 +89,7 @@ past-empty [] f le = refl
 past-empty (x ∷ xs) zero le = absurd (omega (arith, le))
 past-empty (x ∷ xs) (suc f) le = past-empty xs f (omega (arith, le))
 
-module _ (old new : Defs Val) (config : ConfigView) (formed : IsFormed (record { defs = old; config = config })) (grown : IsGrown old new) where
+module _ (old new : Definitions) (config : ConfigView) (formed : IsFormed (record { defs = old; config = config })) (grown : IsGrown old new) where
   inputs-stay : (f : ℕ) → inputs_at (record { defs = old; config = config }) f ≡ inputs_at (record { defs = new; config = config }) f
   inputs-stay f = inputs-kept old.node_defs new.node_defs grown.node_defs (get_or config.inputs f []) (formed.inputs_defined f)
 

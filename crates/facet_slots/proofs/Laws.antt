@@ -16,7 +16,7 @@ use Rattle.facet_slots.specs.Settling.{field_value}
 use Rattle.facet_slots.specs.Stepping.{State, Update, heard, next, rule_of, scene_after}
 use Rattle.facet_slots.specs.Order.{AllInputs, IsOrdered, StandsBefore}
 use Rattle.facet_slots.specs.Flags.{Change, any_flagged, flags_of, same_nodes}
-use Rattle.facet_slots.proofs.Kept.{settled-at}
+use Rattle.facet_slots.proofs.Held.{settled-at}
 use Rattle.facet_slots.proofs.Places.{facet-cases}
 use Rattle.facet_slots.proofs.Rounds.{AllNeeds-weaker}
 use Rattle.facet_slots.proofs.Unflagged.{IsChange, KeptUnlessFlagged, facet-agrees, outputs-kept, same-nodes, unflagged-before}

@@ -1,6 +1,5 @@
 -- A field that leaves and comes back: worked examples.
 use Rattle.std.specs.Prelude.{◌≡◌, ℕ, List, [], ◌∷◌, length, Option, None, Some, pos, refl, codes, false}
-use Rattle.std.proofs.lemmas.Bool.{ltb-true}
 use Rattle.configuration.specs.declared.dependency.Dependency.TheVariants as dependency
 use Rattle.configuration.specs.declared.node_def.NodeDef.TheVariants as node_def
 use Rattle.configuration.specs.declared.vertex.Vertex.TheVariants.{Field}
@@ -50,8 +49,6 @@ with_node node =
             facets = [];
             fields = record { create = 3; update = 2; compare = 1; reads = dependency.Doc ∷ []; listens = [] } ∷ [];
             node_defs = node_def.Field ∷ node_def.Init (int (pos 7)) ∷ [];
-            links = record { enabled = []; provided = [] ∷ [] };
-            fits = ltb-true 1 4294967296 refl;
           };
       config = record { base = []; flat = []; inputs = []; fields = node ∷ []; order = Field 0 ∷ []; contents = [] };
     }

@@ -12,7 +12,8 @@ use Rattle.facet_slots.specs.Scenes.{SceneView, IsScene, Values}
 use Rattle.facet_slots.specs.FacetValues.{node_outputs, joined}
 use Rattle.facet_slots.specs.Stepping.{State, Transition, Enter, Update, kept_value}
 use Rattle.facet_slots.specs.Lawful.{FitsCombiner}
-use Rattle.facet_slots.specs.Flags.{SceneFlags, Flags, same_nodes}
+use Rattle.facet_slots.specs.declared.scene_flags.SceneFlags.{SceneFlags}
+use Rattle.facet_slots.specs.Flags.{Flags, same_nodes}
 use Rattle.facet_slots.specs.Due.{call_of, calls_of, field_calls}
 use Rattle.facet_slots.specs.Nexts.{next_outputs, next_changed, next_due, next_count, facet_next_calls, next_calls, IsNextFacet, IsNext}
 use Rattle.facet_slots.proofs.Fitting.{outputs_fit}

@@ -9,7 +9,6 @@ use Rattle.id_lists.specs.Members.{In}
 use Rattle.dep_graph.specs.declared.edge.Edge.{Edge}
 use Rattle.dep_graph.specs.Order.{IsOrder, edge}
 use Rattle.dep_graph.proofs.Members.{in-end, in-more}
-use Rattle.configuration.specs.declared.defs.Defs.{Defs}
 use Rattle.configuration.specs.declared.dependency.Dependency.{Dependency}
 use Rattle.configuration.specs.declared.dependency.Dependency.TheVariants as dependency
 use Rattle.configuration.specs.declared.facet_def.FacetDef.{FacetDef}
@@ -21,7 +20,7 @@ use Rattle.configuration.specs.Pairs.{pair_with, read_pair, reads_of, reads_in, 
 use Rattle.configuration.specs.Vertices.{AreOrdered, vertex_at}
 use Rattle.configuration.proofs.Placing.{numbers-length}
 use Rattle.values.specs.declared.val.Val.{Val}
-use Rattle.facet_slots.specs.Setups.{Setup, PresentFacet, PresentField, input_node, inputs_at, init_of, node_at, field_with, new_facets, order_of, vertex_count}
+use Rattle.facet_slots.specs.Setups.{Definitions, Setup, PresentFacet, PresentField, input_node, inputs_at, init_of, node_at, field_with, new_facets, order_of, vertex_count}
 use Rattle.facet_slots.specs.Order.{AllReads, AllInputs, AllNeeds, StandsBefore, IsVertex, IsOrdered}
 use Rattle.facet_slots.specs.Agreement.{IsGrown}
 use Rattle.facet_slots.specs.Resolving.{IsResolvedOver, IsResolved}
@@ -136,7 +135,7 @@ module _ (P : Vertex → Type 0) (setup : Setup) where
       subst (λ (o : Option FieldDef). MatchOption (option_map {U = PresentField} (λ (d : FieldDef). record { def = d; init = init_of (slice_get setup.defs.node_defs node) }) o) (Unit {0}) (λ field. AllReads P field.def.reads)) at
       (subst (λ (o : Option ℕ). MatchOption (option_and_then (field_with setup f) o) (Unit {0}) (λ field. AllReads P field.def.reads)) there h)
 
-module _ (first : Defs Val) (setup : Setup) (over : IsResolvedOver first setup) (grown : IsGrown first setup.defs) (numbers : List ℕ) (vertices_are : setup.config.order ≡ map (vertex_at (length first.facets)) numbers)
+module _ (first : Definitions) (setup : Setup) (over : IsResolvedOver first setup) (grown : IsGrown first setup.defs) (numbers : List ℕ) (vertices_are : setup.config.order ≡ map (vertex_at (length first.facets)) numbers)
     (is : IsOrder (length first.facets + length first.fields) (pairs first.facets first.fields first.node_defs setup.config.inputs setup.config.fields) numbers) where
   number-at : (i : ℕ) (v : Vertex) → slice_get setup.config.order i ≡ Some v → (n : ℕ) × (slice_get numbers i ≡ Some n) × (vertex_at (length first.facets) n ≡ v)
   number-at i v at =

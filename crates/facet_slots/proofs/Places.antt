@@ -1,6 +1,7 @@
 -- Facets and fields by their ids, and places of an order.
-use Rattle.std.proofs.Common.{◌≡◌, ◌<◌, ◌≤◌, ◌+◌, ℕ, List, Option, None, Some, length, get_or, slice_get, drop, sum_by, All, ◌⊎◌, inl, inr, ap, arith, ⊎_elim}
+use Rattle.std.proofs.Common.{◌≡◌, ◌<◌, ◌≤◌, ◌+◌, ◌-◌, ◌∷◌, ℕ, suc, List, Option, None, Some, length, get_or, slice_get, drop, sum_by, All, ◌⊎◌, inl, inr, ap, arith, ⊎_elim}
 use Rattle.std.specs.Option.{option_and_then, option_flatten, option_map}
+use Rattle.std.specs.List.{range_with_len}
 use Rattle.std.proofs.lemmas.Option.{slice_get_cases, slice_get-get_or}
 use Rattle.std.proofs.lemmas.List.Sums.{sum_by-drop_more}
 use Rattle.configuration.specs.declared.facet_def.FacetDef.{FacetDef}
@@ -34,3 +35,7 @@ here-more xs ys i d e inside = rw e (slice_get-get_or xs i d inside)
 
 pub all-more : {X : Type 0} (P : X → Type 0) (xs ys : List X) (i : ℕ) (d : X) → ys ≡ xs → i < length xs → All P xs → P (get_or ys i d)
 all-more P xs ys i d e inside all = rw e (all i d inside)
+
+-- the numbers from one to an end
+pub range-more : (f end : ℕ) → f < end → range_with_len f (end - f) ≡ f ∷ range_with_len (f + 1) (end - (f + 1))
+range-more f end inside = let e : end - f ≡ suc (end - (f + 1)) = omega (arith, inside) in ap (range_with_len f) e

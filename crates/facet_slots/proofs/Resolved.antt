@@ -5,11 +5,10 @@ use Rattle.std.specs.List.{AllByRecursion, range_with_len}
 use Rattle.std.proofs.lemmas.Option.{slice_get_cases}
 use Rattle.ext_tree.specs.declared.node.Node.{Node}
 use Rattle.ext_tree.specs.Flat.{flat_order}
-use Rattle.configuration.specs.declared.defs.Defs.{Defs}
 use Rattle.configuration.specs.Present.{facet_in, field_in, is_id, inputs_of, node_of_field}
 use Rattle.configuration.proofs.Placing.{numbers-length}
 use Rattle.values.specs.declared.val.Val.{Val}
-use Rattle.facet_slots.specs.Setups.{Setup, node_at}
+use Rattle.facet_slots.specs.Setups.{Definitions, Setup, node_at}
 use Rattle.facet_slots.specs.Resolving.{IsResolvedOver, IsResolved, IsFormed}
 use Rattle.facet_slots.proofs.Growing.{longer, some-same}
 
@@ -61,7 +60,7 @@ all-longer : (m n : ℕ) → m ≤ n → (xs : List ℕ) → AllByRecursion (λ 
 all-longer m n le [] h = tt
 all-longer m n le (x ∷ xs) h = let below = h.0 in (omega (arith, below, le), all-longer m n le xs h.1)
 
-module _ (defs : Defs Val) (setup : Setup) (over : IsResolvedOver defs setup) where
+module _ (defs : Definitions) (setup : Setup) (over : IsResolvedOver defs setup) where
   pub inputs-length : length setup.config.inputs ≡ length defs.facets
   inputs-length = ap (λ (xs : List (List ℕ)). length xs) over.config.inputs_are ∙ numbers-length (λ (facet : ℕ). inputs_of over.tree.nodes facet (flat_order over.tree over.base)) 0 (length defs.facets)
 

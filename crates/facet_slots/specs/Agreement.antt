@@ -1,10 +1,9 @@
 -- Definitions only grow, and what follows for two configurations over them.
 use Rattle.std.specs.Prelude.{◌≡◌, ℕ, List, [], ◌++◌, drop, length, None, Some}
 use Rattle.std.specs.List.{AllByRecursion}
-use Rattle.configuration.specs.declared.defs.Defs.{Defs}
 use Rattle.values.specs.declared.val.Val.{Val}
 use Rattle.values.specs.Views.{TransactionView}
-use Rattle.facet_slots.specs.Setups.{Setup, InputNode, PresentFacet, PresentField, facet_at, field_at}
+use Rattle.facet_slots.specs.Setups.{Definitions, Setup, InputNode, PresentFacet, PresentField, facet_at, field_at}
 use Rattle.facet_slots.specs.Stepping.{Transition, Update}
 
 -- a list that begins with another one
@@ -12,7 +11,7 @@ abbrev pub Extends : {X : Type 0} → (old new : List X) → Type 0
 Extends old new = new ≡ old ++ drop (length old) new
 
 -- Growth: definitions are added after those that there are, so that an id keeps its definition.
-pub record IsGrown (old new : Defs Val) : Type 0 where
+pub record IsGrown (old new : Definitions) : Type 0 where
   pub facets : Extends old.facets new.facets
   pub fields : Extends old.fields new.fields
   pub node_defs : Extends old.node_defs new.node_defs

@@ -10,7 +10,8 @@ use Rattle.values.specs.declared.val.Val.{Val}
 use Rattle.values.specs.Rules.{Rules}
 use Rattle.facet_slots.specs.Setups.{Setup, InputNode, PresentFacet, PresentField, facet_at, field_at, order_of}
 use Rattle.facet_slots.specs.Stepping.{State, Transition, Enter, Update, kept_value}
-use Rattle.facet_slots.specs.Flags.{SceneFlags, Flags, Change, any_flagged, find_node, facet_due, flags_of, change_of}
+use Rattle.facet_slots.specs.declared.scene_flags.SceneFlags.{SceneFlags}
+use Rattle.facet_slots.specs.Flags.{Flags, Change, any_flagged, find_node, facet_due, flags_of, change_of}
 
 -- one call for a computed input
 abbrev pub call_of : Option (NodeDef Val) → ℕ

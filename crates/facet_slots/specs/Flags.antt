@@ -9,16 +9,12 @@ use Rattle.configuration.specs.declared.vertex.Vertex.TheVariants.{Facet, Field}
 use Rattle.configuration.specs.Pairs.{reads_of}
 use Rattle.values.specs.declared.val.Val.{Val}
 use Rattle.values.specs.Rules.{Rules}
+use Rattle.facet_slots.specs.declared.scene_flags.SceneFlags.{SceneFlags}
 use Rattle.facet_slots.specs.Setups.{Setup, InputNode, PresentFacet, PresentField, facet_at, field_at}
 use Rattle.facet_slots.specs.Scenes.{SceneView}
 use Rattle.facet_slots.specs.FacetValues.{node_outputs}
 use Rattle.facet_slots.specs.Settling.{settled}
 use Rattle.facet_slots.specs.Stepping.{State, Transition, Enter, Update, equal_init, after}
-
--- Scene flags: whether the document changed, and whether the selection did.
-pub record SceneFlags : Type 0 where
-  pub document : Bool
-  pub selection : Bool
 
 -- Moved: a transaction moves the document where it changes something, and the selection where it changes something, gives one,
 -- or takes a range away; entering a configuration moves neither.

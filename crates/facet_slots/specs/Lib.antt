@@ -20,3 +20,5 @@ pub mod Flags
 pub mod Due
 pub mod Nexts
 pub mod Found
+pub mod Lent
+pub mod Slotted

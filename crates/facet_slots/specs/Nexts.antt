@@ -13,7 +13,8 @@ use Rattle.facet_slots.specs.Scenes.{SceneView, Values}
 use Rattle.facet_slots.specs.FacetValues.{node_outputs, joined}
 use Rattle.facet_slots.specs.Settling.{field_value}
 use Rattle.facet_slots.specs.Stepping.{State, Transition, rule_of}
-use Rattle.facet_slots.specs.Flags.{SceneFlags, Flags, any_flagged, same_outputs, same_value, same_nodes, field_flag}
+use Rattle.facet_slots.specs.declared.scene_flags.SceneFlags.{SceneFlags}
+use Rattle.facet_slots.specs.Flags.{Flags, any_flagged, same_outputs, same_value, same_nodes, field_flag}
 use Rattle.facet_slots.specs.Due.{call_of, inputs_before, field_calls}
 
 -- what a node gave before

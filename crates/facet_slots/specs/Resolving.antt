@@ -2,16 +2,15 @@
 use Rattle.std.specs.Prelude.{◌≡◌, ◌<◌, ◌≤◌, ℕ, List, [], Some, length, get_or}
 use Rattle.std.specs.List.{AllByRecursion}
 use Rattle.ext_tree.specs.Tree.{Tree}
-use Rattle.configuration.specs.declared.defs.Defs.{Defs}
 use Rattle.configuration.specs.declared.vertex.Vertex.{Vertex}
 use Rattle.configuration.specs.Resolved.{IsConfig}
 use Rattle.values.specs.declared.val.Val.{Val}
-use Rattle.facet_slots.specs.Setups.{Setup, node_at}
+use Rattle.facet_slots.specs.Setups.{Definitions, Setup, node_at}
 use Rattle.facet_slots.specs.Order.{AllNeeds, IsVertex}
 use Rattle.facet_slots.specs.Agreement.{IsGrown}
 
 -- Resolved: over definitions whose nodes are those of a tree, and which name declared facets and fields alone.
-pub record IsResolvedOver (defs : Defs Val) (setup : Setup) : Type 0 where
+pub record IsResolvedOver (defs : Definitions) (setup : Setup) : Type 0 where
   pub tree : Tree
   pub base : List ℕ
   pub config : IsConfig tree defs.facets defs.fields defs.node_defs base setup.config
@@ -20,7 +19,7 @@ pub record IsResolvedOver (defs : Defs Val) (setup : Setup) : Type 0 where
 
 -- the definitions have only grown since
 pub record IsResolved (setup : Setup) : Type 0 where
-  pub defs : Defs Val
+  pub defs : Definitions
   pub over : IsResolvedOver defs setup
   pub grown : IsGrown defs setup.defs
 

@@ -2,7 +2,6 @@
 use Rattle.std.specs.Prelude.{ℕ, ◌+◌, ◌-◌, List, [], ◌++◌, map, length, Option, None, Some, slice_get, get_or}
 use Rattle.std.specs.Option.{option_and_then, option_flatten, option_map}
 use Rattle.std.specs.List.{range_with_len}
-use Rattle.configuration.specs.declared.defs.Defs.{Defs}
 use Rattle.configuration.specs.declared.facet_def.FacetDef.{FacetDef}
 use Rattle.configuration.specs.declared.field_def.FieldDef.{FieldDef}
 use Rattle.configuration.specs.declared.node_def.NodeDef.{NodeDef}
@@ -12,9 +11,15 @@ use Rattle.configuration.specs.declared.vertex.Vertex.TheVariants.{Facet}
 use Rattle.configuration.specs.Config.{ConfigView}
 use Rattle.values.specs.declared.val.Val.{Val}
 
+-- Definitions: of facets, fields and nodes, each at its id.
+pub record Definitions : Type 0 where
+  pub facets : List FacetDef
+  pub fields : List FieldDef
+  pub node_defs : List (NodeDef Val)
+
 -- Setup: a configuration, and the definitions that it stands over. These may have grown since it was resolved.
 pub record Setup : Type 0 where
-  pub defs : Defs Val
+  pub defs : Definitions
   pub config : ConfigView
 
 -- an input node with its definition, none where there is no such node

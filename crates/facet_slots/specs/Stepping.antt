@@ -1,8 +1,7 @@
 -- States, and how a transaction leads from one to the next (Reference Manual, StateField, EditorState.update).
-use Rattle.std.specs.Prelude.{ℕ, List, [], Bool, true, false, cond, eqb, filter, Option, None, Some, refl}
+use Rattle.std.specs.Prelude.{ℕ, List, [], Bool, true, false, cond, eqb, filter, Option, None, Some}
 use Rattle.std.specs.Option.{option_and_then, unwrap_or}
 use Rattle.std.specs.List.{list_any}
-use Rattle.std.proofs.lemmas.Bool.{ltb-true}
 use Rattle.configuration.specs.declared.vertex.Vertex.TheVariants.{Field}
 use Rattle.values.specs.declared.val.Val.{Val}
 use Rattle.values.specs.declared.shown_effect.ShownEffect.{ShownEffect}
@@ -91,7 +90,7 @@ step rules old (Becomes setup) t = next rules (mid rules old setup) setup t
 abbrev pub no_setup : Setup
 no_setup =
     record {
-      defs = record { facets = []; fields = []; node_defs = []; links = record { enabled = []; provided = [] }; fits = ltb-true 0 4294967296 refl };
+      defs = record { facets = []; fields = []; node_defs = [] };
       config = record { base = []; flat = []; inputs = []; fields = []; order = []; contents = [] };
     }
 

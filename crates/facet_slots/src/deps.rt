@@ -5,6 +5,7 @@ ghost use Rattle.facet_slots.specs.Scenes.{IsScene, reads_document, reads_select
 ghost use Rattle.facet_slots.specs.Keeping.{held};
 ghost use Rattle.facet_slots.specs.Found.{scene_of};
 
+use crate::shared_val::SharedVal;
 use crate::shelf::Shelf;
 use configuration::Dependency;
 use line_tree::Text;
@@ -14,11 +15,15 @@ use std::alloc::{AllocError, Global};
 use values::{Deps, Scene, Val};
 
 /// The value at a place, once more.
-fn copy_at(alloc: Global, values: &[Option<Val>], place: u32) -> Result<Option<Val>, AllocError>
+fn copy_at(
+    alloc: Global,
+    values: &[Option<SharedVal>],
+    place: u32,
+) -> Result<Option<Val>, AllocError>
     ensures { IfOk result (λ v. v ≡ option_flatten (slice_get values.now place)) }
 {
     match values.get(place as usize) {
-        Some(Some(value)) => Ok(Some(value.try_copy(alloc)?)),
+        Some(Some(value)) => Ok(Some(value.value().try_copy(alloc)?)),
         _ => Ok(None),
     }
 }

@@ -1,5 +1,6 @@
 // What inputs give, and the value of a facet.
-ghost use Rattle.std.specs.Prelude.{◌≡◌, ◌+◌, ◌≤◌, ◌++◌, ◌∷◌, [], IfOk, OnOk, map, slice_get};
+ghost use Rattle.std.specs.Prelude.{◌≡◌, ◌+◌, ◌≤◌, ◌++◌, ◌∷◌, [], IfOk, OnOk, map, slice_get, All};
+ghost use Rattle.values.specs.Vals.{IsOf};
 ghost use Rattle.values.specs.Whole.{IsWhole};
 ghost use Rattle.facet_slots.specs.Setups.{input_node};
 ghost use Rattle.facet_slots.specs.Scenes.{IsScene, shown as shown_of};
@@ -11,14 +12,15 @@ ghost use Rattle.transaction.specs.Numbers.{IsNumber};
 ghost use Rattle.facet_slots.specs.Found.{facet_of, scene_of};
 
 use crate::deps::shown;
+use crate::input_values::InputValues;
+use crate::shared_val::SharedVal;
 use crate::shelf::Shelf;
 use configuration::{Dependency, FacetDef, NodeDef};
 use listed::Listed;
-use values::Kit;
 use std::alloc::{AllocError, Global};
 use std::sync::ledger::Ledger;
 use steps::Steps;
-use values::{Meanings, Scene, Val};
+use values::{Kit, Meanings, Scene, Val};
 
 /// A list of one value.
 fn one(alloc: Global, value: Val) -> Result<Listed<Val>, AllocError>
@@ -69,8 +71,8 @@ fn computed_list<M: Meanings, L: Ledger>(
     kit.computer_n(rule).call(&deps, calls)
 }
 
-/// The inputs that a node gives its facet. `Err`: out of memory.
-pub fn node_outputs<M: Meanings, L: Ledger>(
+/// The values that a node gives its facet.
+fn node_values<M: Meanings, L: Ledger>(
     alloc: Global,
     kit: &Kit<M>,
     scene: &Scene,
@@ -102,6 +104,27 @@ pub fn node_outputs<M: Meanings, L: Ledger>(
     }
 }
 
+/// The inputs that a node gives its facet. `Err`: out of memory.
+pub fn node_outputs<M: Meanings, L: Ledger>(
+    alloc: Global,
+    kit: &Kit<M>,
+    scene: &Scene,
+    node_defs: &[NodeDef<Val>],
+    node: u32,
+    combiner: u32,
+    shelf: &Shelf,
+    calls: &mut Steps<L>,
+) -> Result<InputValues, AllocError>
+    requires whole { IsWhole M.rules kit.now }
+    requires scene { IsScene (scene_of scene.now) }
+    requires lawful { FitsCombiner M.rules combiner (slice_get node_defs.now node) }
+    ensures value { IfOk result (λ values. values ≡ node_outputs_of M.rules (scene_of scene.now) (held shelf.now.facets.items shelf.now.fields.items) (input_node node_defs.now node)) }
+    ensures cost { calls.new ≤ calls.old + call_of (slice_get node_defs.now node) }
+{
+    let values = node_values(alloc, kit, scene, node_defs, node, combiner, shelf, calls)?;
+    InputValues::new(alloc, values)
+}
+
 /// What each input of a facet gives, in flat order.
 fn all_outputs<M: Meanings, L: Ledger>(
     alloc: Global,
@@ -112,7 +135,7 @@ fn all_outputs<M: Meanings, L: Ledger>(
     nodes: &[u32],
     shelf: &Shelf,
     calls: &mut Steps<L>,
-) -> Result<Listed<Listed<Val>>, AllocError>
+) -> Result<Listed<InputValues>, AllocError>
     requires whole { IsWhole M.rules kit.now }
     requires scene { IsScene (scene_of scene.now) }
     requires lawful { IsLawfulFacet M.rules (facet_of facet.now node_defs.now nodes.now) }
@@ -146,7 +169,7 @@ fn append(alloc: Global, values: &mut Vec<Val>, more: &[Val]) -> Result<(), Allo
 }
 
 /// Lists joined in order.
-pub fn joined(alloc: Global, lists: &[Listed<Val>]) -> Result<Vec<Val>, AllocError>
+fn joined(alloc: Global, lists: &[InputValues]) -> Result<Vec<Val>, AllocError>
     ensures { IfOk result (λ values. values.items ≡ joined_of lists.now) }
 {
     let mut values = Vec::new(alloc);
@@ -156,11 +179,30 @@ pub fn joined(alloc: Global, lists: &[Listed<Val>]) -> Result<Vec<Val>, AllocErr
     Ok(values)
 }
 
+/// What a combiner gives for these inputs, joined in order. `Err`: out of memory.
+pub fn combine<M: Meanings, L: Ledger>(
+    alloc: Global,
+    kit: &Kit<M>,
+    combiner: u32,
+    inputs: &[InputValues],
+    calls: &mut Steps<L>,
+) -> Result<SharedVal, AllocError>
+    requires whole { IsWhole M.rules kit.now }
+    requires number { IsNumber M.rules.combiners combiner }
+    requires fits { All (IsOf (M.rules.combine_input combiner)) (joined_of inputs.now) }
+    ensures value { IfOk result (λ v. v ≡ M.rules.combine combiner (joined_of inputs.now)) }
+    ensures cost { calls.new ≤ calls.old + 1 }
+{
+    let values = joined(alloc, inputs)?;
+    let value = kit.combiner(combiner).call(&values, calls)?;
+    SharedVal::new(alloc, value)
+}
+
 /// The value of a facet, and what each of its inputs gave, in flat order.
 #[derive(Drop)]
 pub struct FacetFound {
-    pub inputs: Listed<Listed<Val>>,
-    pub value: Val,
+    pub inputs: Listed<InputValues>,
+    pub value: SharedVal,
 }
 
 /// A facet found anew from these input nodes. `Err`: out of memory.
@@ -182,7 +224,6 @@ pub fn facet_found<M: Meanings, L: Ledger>(
     ensures cost { calls.new ≤ calls.old + (calls_of (map (input_node node_defs.now) nodes.now) + 1) }
 {
     let inputs = all_outputs(alloc, kit, scene, facet, node_defs, nodes, shelf, calls)?;
-    let values = joined(alloc, inputs.as_slice())?;
-    let value = kit.combiner(facet.combine).call(&values, calls)?;
+    let value = combine(alloc, kit, facet.combine, inputs.as_slice(), calls)?;
     Ok(FacetFound { inputs, value })
 }

@@ -5,7 +5,7 @@ use Rattle.std.proofs.Common.{map}
 use Rattle.facet_slots.specs.Found.{scene_of}
 use Rattle.facet_slots.proofs.outputs.facet_found.Goals as goal
 
-pub call-requires-clause-fits : goal.call-requires-clause-fits
-call-requires-clause-fits g c =
-    rw (c.deref.ensures.value, c.in_ok-values.ensures, c.as_slice.ensures, c.in_ok-inputs.ensures.value, c.combiner.ensures.number)
+pub combine-requires-clause-fits : goal.combine-requires-clause-fits
+combine-requires-clause-fits g c =
+    rw (c.as_slice.ensures, c.in_ok-inputs.ensures.value)
     (joined_fit g.M.Meanings.rules g.met.M.Meanings.lawful c.args.facet.now.combine (scene_of c.args.scene.now) c.requires.scene (held c.args.shelf.now.facets.items c.args.shelf.now.fields.items) (map (input_node c.args.node_defs.now) c.args.nodes.now) c.requires.lawful.inputs)

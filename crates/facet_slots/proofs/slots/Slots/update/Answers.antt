@@ -1,0 +1,81 @@
+use Rattle.std.proofs.Common.{◌≡◌, ◌≤◌, ◌+◌, ◌∙◌, ap, length, subst, sym}
+use Rattle.facet_slots.specs.Setups.{Setup}
+use Rattle.facet_slots.specs.Scenes.{IsScene}
+use Rattle.facet_slots.specs.Stepping.{after, Enter, Update}
+use Rattle.facet_slots.specs.Making.{IsMade}
+use Rattle.facet_slots.specs.Order.{IsOrdered}
+use Rattle.facet_slots.specs.Agreement.{Follows, IsGrown}
+use Rattle.facet_slots.specs.Lawful.{IsLawful}
+use Rattle.facet_slots.specs.Keeping.{state_of, IsKept}
+use Rattle.facet_slots.specs.Due.{transition_calls}
+use Rattle.facet_slots.specs.Found.{scene_of}
+use Rattle.facet_slots.specs.Lent.{defs_of, scene_in, setup_of}
+use Rattle.facet_slots.specs.Slotted.{Slotted, AreSlots, plain}
+use Rattle.facet_slots.proofs.Grown.{enter-follows, resolved-grown, update-follows}
+use Rattle.facet_slots.proofs.Ordered.{resolved-ordered}
+use Rattle.facet_slots.proofs.Resolved.{resolved-formed}
+use Rattle.facet_slots.proofs.Stated.{after-is, calls-are, record_setup}
+use Rattle.facet_slots.proofs.Still.{scene-is}
+use Rattle.configuration.specs.Config.{ConfigView}
+use Rattle.facet_slots.proofs.slots.Slots.update.Goals as goal
+
+pub kept_after-requires-clause-is_scene : goal.kept_after-requires-clause-is_scene
+kept_after-requires-clause-is_scene g c =
+    subst IsScene (sym c.in_ok-scene.ensures) (scene-is (scene_in c.self.inside.kept) c.self.invariant.is_scene c.args.transaction.now (subst (λ (v : Slotted). IsMade v.scene c.args.transaction.now) (sym c.self.view_is) c.requires.made) c.requires.selection)
+
+pub kept_after-requires-clause-scene : goal.kept_after-requires-clause-scene
+kept_after-requires-clause-scene g c =
+    c.in_ok-scene.ensures
+
+pub kept_after-requires-clause-made : goal.kept_after-requires-clause-made
+kept_after-requires-clause-made g c =
+    (subst (λ (v : Slotted). IsMade v.scene c.args.transaction.now) (sym c.self.view_is) c.requires.made)
+
+pub kept_after-requires-clause-placed : goal.kept_after-requires-clause-placed
+kept_after-requires-clause-placed g c =
+    let grown : IsGrown (defs_of c.self.inside.defs.value) (defs_of c.args.defs.value) = subst (λ (v : Slotted). IsGrown v.setup.defs (defs_of c.args.defs.value)) (sym c.self.view_is) c.requires.grown in
+    subst (λ (s : Setup). length s.config.inputs ≤ length s.defs.facets) (sym (c.lent-2.ensures ∙ ap (λ (k : ConfigView). record_setup (defs_of c.args.defs.value) k) c.in_ok-config.ensures)) (resolved-formed (record { defs = (defs_of c.args.defs.value); config = c.self.inside.config.value }) (resolved-grown (record { defs = (defs_of c.self.inside.defs.value); config = c.self.inside.config.value }) (defs_of c.args.defs.value) c.self.invariant.resolved grown)).inputs
+
+pub kept_after-requires-clause-ordered : goal.kept_after-requires-clause-ordered
+kept_after-requires-clause-ordered g c =
+    let grown : IsGrown (defs_of c.self.inside.defs.value) (defs_of c.args.defs.value) = subst (λ (v : Slotted). IsGrown v.setup.defs (defs_of c.args.defs.value)) (sym c.self.view_is) c.requires.grown in
+    subst IsOrdered (sym (c.lent-2.ensures ∙ ap (λ (k : ConfigView). record_setup (defs_of c.args.defs.value) k) c.in_ok-config.ensures)) (resolved-ordered (record { defs = (defs_of c.args.defs.value); config = c.self.inside.config.value }) (resolved-grown (record { defs = (defs_of c.self.inside.defs.value); config = c.self.inside.config.value }) (defs_of c.args.defs.value) c.self.invariant.resolved grown))
+
+pub kept_after-requires-clause-old_lawful : goal.kept_after-requires-clause-old_lawful
+kept_after-requires-clause-old_lawful g c =
+    subst (IsLawful g.M.Meanings.rules) (sym c.lent.ensures) c.self.invariant.lawful
+
+pub kept_after-requires-clause-lawful : goal.kept_after-requires-clause-lawful
+kept_after-requires-clause-lawful g c =
+    subst (IsLawful g.M.Meanings.rules) (sym (c.lent-2.ensures ∙ ap (λ (k : ConfigView). record_setup (defs_of c.args.defs.value) k) c.in_ok-config.ensures)) (subst (λ (v : Slotted). IsLawful g.M.Meanings.rules (record { defs = (defs_of c.args.defs.value); config = v.setup.config })) (sym c.self.view_is) c.requires.lawful)
+
+pub kept_after-requires-clause-follows : goal.kept_after-requires-clause-follows
+kept_after-requires-clause-follows g c =
+    let grown : IsGrown (defs_of c.self.inside.defs.value) (defs_of c.args.defs.value) = subst (λ (v : Slotted). IsGrown v.setup.defs (defs_of c.args.defs.value)) (sym c.self.view_is) c.requires.grown in
+    subst (λ (s : Setup). Follows (Update c.args.transaction.now) (setup_of c.lent.result) s) (sym (c.lent-2.ensures ∙ ap (λ (k : ConfigView). record_setup (defs_of c.args.defs.value) k) c.in_ok-config.ensures)) (subst (λ (s : Setup). Follows (Update c.args.transaction.now) s (record { defs = (defs_of c.args.defs.value); config = c.self.inside.config.value })) (sym c.lent.ensures) (update-follows c.args.transaction.now (record { defs = (defs_of c.self.inside.defs.value); config = c.self.inside.config.value }) (defs_of c.args.defs.value) c.self.invariant.resolved grown))
+
+pub kept_after-requires-clause-kept : goal.kept_after-requires-clause-kept
+kept_after-requires-clause-kept g c =
+    subst (λ (s : Setup). IsKept g.M.Meanings.rules s (scene_in c.self.inside.kept) c.self.inside.kept.shelf.facets.items c.self.inside.kept.shelf.fields.items c.self.inside.kept.inputs.items) (sym c.lent.ensures) c.self.invariant.kept
+
+pub invariant_of-result : goal.invariant_of-result
+invariant_of-result g c =
+    let grown : IsGrown (defs_of c.self.inside.defs.value) (defs_of c.args.defs.value) = subst (λ (v : Slotted). IsGrown v.setup.defs (defs_of c.args.defs.value)) (sym c.self.view_is) c.requires.grown in
+    subst (λ (k : ConfigView). AreSlots g.M.Meanings.rules (record_setup (defs_of c.args.defs.value) k) (scene_in c.in_ok-kept.kept) c.in_ok-kept.kept.shelf.facets.items c.in_ok-kept.kept.shelf.fields.items c.in_ok-kept.kept.inputs.items) (sym c.in_ok-config.ensures)
+    (record { resolved = (resolved-grown (record { defs = (defs_of c.self.inside.defs.value); config = c.self.inside.config.value }) (defs_of c.args.defs.value) c.self.invariant.resolved grown); lawful = (subst (λ (v : Slotted). IsLawful g.M.Meanings.rules (record { defs = (defs_of c.args.defs.value); config = v.setup.config })) (sym c.self.view_is) c.requires.lawful); is_scene = subst IsScene (sym (c.in_ok-kept.ensures.scene ∙ c.in_ok-scene.ensures)) (scene-is (scene_in c.self.inside.kept) c.self.invariant.is_scene c.args.transaction.now (subst (λ (v : Slotted). IsMade v.scene c.args.transaction.now) (sym c.self.view_is) c.requires.made) c.requires.selection); kept = subst (λ (s : Setup). IsKept g.M.Meanings.rules s (scene_in c.in_ok-kept.kept) c.in_ok-kept.kept.shelf.facets.items c.in_ok-kept.kept.shelf.fields.items c.in_ok-kept.kept.inputs.items) (c.lent-2.ensures ∙ ap (λ (k : ConfigView). record_setup (defs_of c.args.defs.value) k) c.in_ok-config.ensures) c.in_ok-kept.ensures.kept })
+
+pub returns-clause-state : goal.returns-clause-state
+returns-clause-state g c =
+    subst (λ (k : ConfigView). state_of (record_setup (defs_of c.args.defs.value) k) (scene_in c.in_ok-kept.kept) c.in_ok-kept.kept.shelf.facets.items c.in_ok-kept.kept.shelf.fields.items ≡ after g.M.Meanings.rules (Update c.args.transaction.now) (plain c.args.self.now) (record { defs = (defs_of c.args.defs.value); config = c.args.self.now.setup.config })) (sym c.in_ok-config.ensures)
+    (subst (λ (v : Slotted). state_of (record { defs = (defs_of c.args.defs.value); config = c.self.inside.config.value }) (scene_in c.in_ok-kept.kept) c.in_ok-kept.kept.shelf.facets.items c.in_ok-kept.kept.shelf.fields.items ≡ after g.M.Meanings.rules (Update c.args.transaction.now) (plain v) (record { defs = (defs_of c.args.defs.value); config = v.setup.config })) c.self.view_is
+    (after-is g.M.Meanings.rules (Update c.args.transaction.now) (record { setup = record { defs = (defs_of c.self.inside.defs.value); config = c.self.inside.config.value }; scene = scene_in c.self.inside.kept; facets = c.self.inside.kept.shelf.facets.items; fields = c.self.inside.kept.shelf.fields.items }) (setup_of c.lent.result) (record { defs = (defs_of c.args.defs.value); config = c.self.inside.config.value }) (setup_of c.lent-2.result) c.lent.ensures (c.lent-2.ensures ∙ ap (λ (k : ConfigView). record_setup (defs_of c.args.defs.value) k) c.in_ok-config.ensures) (scene_of c.in_ok-scene.scene) (scene_in c.in_ok-kept.kept) c.in_ok-kept.kept.shelf.facets.items c.in_ok-kept.kept.shelf.fields.items c.in_ok-scene.ensures c.in_ok-kept.ensures.scene c.in_ok-kept.ensures.values))
+
+pub returns-in_err-kept-clause-cost : goal.returns-in_err-kept-clause-cost
+returns-in_err-kept-clause-cost g c =
+    subst (λ (v : Slotted). c.kept_after.new.calls ≤ c.args.calls.now + transition_calls g.M.Meanings.rules (Update c.args.transaction.now) (plain v) (record { defs = (defs_of c.args.defs.value); config = v.setup.config })) c.self.view_is
+    (calls-are g.M.Meanings.rules (Update c.args.transaction.now) (record { setup = record { defs = (defs_of c.self.inside.defs.value); config = c.self.inside.config.value }; scene = scene_in c.self.inside.kept; facets = c.self.inside.kept.shelf.facets.items; fields = c.self.inside.kept.shelf.fields.items }) (setup_of c.lent.result) (record { defs = (defs_of c.args.defs.value); config = c.self.inside.config.value }) (setup_of c.lent-2.result) c.lent.ensures (c.lent-2.ensures ∙ ap (λ (k : ConfigView). record_setup (defs_of c.args.defs.value) k) c.in_ok-config.ensures) c.args.calls.now c.kept_after.new.calls c.kept_after.ensures.cost)
+
+pub returns-clause-cost : goal.returns-clause-cost
+returns-clause-cost g c =
+    subst (λ (v : Slotted). c.kept_after.new.calls ≤ c.args.calls.now + transition_calls g.M.Meanings.rules (Update c.args.transaction.now) (plain v) (record { defs = (defs_of c.args.defs.value); config = v.setup.config })) c.self.view_is
+    (calls-are g.M.Meanings.rules (Update c.args.transaction.now) (record { setup = record { defs = (defs_of c.self.inside.defs.value); config = c.self.inside.config.value }; scene = scene_in c.self.inside.kept; facets = c.self.inside.kept.shelf.facets.items; fields = c.self.inside.kept.shelf.fields.items }) (setup_of c.lent.result) (record { defs = (defs_of c.args.defs.value); config = c.self.inside.config.value }) (setup_of c.lent-2.result) c.lent.ensures (c.lent-2.ensures ∙ ap (λ (k : ConfigView). record_setup (defs_of c.args.defs.value) k) c.in_ok-config.ensures) c.args.calls.now c.kept_after.new.calls c.kept_after.ensures.cost)

@@ -1,0 +1,12 @@
+use crate::input_values::InputValues;
+use crate::shelf::Shelf;
+use listed::Listed;
+use values::Scene;
+
+/// A document with its selection, the values of a state, and of each facet what each input gave, in flat order.
+#[derive(Drop)]
+pub struct Kept {
+    pub scene: Scene,
+    pub shelf: Shelf,
+    pub inputs: Vec<Listed<InputValues>>,
+}

@@ -1,0 +1,51 @@
+ghost use Rattle.std.specs.Prelude.{◌≡◌, IfOk};
+
+use std::alloc::{AllocError, Global};
+use std::marker::Model;
+use std::rc::Rc;
+use values::Val;
+
+/// A value that states share. Contracts see it as the value.
+#[derive(Drop)]
+pub struct SharedVal {
+    value: Rc<Val>,
+}
+
+impl Model for SharedVal {
+    ghost use Rattle.std.specs.Coded.{codes};
+    ghost use Rattle.cm_plain.specs.Datum.{coded_datum};
+    ghost use Rattle.values.specs.declared.val.Val.{Val};
+
+    ghost Value = { Val };
+
+    ghost coded = { Prim.hlevel (codes, coded_datum) };
+
+    ghost view = { λ s. s.value.value };
+}
+
+impl SharedVal {
+    /// This value, to be shared. `Err`: out of memory.
+    pub fn new(alloc: Global, value: Val) -> Result<SharedVal, AllocError>
+        ensures { IfOk result (λ shared. shared ≡ value) }
+    {
+        match Rc::new(alloc, value) {
+            Ok(value) => Ok(SharedVal { value }),
+            Err(_) => Err(AllocError),
+        }
+    }
+
+    /// The value. Takes no memory.
+    pub fn value(&self) -> &Val
+        ensures { result.now ≡ self.now }
+    {
+        &self.value
+    }
+
+    /// The same value once more, without a copy of it. `Err`: no further owner can be counted.
+    pub fn share(&self) -> Result<SharedVal, AllocError>
+        ensures { IfOk result (λ shared. shared ≡ self.now) }
+    {
+        let value = self.value.clone()?;
+        Ok(SharedVal { value })
+    }
+}

@@ -1,0 +1,169 @@
+// The slots of a state, which keep what is found.
+ghost use Rattle.std.specs.Prelude.{◌≡◌, IfOk};
+ghost use Rattle.facet_slots.specs.Lent.{defs_of, setup_of};
+
+use crate::heard::{end_scene, scene_copy};
+use crate::kept::Kept;
+use crate::setup::Setup;
+use crate::transition::Transition;
+use crate::walk::kept_after;
+use configuration::{Config, Defs, Vertex};
+use std::alloc::{AllocError, Global};
+use std::marker::{Model, PhantomData};
+use std::rc::Rc;
+use std::sync::ledger::Ledger;
+use steps::Steps;
+use values::{Kit, Meanings, TrView, Val};
+
+/// The values of the facets and fields of a configuration in one state, with the document, its selection and what each input
+/// gave. Contracts see the configuration over its definitions, the document as its characters, and the values by id.
+#[derive(Drop)]
+pub struct Slots<M: Meanings> {
+    defs: Rc<Defs<Val>>,
+    config: Rc<Config>,
+    kept: Kept,
+    meanings: PhantomData<M>,
+}
+
+impl<M: Meanings> Model for Slots<M> {
+    ghost use Rattle.std.specs.Coded.{codes};
+    ghost use Rattle.cm_plain.specs.Datum.{coded_datum};
+    ghost use Rattle.facet_slots.specs.Lent.{defs_of, scene_in};
+    ghost use Rattle.facet_slots.specs.Slotted.{Slotted, AreSlots};
+
+    ghost Value = { Slotted };
+
+    ghost coded = { Prim.hlevel (codes, coded_datum) };
+
+    ghost view = { λ s. record { setup = record { defs = defs_of s.defs.value; config = s.config.value }; scene = scene_in s.kept; facets = s.kept.shelf.facets.items; fields = s.kept.shelf.fields.items } };
+
+    ghost invariant = { λ s. AreSlots M.rules (record { defs = defs_of s.defs.value; config = s.config.value }) (scene_in s.kept) s.kept.shelf.facets.items s.kept.shelf.fields.items s.kept.inputs.items };
+}
+
+/// A configuration over its definitions, lent.
+fn lent<'a>(defs: &'a Rc<Defs<Val>>, config: &'a Rc<Config>) -> Setup<'a>
+    ensures { setup_of result ≡ record { defs = defs_of defs.entry.now.value; config = config.entry.now.value } }
+{
+    Setup {
+        defs,
+        config: Some(config),
+    }
+}
+
+/// The same configuration once more, without a copy of it. `Err`: no further owner can be counted.
+fn share_config(config: &Rc<Config>) -> Result<Rc<Config>, AllocError>
+    ensures { IfOk result (λ copy. copy.value ≡ config.now.value) }
+{
+    let copy = config.clone()?;
+    Ok(copy)
+}
+
+impl<M: Meanings> Slots<M> {
+    ghost use Rattle.std.specs.Prelude.{◌≡◌, ◌<◌, ◌+◌, ◌≤◌, length, option_copied, IfOk, Some};
+    ghost use Rattle.selection.specs.Selections.{IsSelection};
+    ghost use Rattle.values.specs.Whole.{IsWhole};
+    ghost use Rattle.facet_slots.specs.Stepping.{Enter, Update, mid, next};
+    ghost use Rattle.facet_slots.specs.Making.{IsMade};
+    ghost use Rattle.facet_slots.specs.Agreement.{IsGrown};
+    ghost use Rattle.facet_slots.specs.Resolving.{IsResolved};
+    ghost use Rattle.facet_slots.specs.Lawful.{IsLawful};
+    ghost use Rattle.facet_slots.specs.Due.{transition_calls};
+    ghost use Rattle.facet_slots.specs.Lent.{defs_of};
+    ghost use Rattle.facet_slots.specs.Slotted.{plain};
+
+    /// The slots of the mid state: the fields enter another configuration, over the same document and selection. A field that
+    /// was present with an equal first value, or with none then and now, keeps its value; another one is created. Only rules
+    /// that are due are called. `Err`: out of memory.
+    pub fn reconfigure<L: Ledger>(
+        &self,
+        alloc: Global,
+        kit: &Kit<M>,
+        defs: Rc<Defs<Val>>,
+        config: Rc<Config>,
+        calls: &mut Steps<L>,
+    ) -> Result<Self, AllocError>
+        requires whole { IsWhole M.rules kit.now }
+        requires resolved { IsResolved (record { defs = defs_of defs.value; config = config.value }) }
+        requires lawful { IsLawful M.rules (record { defs = defs_of defs.value; config = config.value }) }
+        requires grown { IsGrown self.now.setup.defs (defs_of defs.value) }
+        ensures state { IfOk result (λ s. plain s ≡ mid M.rules (plain self.now) (record { defs = defs_of defs.value; config = config.value })) }
+        ensures cost { calls.new ≤ calls.old + transition_calls M.rules Enter (plain self.now) (record { defs = defs_of defs.value; config = config.value }) }
+    {
+        let scene = scene_copy(&self.kept.scene)?;
+        let kept = kept_after(
+            alloc,
+            kit,
+            &Transition::Enter,
+            &lent(&self.defs, &self.config),
+            &self.kept,
+            &lent(&defs, &config),
+            scene,
+            calls,
+        )?;
+        Ok(Slots {
+            defs,
+            config,
+            kept,
+            meanings: PhantomData,
+        })
+    }
+
+    /// The slots after a transaction, in the configuration as it stands: each field has its updater's answer on its old value.
+    /// Only rules that are due are called. `Err`: out of memory.
+    pub fn update<L: Ledger>(
+        &self,
+        alloc: Global,
+        kit: &Kit<M>,
+        defs: Rc<Defs<Val>>,
+        transaction: &TrView,
+        calls: &mut Steps<L>,
+    ) -> Result<Self, AllocError>
+        requires whole { IsWhole M.rules kit.now }
+        requires lawful { IsLawful M.rules (record { defs = defs_of defs.value; config = self.now.setup.config }) }
+        requires grown { IsGrown self.now.setup.defs (defs_of defs.value) }
+        requires made { IsMade self.now.scene transaction.now }
+        requires selection { IsSelection transaction.now.selection }
+        ensures state { IfOk result (λ s. plain s ≡ next M.rules (plain self.now) (record { defs = defs_of defs.value; config = self.now.setup.config }) transaction.now) }
+        ensures cost { calls.new ≤ calls.old + transition_calls M.rules (Update transaction.now) (plain self.now) (record { defs = defs_of defs.value; config = self.now.setup.config }) }
+    {
+        let config = share_config(&self.config)?;
+        let scene = end_scene(transaction)?;
+        let kept = kept_after(
+            alloc,
+            kit,
+            &Transition::Update(transaction),
+            &lent(&self.defs, &self.config),
+            &self.kept,
+            &lent(&defs, &config),
+            scene,
+            calls,
+        )?;
+        Ok(Slots {
+            defs,
+            config,
+            kept,
+            meanings: PhantomData,
+        })
+    }
+
+    /// The value of a facet that is declared. Takes no memory.
+    pub fn value(&self, facet: u32) -> &Val
+        requires { facet < length self.now.setup.defs.facets }
+        ensures { (plain self.now).values (Vertex.Facet facet) ≡ Some result.now }
+    {
+        match &self.kept.shelf.facets[facet as usize] {
+            Some(value) => value.value(),
+            None => unreachable!(),
+        }
+    }
+
+    /// The value of a field, none where it is absent. Takes no memory.
+    pub fn field(&self, field: u32) -> Option<&Val>
+        ensures { option_copied result ≡ (plain self.now).values (Vertex.Field field) }
+    {
+        match self.kept.shelf.fields.get(field as usize) {
+            Some(Some(value)) => Some(value.value()),
+            _ => None,
+        }
+    }
+}

@@ -1,0 +1,232 @@
+// A transition that calls no rule that isn't due.
+ghost use Rattle.std.specs.Prelude.{◌≡◌, ◌+◌, ◌≤◌, IfOk, length};
+ghost use Rattle.values.specs.Whole.{IsWhole};
+ghost use Rattle.facet_slots.specs.Scenes.{IsScene};
+ghost use Rattle.facet_slots.specs.Settling.{values_of};
+ghost use Rattle.facet_slots.specs.Stepping.{rule_of, scene_after};
+ghost use Rattle.facet_slots.specs.Making.{IsMadeIn};
+ghost use Rattle.facet_slots.specs.Order.{IsOrdered, IsVertex};
+ghost use Rattle.facet_slots.specs.Agreement.{Follows};
+ghost use Rattle.facet_slots.specs.Lawful.{IsLawful};
+ghost use Rattle.facet_slots.specs.Keeping.{held_inputs, inputs_put, HasRoom, Puts};
+ghost use Rattle.facet_slots.specs.Flags.{moved_by};
+ghost use Rattle.facet_slots.specs.Due.{transition_calls};
+ghost use Rattle.facet_slots.specs.Nexts.{next_calls, HasFlagRoom, IsNext};
+ghost use Rattle.facet_slots.specs.Lent.{flags_in, scene_in, setup_of, state_in, transition_of, values_in, HasFlagRoomIn, HasRoomIn, IsKeptIn};
+ghost use Rattle.facet_slots.specs.Found.{scene_of};
+
+use crate::draft::Draft;
+use crate::input_values::InputValues;
+use crate::kept::Kept;
+use crate::marks::Marks;
+use crate::next::Next;
+use crate::order::order;
+use crate::scene_flags::SceneFlags;
+use crate::setup::Setup;
+use crate::shared_val::SharedVal;
+use crate::shelf::Shelf;
+use crate::step::{step_facet, step_field};
+use crate::transition::Transition;
+use configuration::Vertex;
+use listed::Listed;
+use std::alloc::{AllocError, Global};
+use std::sync::ledger::Ledger;
+use steps::Steps;
+use values::{Kit, Meanings, Scene};
+
+fn no_values(alloc: Global, count: usize) -> Result<Vec<Option<SharedVal>>, AllocError>
+    ensures { IfOk result (λ values. length values.items ≡ count) }
+{
+    let mut values = Vec::new(alloc);
+    for _place in 0..count {
+        values.push(None)?;
+    }
+    Ok(values)
+}
+
+fn no_inputs(alloc: Global, count: usize) -> Result<Vec<Listed<InputValues>>, AllocError>
+    ensures { IfOk result (λ inputs. length inputs.items ≡ count) }
+{
+    let mut inputs = Vec::new(alloc);
+    for _place in 0..count {
+        inputs.push(Listed::empty(alloc))?;
+    }
+    Ok(inputs)
+}
+
+fn no_flags(alloc: Global, count: usize) -> Result<Vec<bool>, AllocError>
+    ensures { IfOk result (λ flags. length flags.items ≡ count) }
+{
+    let mut flags = Vec::new(alloc);
+    for _place in 0..count {
+        flags.push(false)?;
+    }
+    Ok(flags)
+}
+
+/// Places for the values of a configuration.
+fn empty_shelf(alloc: Global, setup: &Setup) -> Result<Shelf, AllocError>
+    ensures facets { IfOk result (λ shelf. length shelf.facets.items ≡ length (setup_of setup.now).defs.facets) }
+    ensures fields { IfOk result (λ shelf. length shelf.fields.items ≡ length (setup_of setup.now).config.fields) }
+{
+    Ok(Shelf {
+        facets: no_values(alloc, setup.defs.facets.as_slice().len())?,
+        fields: no_values(alloc, setup.fields().len())?,
+    })
+}
+
+/// Places for the flags of a configuration.
+fn empty_marks(alloc: Global, setup: &Setup, moved: SceneFlags) -> Result<Marks, AllocError>
+    ensures moved { IfOk result (λ marks. marks.moved ≡ moved) }
+    ensures room { IfOk result (λ marks. HasFlagRoomIn setup.now marks) }
+{
+    Ok(Marks {
+        moved,
+        facets: no_flags(alloc, setup.defs.facets.as_slice().len())?,
+        fields: no_flags(alloc, setup.fields().len())?,
+    })
+}
+
+/// A draft in which nothing is found yet.
+fn empty(alloc: Global, setup: &Setup, scene: Scene, moved: SceneFlags) -> Result<Draft, AllocError>
+    ensures scene { IfOk result (λ draft. scene_in draft.kept ≡ scene_of scene) }
+    ensures moved { IfOk result (λ draft. draft.marks.moved ≡ moved) }
+    ensures room { IfOk result (λ draft. HasRoomIn setup.now draft.kept) }
+    ensures flags { IfOk result (λ draft. HasFlagRoomIn setup.now draft.marks) }
+{
+    let shelf = empty_shelf(alloc, setup)?;
+    let marks = empty_marks(alloc, setup, moved)?;
+    let inputs = no_inputs(alloc, setup.defs.facets.as_slice().len())?;
+    Ok(Draft {
+        kept: Kept {
+            scene,
+            shelf,
+            inputs,
+        },
+        marks,
+    })
+}
+
+/// One facet or field.
+fn step<M: Meanings, L: Ledger>(
+    alloc: Global,
+    kit: &Kit<M>,
+    transition: &Transition,
+    old_setup: &Setup,
+    old: &Kept,
+    setup: &Setup,
+    vertex: Vertex,
+    draft: &Draft,
+    calls: &mut Steps<L>,
+) -> Result<Next, AllocError>
+    requires whole { IsWhole M.rules kit.now }
+    requires old_scene { IsScene (scene_in old.now) }
+    requires scene { IsScene (scene_in draft.now.kept) }
+    requires kept { IsKeptIn M.rules old_setup.now old.now }
+    requires old_lawful { IsLawful M.rules (setup_of old_setup.now) }
+    requires lawful { IsLawful M.rules (setup_of setup.now) }
+    requires follows { Follows (transition_of transition.now) (setup_of old_setup.now) (setup_of setup.now) }
+    ensures next { IfOk result (λ n. IsNext M.rules (transition_of transition.now) (setup_of setup.now) (scene_in draft.now.kept) draft.now.marks.moved (flags_in draft.now.marks) (values_in draft.now.kept) (state_in old_setup.now old.now) (held_inputs old.now.inputs.items) vertex n.value n.flag n.inputs) }
+    ensures cost { calls.new ≤ calls.old + next_calls M.rules (transition_of transition.now) (setup_of setup.now) (scene_in draft.now.kept) draft.now.marks.moved (flags_in draft.now.marks) (values_in draft.now.kept) (state_in old_setup.now old.now) (held_inputs old.now.inputs.items) vertex }
+{
+    match vertex {
+        Vertex::Facet(place) => step_facet(
+            alloc, kit, transition, old_setup, old, setup, place, draft, calls,
+        ),
+        Vertex::Field(place) => step_field(
+            alloc, kit, transition, old_setup, old, setup, place, draft, calls,
+        ),
+    }
+}
+
+/// Puts what was found of a facet or field into the draft.
+fn store(setup: &Setup, draft: &mut Draft, vertex: Vertex, next: Next)
+    requires vertex { IsVertex (setup_of setup.now) vertex }
+    requires room { HasRoomIn setup.now draft.old.kept }
+    requires flags { HasFlagRoomIn setup.now draft.old.marks }
+    ensures scene { scene_in draft.new.kept ≡ scene_in draft.old.kept }
+    ensures moved { draft.new.marks.moved ≡ draft.old.marks.moved }
+    ensures room { HasRoomIn setup.now draft.new.kept }
+    ensures flags { HasFlagRoomIn setup.now draft.new.marks }
+    ensures value { Puts (values_in draft.old.kept) (values_in draft.new.kept) vertex next.value }
+    ensures flag { Puts (flags_in draft.old.marks) (flags_in draft.new.marks) vertex next.flag }
+    ensures inputs { Puts (held_inputs draft.old.kept.inputs.items) (held_inputs draft.new.kept.inputs.items) vertex (inputs_put vertex next.inputs) }
+{
+    let Next {
+        inputs,
+        value,
+        flag,
+    } = next;
+    match vertex {
+        Vertex::Facet(facet) => {
+            let place = facet as usize;
+            draft.kept.shelf.facets[place] = value;
+            draft.marks.facets[place] = flag;
+            draft.kept.inputs[place] = inputs;
+        }
+        Vertex::Field(field) => {
+            let place = field as usize;
+            draft.kept.shelf.fields[place] = value;
+            draft.marks.fields[place] = flag;
+        }
+    }
+}
+
+/// The flags of the document and the selection.
+fn moved(transition: &Transition) -> SceneFlags
+    ensures { result ≡ moved_by (transition_of transition.now) }
+{
+    match *transition {
+        Transition::Enter => SceneFlags {
+            document: false,
+            selection: false,
+        },
+        Transition::Update(transaction) => {
+            let document = !transaction.changes().is_empty();
+            let count = transaction.selection().ranges().len();
+            let start_count = transaction.start_selection().ranges().len();
+            SceneFlags {
+                document,
+                selection: document || transaction.is_given() || count != start_count,
+            }
+        }
+    }
+}
+
+/// What is kept of the state after a transition, where only what is due is found anew. `Err`: out of memory.
+pub fn kept_after<M: Meanings, L: Ledger>(
+    alloc: Global,
+    kit: &Kit<M>,
+    transition: &Transition,
+    old_setup: &Setup,
+    old: &Kept,
+    setup: &Setup,
+    scene: Scene,
+    calls: &mut Steps<L>,
+) -> Result<Kept, AllocError>
+    requires whole { IsWhole M.rules kit.now }
+    requires old_scene { IsScene (scene_in old.now) }
+    requires is_scene { IsScene (scene_of scene) }
+    requires made { IsMadeIn (scene_in old.now) (transition_of transition.now) }
+    requires scene { scene_of scene ≡ scene_after (transition_of transition.now) (scene_in old.now) }
+    requires placed { length (setup_of setup.now).config.inputs ≤ length (setup_of setup.now).defs.facets }
+    requires ordered { IsOrdered (setup_of setup.now) }
+    requires old_lawful { IsLawful M.rules (setup_of old_setup.now) }
+    requires lawful { IsLawful M.rules (setup_of setup.now) }
+    requires follows { Follows (transition_of transition.now) (setup_of old_setup.now) (setup_of setup.now) }
+    requires kept { IsKeptIn M.rules old_setup.now old.now }
+    ensures scene { IfOk result (λ kept. scene_in kept ≡ scene_of scene) }
+    ensures values { IfOk result (λ kept. values_in kept ≡ values_of M.rules (setup_of setup.now) (scene_of scene) (rule_of M.rules (transition_of transition.now) (state_in old_setup.now old.now))) }
+    ensures kept { IfOk result (λ kept. IsKeptIn M.rules setup.now kept) }
+    ensures cost { calls.new ≤ calls.old + transition_calls M.rules (transition_of transition.now) (state_in old_setup.now old.now) (setup_of setup.now) }
+{
+    let order = order(alloc, setup)?;
+    let mut draft = empty(alloc, setup, scene, moved(transition))?;
+    for vertex in order.as_slice() {
+        let next = step(
+            alloc, kit, transition, old_setup, old, setup, *vertex, &draft, calls,
+        )?;
+        store(setup, &mut draft, *vertex, next);
+    }
+    Ok(draft.kept)
+}
