@@ -14,6 +14,7 @@ use Rattle.ext_tree.specs.declared.node.Node.TheVariants as nodes
 use Rattle.ext_tree.specs.declared.precedence.Precedence.{Precedence}
 use Rattle.values.specs.declared.val.Val.{Val}
 use Rattle.values.specs.Rules.{Rules}
+use Rattle.values.specs.InRange.{IsInRange}
 use Rattle.values.specs.Vals.{is_of}
 use Rattle.registry.specs.declared.rule_sort.RuleSort.{RuleSort}
 use Rattle.registry.specs.declared.rule_sort.RuleSort.TheVariants.{Combine, Compare, Compute, ComputeN, Create, Update, EffectMap}
@@ -114,15 +115,15 @@ module _ (rules : Rules) (d : Declarations) (h : IsLawful rules d) where
   declare-node-of : (facet : ℕ) (def : NodeDef Val) → IsInput rules d (slice_get d.facets facet) def → length d.nodes < max_count → IsLawful rules (with_node d (nodes.Input facet) def)
   declare-node-of facet def f r = lawful-node rules d h (nodes.Input facet) def f (h.linked.enabled facet) (λ field q. absurd (none-some field q)) r
 
-  is-value : (facet : ℕ) (value : Val) (o : Option FacetDef) → (o ≡ None → ⊥) → value_fits rules facet o value ≡ None → IsInput rules d o (defs.Of value)
-  is-value facet value None k e = absurd (k refl)
-  is-value facet value (Some def) k e = holds (is_of (rules.combine_input def.combine) value) _ e
+  is-value : (facet : ℕ) (value : Val) (o : Option FacetDef) → (o ≡ None → ⊥) → value_fits rules facet o value ≡ None → IsInRange value → IsInput rules d o (defs.Of value)
+  is-value facet value None k e r = absurd (k refl)
+  is-value facet value (Some def) k e r = record { shape = holds (is_of (rules.combine_input def.combine) value) _ e; range = r }
 
-  pub declare-input : (facet : ℕ) (value : Val) → Passes (input_refusals rules d facet value) → IsLawful rules (with_node d (nodes.Input facet) (defs.Of value))
-  declare-input facet value e =
+  pub declare-input : (facet : ℕ) (value : Val) → Passes (input_refusals rules d facet value) → IsInRange value → IsLawful rules (with_node d (nodes.Input facet) (defs.Of value))
+  declare-input facet value e r =
       let p = none-of (input_refusals rules d facet value) e in
       let l : facet < length d.facets = is-known Facet (length d.facets) facet p.0 in
-      declare-node-of facet (defs.Of value) (is-value facet value (slice_get d.facets facet) (not-none d.facets facet l) p.1.0) (room NodeSort (length d.nodes) p.1.1.0)
+      declare-node-of facet (defs.Of value) (is-value facet value (slice_get d.facets facet) (not-none d.facets facet l) p.1.0 r) (room NodeSort (length d.nodes) p.1.1.0)
 
   -- whatever definition a computed input is written down as
   is-computed : (facet : ℕ) (rs : List Dependency) (sort : RuleSort) (count : ℕ) (output : ℕ → Form) (rule : ℕ) (def : NodeDef Val) (o : Option FacetDef) → (o ≡ None → ⊥) → ((x : FacetDef) → IsComputed rules d x count output rule rs → IsInput rules d (Some x) def)
@@ -154,17 +155,17 @@ module _ (rules : Rules) (d : Declarations) (h : IsLawful rules d) where
   pub declare-from : (facet field rule : ℕ) → Passes (from_refusals rules d facet field rule) → IsLawful rules (with_node d (nodes.Input facet) (defs.From field rule))
   declare-from facet field rule e = declare-computed facet (reads.Field field ∷ []) Compute rules.computers rules.compute_output rule (defs.From field rule) (λ x c. c) e
 
-  is-init : (field : ℕ) (value : Val) (o : Option FieldDef) → (o ≡ None → ⊥) → init_fits rules field o value ≡ None → IsInit rules o value
-  is-init field value None k e = absurd (k refl)
-  is-init field value (Some def) k e = holds (is_of (rules.update_shape def.update) value) _ e
+  is-init : (field : ℕ) (value : Val) (o : Option FieldDef) → (o ≡ None → ⊥) → init_fits rules field o value ≡ None → IsInRange value → IsInit rules o value
+  is-init field value None k e r = absurd (k refl)
+  is-init field value (Some def) k e r = record { shape = holds (is_of (rules.update_shape def.update) value) _ e; range = r }
 
-  pub declare-init : (field : ℕ) (value : Val) → Passes (init_refusals rules d field value) → IsLawful rules (with_node d (nodes.Init field) (defs.Init value))
-  declare-init field value e =
+  pub declare-init : (field : ℕ) (value : Val) → Passes (init_refusals rules d field value) → IsInRange value → IsLawful rules (with_node d (nodes.Init field) (defs.Init value))
+  declare-init field value e r =
       let p = none-of (init_refusals rules d field value) e in
       let m : is_placed d field ≡ true = holds (is_placed d field) _ p.0 in
       let k : field < length d.placed = mark-within d.placed field m in
       let l : field < length d.fields = omega (arith, k, h.aligned.placed) in
-      lawful-node rules d h (nodes.Init field) (defs.Init value) (is-init field value (slice_get d.fields field) (not-none d.fields field l) p.1.0) (h.linked.provided field) (λ g q. subst (λ i. is_placed d i ≡ true) (same_Some field g q) m) (room NodeSort (length d.nodes) p.1.1.0)
+      lawful-node rules d h (nodes.Init field) (defs.Init value) (is-init field value (slice_get d.fields field) (not-none d.fields field l) p.1.0 r) (h.linked.provided field) (λ g q. subst (λ i. is_placed d i ≡ true) (same_Some field g q) m) (room NodeSort (length d.nodes) p.1.1.0)
 
 pub compartment-passes : (d : Declarations) (n : ℕ) → n ≡ d.compartments → has_room Compartment n ≡ None → Passes (compartment_refusals d)
 compartment-passes d n p e = subst (λ (m : ℕ). option_or (has_room Compartment m) None ≡ None) p (subst (λ (o : Option RegistryError). option_or o None ≡ None) (sym e) refl)

@@ -302,6 +302,7 @@ impl<M: Meanings> Registry<M> {
         ensures grows { IsGrowth self.old self.new }
     {
         input_refusal::<M>(&self.parts, facet, &value)?;
+        value.known();
         let id = self
             .parts
             .add_node(&Node::Input(facet), NodeDef::Of(value))?;
@@ -380,6 +381,7 @@ impl<M: Meanings> Registry<M> {
         ensures grows { IsGrowth self.old self.new }
     {
         init_refusal::<M>(&self.parts, field, &value)?;
+        value.known();
         let id = self
             .parts
             .add_node(&Node::Init(field), NodeDef::Init(value))?;
