@@ -1,5 +1,6 @@
 //! Cases of the registry: what is declared from the start, each call that declares once on its way to an id, each refusal
-//! with its values, and fields that are declared whole or leave nothing behind. The crate has no code of its own.
+//! with its values, fields that are declared whole or leave nothing behind, and two values by id. The crate has no code
+//! of its own.
 #![tactic(auto)]
 
 #[cfg(test)]
@@ -10,6 +11,8 @@ mod counts;
 mod declared;
 #[cfg(test)]
 mod fields;
+#[cfg(test)]
+mod lookups;
 #[cfg(test)]
 mod nodes;
 #[cfg(test)]
