@@ -1,6 +1,6 @@
 -- A run over lines: what was answered so far, and how it ends.
-use Rattle.std.proofs.Common.{◌≡◌, ℕ, min, ◌+◌, ◌<◌, ◌≤◌, List, [], ◌∷◌, ◌++◌, length, take, drop, Option, Some, None, IfSome, false, refl, sym, ap, subst, ◌∙◌, append_assoc, arith}
-use Rattle.std.proofs.lemmas.List.{length-drop, append-nil, take_at, drop_at, take_min, take-append-le}
+use Rattle.std.proofs.Common.{◌≡◌, ℕ, min, ◌+◌, ◌-◌, ◌<◌, ◌≤◌, List, [], ◌∷◌, ◌++◌, length, take, drop, Option, Some, None, IfSome, false, refl, sym, ap, subst, ◌∙◌, append_assoc, arith}
+use Rattle.std.proofs.lemmas.List.{drop-drop, length-drop, append-nil, take_at, drop_at, take_min, take-append-le}
 use Rattle.std.specs.declared.result.Result.TheVariants as result
 use Rattle.cm_outside.specs.Lines.{lines_of, whole_lines}
 use Rattle.cm_outside.specs.Sink.{Appends, AppendsPrefix}
@@ -10,7 +10,7 @@ use Rattle.cm_outside.specs.declared.reading.Reading.TheVariants.{Line, TooLong,
 use Rattle.cm_outside.specs.declared.status.Status.{Status}
 use Rattle.cm_outside.specs.declared.status.Status.TheVariants as statuses
 use Rattle.line_run.specs.Answering.{Replies}
-use Rattle.line_run.specs.Run.{Run, Ran, Wrote}
+use Rattle.line_run.specs.Run.{Run, Ran, Wrote, Gave}
 use Rattle.line_run.specs.Responding.{RepliedTo, FailedOn, RespondsTo, Responds}
 use Rattle.line_run.proofs.Cuts.{Cuts, cuts_nothing, take_sum, next_line, all_lines, whole_at_failure, whole_at_budget}
 
@@ -108,6 +108,15 @@ line_stops first now next input before left left_now held_now held_new line p q 
     subst (λ o. AppendsPrefix before o (first (lines_of input))) (sym a) (stops first now (Some input) (Some before) left held_now p g)
 line_stops first now next input before left left_now held_now held_new line p q statuses.TooMuch limit taken g later takes is_next a = absurd a
 line_stops first now next input before left left_now held_now held_new line p q statuses.BadFile limit taken g later takes is_next a = absurd a
+
+-- what the source gave, where one more line was read
+pub gave_more : (first now : Replies) (told held left left_now held_now : Option (List ℕ)) (p q : Progress) (taken : ℕ) → IfSome told (λ i. Going first now i left held held_now p) → p.taken ≤ q.taken → q.taken ≡ taken
+    → IfSome left (λ i. TakesOf p q i left_now) → IfSome told (λ i. Gave taken i left_now)
+gave_more first now None held left left_now held_now p q taken g later is takes = tt
+gave_more first now (Some input) held left left_now held_now p q taken g later is takes =
+    let t : TakesOf p q (drop p.taken input) left_now = subst (λ o. IfSome o (λ i. TakesOf p q i left_now)) g.cuts.rest takes in
+    let total : p.taken + (q.taken - p.taken) ≡ taken = omega (arith, later, is) in
+    (omega (arith, t.fits, g.cuts.fits, length-drop p.taken input, later, is), t.left ∙ ap Some (drop-drop (q.taken - p.taken) p.taken input ∙ ap (λ n. drop n input) total))
 
 pub ends : (first now next : Replies) (told held left left_now held_now held_new : Option (List ℕ)) (r : Reading) (p q : Progress) (status : Status) (limit taken : ℕ) → now [] ≡ [] → IfSome told (λ i. Going first now i left held held_now p) → p.taken ≤ q.taken
     → p.taken ≤ p.limit → p.limit ≡ limit → q.limit ≡ limit → q.taken ≡ taken → KeepsLimit r q
