@@ -1,7 +1,8 @@
 -- What is found along an order is of one state.
-use Rattle.std.proofs.Common.{◌≡◌, ◌<◌, ◌∙◌, ℕ, zero, suc, List, [], Bool, true, false, cond, Option, None, Some, length, slice_get, map, MatchOption, refl, sym, ap, subst, ⊎_elim, arith, IsSomeAnd, IfSome}
+use Rattle.std.proofs.Common.{◌≡◌, ◌<◌, ◌∙◌, ℕ, zero, suc, List, [], ◌∷◌, Bool, true, false, cond, eqb, filter, Option, None, Some, length, slice_get, map, MatchOption, refl, sym, ap, subst, ⊎_elim, arith, IsSomeAnd, IfSome}
 use Rattle.std.proofs.Math.Path.{fun_ext}
 use Rattle.std.specs.Option.{option_map, option_and_then, option_flatten, unwrap_or}
+use Rattle.std.specs.List.{AllByRecursion, list_any}
 use Rattle.std.proofs.lemmas.Option.{slice_get_cases}
 use Rattle.configuration.specs.declared.field_def.FieldDef.{FieldDef}
 use Rattle.configuration.specs.declared.vertex.Vertex.{Vertex}
@@ -10,20 +11,22 @@ use Rattle.values.specs.declared.val.Val.{Val}
 use Rattle.values.specs.Rules.{Rules, AreLawful}
 use Rattle.values.specs.Reading.{nothing}
 use Rattle.values.specs.Vals.{IsOf}
+use Rattle.values.specs.InRange.{IsInRange, IsShownInRange}
+use Rattle.values.specs.declared.shown_effect.ShownEffect.{ShownEffect}
 use Rattle.values.specs.Views.{AreDeps, DepsView, IsTransaction, TransactionView}
 use Rattle.facet_slots.specs.Setups.{Setup, PresentFacet, PresentField, facet_at, field_at, order_of, vertex_count}
-use Rattle.facet_slots.specs.Scenes.{SceneView, IsScene, Values, shown}
-use Rattle.facet_slots.specs.FacetValues.{node_outputs, facet_value}
+use Rattle.facet_slots.specs.Scenes.{SceneView, IsScene, IsEachInRange, Values, shown}
+use Rattle.facet_slots.specs.FacetValues.{node_outputs, facet_value, joined}
 use Rattle.facet_slots.specs.Settling.{FieldRule, field_value, round, rounds, values_of}
 use Rattle.facet_slots.specs.Stepping.{State, Transition, Enter, Update, created, equal_init, heard, rule_of}
 use Rattle.facet_slots.specs.Making.{IsMadeIn}
 use Rattle.facet_slots.specs.Order.{AllInputs, AllNeeds, StandsBefore, IsVertex, IsOrdered}
-use Rattle.facet_slots.specs.Lawful.{IsLawfulField, IsLawful, FieldsFit}
+use Rattle.facet_slots.specs.Lawful.{IsLawfulFacet, IsLawfulField, IsLawful, FieldsFit}
 use Rattle.facet_slots.specs.Agreement.{Follows}
 use Rattle.facet_slots.specs.Keeping.{held, held_inputs, inputs_of, HasRoom, IsKept, AreKnown}
 use Rattle.facet_slots.proofs.Rounds.{AllNeeds-weaker, round-local, inputs-same, settled-once}
 use Rattle.facet_slots.proofs.Places.{facet-cases, field-cases}
-use Rattle.facet_slots.proofs.Fitting.{shown-is}
+use Rattle.facet_slots.proofs.Fitting.{joined_fit, shown-is}
 
 abbrev record_state : Setup → SceneView → Values → State
 record_state setup scene values = record { setup = setup; scene = scene; values = values }
@@ -99,29 +102,62 @@ module _ (rules : Rules) (setup : Setup) (ordered : IsOrdered setup) (scene : Sc
   abbrev pub RuleFits : Type 0
   RuleFits = (f : ℕ) (field : PresentField) → field_at setup f ≡ Some field → (seen : DepsView) → AreDeps seen → IsOf (rules.update_shape field.def.update) (rule f field seen)
 
-  fields-fit : IsScene scene → RuleFits → FieldsFit rules setup (values_of rules setup scene rule)
-  fields-fit is fits f field at =
+  module _ (law : AreLawful rules) (lawful : IsLawful rules setup) (fine : IsScene scene) (fits : RuleFits) where
+    facet-in-range : (values : Values) → IsEachInRange values → (o : Option PresentFacet) → ((facet : PresentFacet) → o ≡ Some facet → IsLawfulFacet rules facet) → IfSome (option_map (facet_value rules scene values) o) IsInRange
+    facet-in-range values each None h = tt
+    facet-in-range values each (Some facet) h =
+        (law.combine_fits facet.def.combine (joined (map (node_outputs rules scene values) facet.inputs)) (h facet refl).combine
+        (joined_fit rules law facet.def.combine scene fine values each facet.inputs (h facet refl).inputs)).range
+
+    field-in-range : (values : Values) → IsEachInRange values → (f : ℕ) (o : Option PresentField) → ((field : PresentField) → o ≡ Some field → field_at setup f ≡ Some field) → IfSome (field-given values f o) IsInRange
+    field-in-range values each f None h = tt
+    field-in-range values each f (Some field) h = (fits f field (h field refl) (shown scene values field.def.reads) (shown-is scene fine values each field.def.reads)).range
+
+    -- each value that a round finds is in range
+    rounds-in-range : (n : ℕ) → IsEachInRange (rounds (round rules setup scene rule) None n)
+    rounds-in-range zero v = tt
+    rounds-in-range (suc n) (Facet f) = facet-in-range (rounds (round rules setup scene rule) None n) (rounds-in-range n) (facet_at setup f) (lawful.facets f)
+    rounds-in-range (suc n) (Field f) = field-in-range (rounds (round rules setup scene rule) None n) (rounds-in-range n) f (field_at setup f) (λ field at. at)
+
+  fields-fit : AreLawful rules → IsLawful rules setup → IsScene scene → RuleFits → FieldsFit rules setup (values_of rules setup scene rule)
+  fields-fit law lawful is fits f field at =
       subst (λ (o : Option Val). IsSomeAnd o (IsOf (rules.update_shape field.def.update)))
-      (sym (settled-at (Field f) ∙ ap (field-given (values_of rules setup scene rule) f) at)) (fits f field at (shown scene (values_of rules setup scene rule) field.def.reads) (shown-is scene is (values_of rules setup scene rule) field.def.reads))
+      (sym (settled-at (Field f) ∙ ap (field-given (values_of rules setup scene rule) f) at)) (fits f field at (shown scene (values_of rules setup scene rule) field.def.reads) (shown-is scene is (values_of rules setup scene rule) (rounds-in-range law lawful is fits (vertex_count setup)) field.def.reads))
 
   -- all known, what is held is of one state
-  pub kept-from : IsScene scene → RuleFits → (facets fields : List (Option Val)) (inputs : List (List (List Val))) → HasRoom setup facets fields inputs
+  pub kept-from : AreLawful rules → IsLawful rules setup → IsScene scene → RuleFits → (facets fields : List (Option Val)) (inputs : List (List (List Val))) → HasRoom setup facets fields inputs
       → AreKnown setup (held facets fields) (values_of rules setup scene rule) (length (order_of setup))
       → AreKnown setup (held_inputs inputs) (inputs_of rules setup scene (values_of rules setup scene rule)) (length (order_of setup))
       → IsKept rules setup scene facets fields inputs
-  kept-from fine fits facets fields inputs room known inputs_known =
+  kept-from law lawful fine fits facets fields inputs room known inputs_known =
       let is : held facets fields ≡ values_of rules setup scene rule = held-is facets fields inputs room known in
       record {
         room = room;
         combined = λ f. subst (λ (values : Values). values (Facet f) ≡ option_map (facet_value rules scene values) (facet_at setup f)) (sym is) (settled-at (Facet f));
         inputs_kept = λ f. subst (λ (values : Values). held_inputs inputs (Facet f) ≡ inputs_of rules setup scene values (Facet f)) (sym is) (inputs-at facets fields inputs room inputs_known f);
-        fields_fit = subst (λ (values : Values). FieldsFit rules setup values) (sym is) (fields-fit fine fits);
+        fields_fit = subst (λ (values : Values). FieldsFit rules setup values) (sym is) (fields-fit law lawful fine fits);
         absent = λ f none. subst (λ (values : Values). values (Field f) ≡ None) (sym is) (field-beyond f none (vertex_count setup));
       }
 
+heard-in-range : (test : ShownEffect → Bool) (es : List ShownEffect) → AllByRecursion IsShownInRange es → AllByRecursion IsShownInRange (filter test es)
+heard-in-range test [] h = tt
+heard-in-range test (e ∷ es) h =
+    elim (test e) as (λ b. AllByRecursion IsShownInRange (cond b (e ∷ filter test es) (filter test es))) [ true ↦ (h.0, heard-in-range test es h.1) | false ↦ heard-in-range test es h.1 ]
+
 -- a transaction as a field is shown it is one
 pub heard-is : (listens : List ℕ) (t : TransactionView) → IsTransaction t → IsTransaction (heard listens t)
-heard-is listens t is = record { starts = is.starts; document = is.document; short = is.short; new_short = is.new_short; start_inside = is.start_inside; inside = is.inside }
+heard-is listens t is =
+    record {
+      starts = is.starts;
+      document = is.document;
+      short = is.short;
+      new_short = is.new_short;
+      start_inside = is.start_inside;
+      inside = is.inside;
+      effects = heard-in-range (λ (e : ShownEffect). list_any (eqb e.id) listens) t.effects is.effects;
+      inverted = is.inverted;
+      annotations = is.annotations;
+    }
 
 -- a field fits its updater after each transition
 module _ (rules : Rules) (lawful : AreLawful rules) (setup : Setup) (all : IsLawful rules setup) (old : State) (old_fit : FieldsFit rules old.setup old.values) where

@@ -13,6 +13,7 @@ pub mod Nexting
 pub mod Nodes
 pub mod Ordered
 pub mod Places
+pub mod Ranged
 pub mod Resolved
 pub mod Rounds
 pub mod Stated

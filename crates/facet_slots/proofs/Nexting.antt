@@ -8,7 +8,7 @@ use Rattle.values.specs.declared.val.Val.{Val}
 use Rattle.values.specs.Rules.{Rules, AreLawful}
 use Rattle.values.specs.Vals.{IsOf}
 use Rattle.facet_slots.specs.Setups.{Setup, InputNode, PresentFacet, PresentField, facet_at}
-use Rattle.facet_slots.specs.Scenes.{SceneView, IsScene, Values}
+use Rattle.facet_slots.specs.Scenes.{SceneView, IsScene, IsEachInRange, Values}
 use Rattle.facet_slots.specs.FacetValues.{node_outputs, joined}
 use Rattle.facet_slots.specs.Stepping.{State, Transition, Enter, Update, kept_value}
 use Rattle.facet_slots.specs.Lawful.{FitsCombiner}
@@ -64,9 +64,9 @@ all-new moved flags kept [] = refl
 all-new moved flags kept (i ∷ is) = ap (λ (n : ℕ). call_of i.input + n) (all-new moved flags kept is)
 
 -- what is kept of a facet's inputs fits its combiner
-pub kept_fit : (rules : Rules) → AreLawful rules → (n : ℕ) (scene : SceneView) → IsScene scene → (values : Values) (is : List InputNode) → AllByRecursion (λ (node : InputNode). FitsCombiner rules n node.input) is → AllByRecursion (λ k. All (IsOf (rules.combine_input n)) k) (map (node_outputs rules scene values) is)
-kept_fit rules lawful n scene fine values [] h = tt
-kept_fit rules lawful n scene fine values (i ∷ is) h = (outputs_fit rules lawful n scene fine values i.input h.0, kept_fit rules lawful n scene fine values is h.1)
+pub kept_fit : (rules : Rules) → AreLawful rules → (n : ℕ) (scene : SceneView) → IsScene scene → (values : Values) → IsEachInRange values → (is : List InputNode) → AllByRecursion (λ (node : InputNode). FitsCombiner rules n node.input) is → AllByRecursion (λ k. All (IsOf (rules.combine_input n)) k) (map (node_outputs rules scene values) is)
+kept_fit rules lawful n scene fine values each [] h = tt
+kept_fit rules lawful n scene fine values each (i ∷ is) h = (outputs_fit rules lawful n scene fine values each i.input h.0, kept_fit rules lawful n scene fine values each is h.1)
 
 -- one call at most for a field
 pub one-at-most : (transition : Transition) (old : State) (f : ℕ) (field : PresentField) → field_calls transition old f field ≤ 1

@@ -81,6 +81,6 @@ module _ (rules : Rules) (law : AreLawful rules) (transition : Transition) (old_
 
     pub drafted-kept : IsScene (scene_after transition old_scene) → IsMadeIn old_scene transition → Follows transition old_setup setup → IsKept rules setup (scene_after transition old_scene) new_facets new_fields new_inputs
     drafted-kept fine made follows =
-        kept-from rules setup ordered (scene_after transition old_scene) (rule_of rules transition (state_of old_setup old_scene facets fields)) fine
+        kept-from rules setup ordered (scene_after transition old_scene) (rule_of rules transition (state_of old_setup old_scene facets fields)) law lawful fine
         (transition-fits rules law setup lawful (state_of old_setup old_scene facets fields) kept.fields_fit transition made follows)
         new_facets new_fields new_inputs room known-all (λ k v below at. drafted.inputs_known k v (omega (arith, all, below)) at)

@@ -1,5 +1,5 @@
 -- What rules are shown of a document, a selection and values (Reference Manual, Facet.compute).
-use Rattle.std.specs.Prelude.{ℕ, ◌≤◌, List, [], ◌∷◌, Bool, true, false, cond, length, map, Option, None, Some}
+use Rattle.std.specs.Prelude.{ℕ, ◌≤◌, List, [], ◌∷◌, Bool, true, false, cond, length, map, Option, None, Some, IfSome}
 use Rattle.line_tree.specs.Text.{max_len}
 use Rattle.selection.specs.Selections.{SelectionView, IsSelection, LieIn}
 use Rattle.configuration.specs.declared.dependency.Dependency.{Dependency}
@@ -7,6 +7,7 @@ use Rattle.configuration.specs.declared.dependency.Dependency.TheVariants as dep
 use Rattle.configuration.specs.declared.vertex.Vertex.{Vertex}
 use Rattle.configuration.specs.declared.vertex.Vertex.TheVariants.{Facet, Field}
 use Rattle.values.specs.declared.val.Val.{Val}
+use Rattle.values.specs.InRange.{IsInRange}
 use Rattle.values.specs.Views.{DepsView}
 
 -- a document with a selection of it
@@ -23,6 +24,10 @@ pub record IsScene (scene : SceneView) : Type 0 where
 -- Values: of each facet and field, none for an absent field and for an id that is not known.
 abbrev pub Values : Type 0
 Values = Vertex → Option Val
+
+-- in range: each number of each value lies in the range of its type
+abbrev pub IsEachInRange : Values → Type 0
+IsEachInRange values = (v : Vertex) → IfSome (values v) IsInRange
 
 abbrev pub reads_document : List Dependency → Bool
 reads_document [] = false

@@ -102,6 +102,7 @@ pub fn shown(
     requires { IsScene (scene_of scene.now) }
     ensures { IfOk result (λ deps. deps ≡ shown_of (scene_of scene.now) (held shelf.now.facets.items shelf.now.fields.items) reads.now) }
 {
+    shelf.known();
     let document = document_read(scene, reads)?;
     let selection = selection_read(scene, reads)?;
     let values = values_read(alloc, reads, shelf)?;

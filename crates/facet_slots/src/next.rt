@@ -235,6 +235,7 @@ pub fn next_facet<M: Meanings, L: Ledger>(
     ensures next { IfOk result (λ n. IsSomeAnd n.value (λ value. IsNextFacet M.rules (scene_in draft.now.kept) draft.now.marks.moved (flags_in draft.now.marks) (values_in draft.now.kept) (Some (facet_before before.now)) before.now.kept.now (Some old.now) (facet_of facet.now node_defs.now nodes.now) value n.flag n.inputs)) }
     ensures cost { calls.new ≤ calls.old + facet_next_calls M.rules (scene_in draft.now.kept) draft.now.marks.moved (flags_in draft.now.marks) (values_in draft.now.kept) (Some (facet_before before.now)) before.now.kept.now (facet_of facet.now node_defs.now nodes.now) }
 {
+    draft.kept.shelf.known();
     let NextInputs { inputs, changed } = next_inputs(
         alloc, kit, before, node_defs, nodes, facet, draft, calls,
     )?;

@@ -223,6 +223,7 @@ pub fn facet_found<M: Meanings, L: Ledger>(
     ensures inputs { IfOk result (λ found. found.inputs ≡ map (node_outputs_of M.rules (scene_of scene.now) (held shelf.now.facets.items shelf.now.fields.items)) (map (input_node node_defs.now) nodes.now)) }
     ensures cost { calls.new ≤ calls.old + (calls_of (map (input_node node_defs.now) nodes.now) + 1) }
 {
+    shelf.known();
     let inputs = all_outputs(alloc, kit, scene, facet, node_defs, nodes, shelf, calls)?;
     let value = combine(alloc, kit, facet.combine, inputs.as_slice(), calls)?;
     Ok(FacetFound { inputs, value })

@@ -1,11 +1,12 @@
 ghost use Rattle.std.specs.Prelude.{◌≡◌, IfOk};
+ghost use Rattle.values.specs.InRange.{IsInRange};
 
 use std::alloc::{AllocError, Global};
 use std::marker::Model;
 use std::rc::Rc;
 use values::Val;
 
-/// A value that states share. Contracts see it as the value.
+/// A value that states share. Contracts see it as the value, each number of which lies in the range of its type.
 #[derive(Drop)]
 pub struct SharedVal {
     value: Rc<Val>,
@@ -14,6 +15,7 @@ pub struct SharedVal {
 impl Model for SharedVal {
     ghost use Rattle.std.specs.Coded.{codes};
     ghost use Rattle.cm_plain.specs.Datum.{coded_datum};
+    ghost use Rattle.values.specs.InRange.{IsInRange};
     ghost use Rattle.values.specs.declared.val.Val.{Val};
 
     ghost Value = { Val };
@@ -21,6 +23,8 @@ impl Model for SharedVal {
     ghost coded = { Prim.hlevel (codes, coded_datum) };
 
     ghost view = { λ s. s.value.value };
+
+    ghost invariant = { λ s. IsInRange s.value.value };
 }
 
 impl SharedVal {
@@ -28,6 +32,7 @@ impl SharedVal {
     pub fn new(alloc: Global, value: Val) -> Result<SharedVal, AllocError>
         ensures { IfOk result (λ shared. shared ≡ value) }
     {
+        value.known();
         match Rc::new(alloc, value) {
             Ok(value) => Ok(SharedVal { value }),
             Err(_) => Err(AllocError),
@@ -39,6 +44,13 @@ impl SharedVal {
         ensures { result.now ≡ self.now }
     {
         &self.value
+    }
+
+    /// What may be relied on in the value: its numbers lie in the ranges of their types.
+    pub fn known(&self)
+        ensures { IsInRange self.now }
+    {
+        let _ = &self.value;
     }
 
     /// The same value once more, without a copy of it. `Err`: no further owner can be counted.

@@ -116,6 +116,7 @@ fn known_facet<M: Meanings, L: Ledger>(
     ensures next { IfOk result (λ n. IsSomeAnd n.value (λ value. IsNextFacet M.rules (scene_in draft.now.kept) draft.now.marks.moved (flags_in draft.now.marks) (values_in draft.now.kept) (Some (facet_in old_setup.now was.now place)) (held_inputs old.now.inputs.items (Vertex.Facet place)) (values_in old.now (Vertex.Facet place)) (facet_in setup.now facet.now place) value n.flag n.inputs)) }
     ensures cost { calls.new ≤ calls.old + facet_next_calls M.rules (scene_in draft.now.kept) draft.now.marks.moved (flags_in draft.now.marks) (values_in draft.now.kept) (Some (facet_in old_setup.now was.now place)) (held_inputs old.now.inputs.items (Vertex.Facet place)) (facet_in setup.now facet.now place) }
 {
+    old.shelf.known();
     match kept_facet(old, place) {
         Some(value) => next_facet(
             alloc,

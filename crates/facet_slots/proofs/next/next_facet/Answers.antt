@@ -12,7 +12,7 @@ pub combined-requires-clause-fits : goal.combined-requires-clause-fits
 combined-requires-clause-fits g c =
     rw (c.as_slice.ensures, c.in_ok-inputs.ensures.inputs)
     (next_fits g.M.Meanings.rules g.met.M.Meanings.lawful c.args.facet.now.combine (scene_in c.args.draft.now.kept) c.requires.scene c.args.draft.now.marks.moved (flags_in c.args.draft.now.marks)
-    (values_in c.args.draft.now.kept) (nodes_before c.args.before.now) c.args.before.now.kept.now c.requires.kept_fit (map (input_node c.args.node_defs.now) c.args.nodes.now) c.requires.lawful.inputs)
+    (values_in c.args.draft.now.kept) c.known.ensures (nodes_before c.args.before.now) c.args.before.now.kept.now c.requires.kept_fit (map (input_node c.args.node_defs.now) c.args.nodes.now) c.requires.lawful.inputs)
 
 pub returns-in_err-value-clause-cost : goal.returns-in_err-value-clause-cost
 returns-in_err-value-clause-cost g c =

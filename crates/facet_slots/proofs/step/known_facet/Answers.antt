@@ -15,7 +15,7 @@ next_facet-requires-clause-kept_fit g c =
     let is : (held_inputs c.args.old.now.inputs.items (Facet c.args.place)) ≡ map (node_outputs g.M.Meanings.rules (scene_in c.args.old.now) (values_in c.args.old.now)) (facet_in c.args.old_setup.now c.args.was.now c.args.place).inputs =
     c.requires.kept.inputs_kept c.args.place ∙ ap (λ (o : Option PresentFacet). unwrap_or (option_map (λ (d : PresentFacet). map (node_outputs g.M.Meanings.rules (scene_in c.args.old.now) (values_in c.args.old.now)) d.inputs) o) []) c.requires.was in
     rw (c.facet_was.ensures.kept, is, ← c.requires.same_combine)
-    (kept_fit g.M.Meanings.rules g.met.M.Meanings.lawful c.args.was.now.combine (scene_in c.args.old.now) c.requires.old_scene (values_in c.args.old.now) (facet_in c.args.old_setup.now c.args.was.now c.args.place).inputs (c.requires.old_lawful.facets c.args.place (facet_in c.args.old_setup.now c.args.was.now c.args.place) c.requires.was).inputs)
+    (kept_fit g.M.Meanings.rules g.met.M.Meanings.lawful c.args.was.now.combine (scene_in c.args.old.now) c.requires.old_scene (values_in c.args.old.now) c.known.ensures (facet_in c.args.old_setup.now c.args.was.now c.args.place).inputs (c.requires.old_lawful.facets c.args.place (facet_in c.args.old_setup.now c.args.was.now c.args.place) c.requires.was).inputs)
 
 pub returns-clause-next : goal.returns-clause-next
 returns-clause-next g c = rw (← c.facet_was.ensures.was, ← c.facet_was.ensures.kept, c.in-Some.ensures, ← c.as_slice.ensures, ← c.inputs.ensures) c.next_facet.ensures.next
