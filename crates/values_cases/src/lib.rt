@@ -1,0 +1,9 @@
+//! Cases of values and of the shipped rules, and no code of its own.
+#![tactic(auto)]
+
+#[cfg(test)]
+mod combining;
+#[cfg(test)]
+mod made;
+#[cfg(test)]
+mod shapes;
