@@ -4,6 +4,12 @@
 #[cfg(test)]
 mod combining;
 #[cfg(test)]
+mod effect_maps;
+#[cfg(test)]
 mod made;
 #[cfg(test)]
+mod reading;
+#[cfg(test)]
 mod shapes;
+#[cfg(test)]
+mod views;

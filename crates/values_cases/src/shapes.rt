@@ -1,7 +1,8 @@
-use crate::made::{Made, value_of};
+use crate::made::{Made, is, value_of};
 use cm_plain::Shape;
 use std::alloc::{AllocError, Global};
 use std::test::*;
+use values::Val;
 
 /// A shape as the cases write it.
 #[derive(Clone, Copy)]
@@ -59,11 +60,15 @@ fn a_value_is_of_its_shape(rt: HostRuntime) -> Result<(), Fail> {
     Ok(())
 }
 
+fn copied(alloc: Global, value: Made<'_>) -> Result<Val, Fail> {
+    let value = value_of(alloc, value)?;
+    Ok(value.try_copy(alloc)?)
+}
+
 /// Whether a copy of the first value is the second.
 fn copy_is(alloc: Global, first: Made<'_>, second: Made<'_>) -> Result<bool, Fail> {
-    let second = value_of(alloc, second)?;
-    let copy = value_of(alloc, first)?.try_copy(alloc)?;
-    Ok(copy.same(&second))
+    let copy = copied(alloc, first)?;
+    is(alloc, &copy, second)
 }
 
 #[test]
