@@ -28,7 +28,7 @@ use Rattle.facet_slots.proofs.Rounds.{AllNeeds-weaker, round-local, inputs-same,
 use Rattle.facet_slots.proofs.Places.{facet-cases, field-cases}
 use Rattle.facet_slots.proofs.Fitting.{joined_fit, shown-is}
 
-abbrev record_state : Setup → SceneView → Values → State
+abbrev pub record_state : Setup → SceneView → Values → State
 record_state setup scene values = record { setup = setup; scene = scene; values = values }
 
 module _ (rules : Rules) (setup : Setup) (scene : SceneView) (a b : Values) where

@@ -4,6 +4,7 @@ pub mod Changing
 pub mod Creation
 pub mod Earlier
 pub mod Fitting
+pub mod Fresh
 pub mod Growing
 pub mod Grown
 pub mod Held

@@ -10,6 +10,7 @@ mod before;
 mod deps;
 mod draft;
 mod field;
+mod first;
 mod heard;
 mod input_values;
 mod kept;

@@ -2,6 +2,7 @@
 ghost use Rattle.std.specs.Prelude.{◌≡◌, IfOk};
 ghost use Rattle.facet_slots.specs.Lent.{defs_of, setup_of};
 
+use crate::first::first_kept;
 use crate::heard::{end_scene, scene_copy};
 use crate::kept::Kept;
 use crate::setup::Setup;
@@ -13,7 +14,7 @@ use std::marker::{Model, PhantomData};
 use std::rc::Rc;
 use std::sync::ledger::Ledger;
 use steps::Steps;
-use values::{Kit, Meanings, TrView, Val};
+use values::{Kit, Meanings, Scene, TrView, Val};
 
 /// The values of the facets and fields of a configuration in one state, with the document, its selection and what each input
 /// gave. Contracts see the configuration over its definitions, the document as its characters, and the values by id.
@@ -62,7 +63,9 @@ impl<M: Meanings> Slots<M> {
     ghost use Rattle.std.specs.Prelude.{◌≡◌, ◌<◌, ◌+◌, ◌≤◌, length, option_copied, IfOk, Some};
     ghost use Rattle.selection.specs.Selections.{IsSelection};
     ghost use Rattle.values.specs.Whole.{IsWhole};
-    ghost use Rattle.facet_slots.specs.Stepping.{Enter, Update, mid, next};
+    ghost use Rattle.facet_slots.specs.Scenes.{IsScene};
+    ghost use Rattle.facet_slots.specs.Found.{scene_of};
+    ghost use Rattle.facet_slots.specs.Stepping.{Enter, Update, creation, empty_state, mid, next};
     ghost use Rattle.facet_slots.specs.Making.{IsMade};
     ghost use Rattle.facet_slots.specs.Agreement.{IsGrown};
     ghost use Rattle.facet_slots.specs.Resolving.{IsResolved};
@@ -70,6 +73,31 @@ impl<M: Meanings> Slots<M> {
     ghost use Rattle.facet_slots.specs.Due.{transition_calls};
     ghost use Rattle.facet_slots.specs.Lent.{defs_of};
     ghost use Rattle.facet_slots.specs.Slotted.{plain};
+
+    /// The slots of a first configuration over a document with its selection: each field is created. `Err`: out of memory.
+    pub fn fresh<L: Ledger>(
+        alloc: Global,
+        kit: &Kit<M>,
+        defs: Rc<Defs<Val>>,
+        config: Rc<Config>,
+        scene: Scene,
+        calls: &mut Steps<L>,
+    ) -> Result<Self, AllocError>
+        requires whole { IsWhole M.rules kit.now }
+        requires resolved { IsResolved (record { defs = defs_of defs.value; config = config.value }) }
+        requires lawful { IsLawful M.rules (record { defs = defs_of defs.value; config = config.value }) }
+        requires is_scene { IsScene (scene_of scene) }
+        ensures state { IfOk result (λ s. plain s ≡ creation M.rules (record { defs = defs_of defs.value; config = config.value }) (scene_of scene)) }
+        ensures cost { calls.new ≤ calls.old + transition_calls M.rules Enter (empty_state (scene_of scene)) (record { defs = defs_of defs.value; config = config.value }) }
+    {
+        let kept = first_kept(alloc, kit, &lent(&defs, &config), scene, calls)?;
+        Ok(Slots {
+            defs,
+            config,
+            kept,
+            meanings: PhantomData,
+        })
+    }
 
     /// The slots of the mid state: the fields enter another configuration, over the same document and selection. A field that
     /// was present with an equal first value, or with none then and now, keeps its value; another one is created. Only rules
