@@ -3,7 +3,7 @@ use Rattle.std.proofs.Common.{◌≤◌, length, ℕ, List, [], ◌∷◌, All, 
 use Rattle.std.specs.List.{AllByRecursion}
 use Rattle.std.proofs.lemmas.List.Elements.{All-nil, All-cons, All-append}
 use Rattle.line_tree.specs.Text.{max_len}
-use Rattle.selection.specs.Selections.{SelectionView, LieIn}
+use Rattle.selection.specs.Selections.{SelectionView, IsSelection, LieIn}
 use Rattle.selection.specs.declared.range.Range.{Range}
 use Rattle.configuration.specs.declared.dependency.Dependency.{Dependency}
 use Rattle.configuration.specs.declared.dependency.Dependency.TheVariants as dependency
@@ -41,11 +41,16 @@ both-inside true false document selection short h = tt
 both-inside false true document selection short h = inside-longer (length document) max_len selection.ranges short h
 both-inside false false document selection short h = tt
 
+selection-known : (c : Bool) (selection : SelectionView) → IsSelection selection → IfSome (cond c (Some selection) None) IsSelection
+selection-known true selection is = is
+selection-known false selection is = tt
+
 -- what a rule is shown of a document with a selection of it may be relied on
 pub shown-is : (scene : SceneView) → IsScene scene → (values : Values) → IsEachInRange values → (reads : List Dependency) → AreDeps (shown scene values reads)
 shown-is scene is values each reads =
     record {
       short = document-short (reads_document reads) scene.document is.short;
+      is_selection = selection-known (reads_selection reads) scene.selection is.is_selection;
       inside = both-inside (reads_document reads) (reads_selection reads) scene.document scene.selection is.short is.inside;
       in_range = shown-in-range values each (vertices_of reads);
     }

@@ -61,7 +61,6 @@ fn share_config(config: &Rc<Config>) -> Result<Rc<Config>, AllocError>
 
 impl<M: Meanings> Slots<M> {
     ghost use Rattle.std.specs.Prelude.{◌≡◌, ◌<◌, ◌+◌, ◌≤◌, length, option_copied, IfOk, Some};
-    ghost use Rattle.selection.specs.Selections.{IsSelection};
     ghost use Rattle.values.specs.Whole.{IsWhole};
     ghost use Rattle.facet_slots.specs.Scenes.{IsScene};
     ghost use Rattle.facet_slots.specs.Found.{scene_of};
@@ -150,7 +149,6 @@ impl<M: Meanings> Slots<M> {
         requires lawful { IsLawful M.rules (record { defs = defs_of defs.value; config = self.now.setup.config }) }
         requires grown { IsGrown self.now.setup.defs (defs_of defs.value) }
         requires made { IsMade self.now.scene transaction.now }
-        requires selection { IsSelection transaction.now.selection }
         ensures state { IfOk result (λ s. plain s ≡ next M.rules (plain self.now) (record { defs = defs_of defs.value; config = self.now.setup.config }) transaction.now) }
         ensures cost { calls.new ≤ calls.old + transition_calls M.rules (Update transaction.now) (plain self.now) (record { defs = defs_of defs.value; config = self.now.setup.config }) }
     {

@@ -1,11 +1,11 @@
 -- What rules are shown, as plain data: documents are lists of characters, sets lists of ranges, histories their lists of items.
-use Rattle.std.specs.Prelude.{◌≡◌, ℕ, ◌≤◌, Bool, List, length, Option, Some, None}
+use Rattle.std.specs.Prelude.{◌≡◌, ℕ, ◌≤◌, Bool, List, length, Option, Some, None, IfSome}
 use Rattle.std.specs.List.{AllByRecursion}
 use Rattle.line_tree.specs.Text.{max_len}
 use Rattle.change_desc.specs.declared.section.Section.{Section}
 use Rattle.change_desc.specs.Sections.{apply, counted, new_size, old_size}
 use Rattle.cm_plain.specs.declared.kept_effect.KeptEffect.{KeptEffect}
-use Rattle.selection.specs.Selections.{SelectionView, LieIn}
+use Rattle.selection.specs.Selections.{SelectionView, IsSelection, LieIn}
 use Rattle.transaction.specs.declared.annotation.Annotation.{Annotation}
 use Rattle.values.specs.declared.val.Val.{Val}
 use Rattle.values.specs.declared.shown_effect.ShownEffect.{ShownEffect}
@@ -32,6 +32,7 @@ IsInside (Some document) (Some selection) = LieIn (length document) selection.ra
 -- what each rule may rely on in what it reads
 pub record AreDeps (d : DepsView) : Type 0 where
   pub short : IsShort d.document
+  pub is_selection : IfSome d.selection IsSelection
   pub inside : IsInside d.document d.selection
   pub in_range : AreInRange d.values
 
@@ -54,6 +55,8 @@ pub record IsTransaction (t : TransactionView) : Type 0 where
   pub document : t.document ≡ apply t.changes t.start
   pub short : length t.start ≤ max_len
   pub new_short : length t.document ≤ max_len
+  pub start_is_selection : IsSelection t.start_selection
+  pub is_selection : IsSelection t.selection
   pub start_inside : LieIn (length t.start) t.start_selection.ranges
   pub inside : LieIn (length t.document) t.selection.ranges
   pub effects : AllByRecursion IsShownInRange t.effects

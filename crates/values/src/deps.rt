@@ -1,4 +1,5 @@
-ghost use Rattle.std.specs.Prelude.{◌≡◌, ◌<◌, Some, None, IfOk, option_copied, option_map};
+ghost use Rattle.std.specs.Prelude.{◌≡◌, ◌<◌, Some, None, IfOk, IfSome, option_copied, option_map};
+ghost use Rattle.selection.specs.Selections.{IsSelection};
 ghost use Rattle.values.specs.InRange.{AreInRange};
 ghost use Rattle.values.specs.Views.{AreDeps, DepsView, IsInside, IsShort};
 
@@ -11,7 +12,8 @@ use std::marker::Model;
 
 /// What a rule reads: of the document, the selection, facets and fields those that it declares. Contracts see the document as
 /// its characters. A document has at most 16,777,216 characters, a selection that is shown with it lies in it, one that is shown
-/// without lies in some such document, and the numbers of values lie in the ranges of their types.
+/// without lies in some such document, its main range is one of its ranges, and the numbers of values lie in the ranges of their
+/// types.
 #[derive(Drop)]
 pub struct Deps {
     document: Option<Text>,
@@ -43,6 +45,7 @@ impl Deps {
         values: Listed<Option<Val>>,
     ) -> Deps
         requires short { IsShort (option_map (λ t. t.characters) document) }
+        requires is_selection { IfSome selection IsSelection }
         requires inside { IsInside (option_map (λ t. t.characters) document) selection }
         requires in_range { AreInRange values }
         ensures { result ≡ record { document = option_map (λ t. t.characters) document; selection = selection; values = values } }

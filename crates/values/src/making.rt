@@ -1,4 +1,4 @@
-ghost use Rattle.std.specs.Prelude.{ℕ, All, IfOk, Ok};
+ghost use Rattle.std.specs.Prelude.{◌≡◌, ℕ, All, IfOk, Ok, length};
 ghost use Rattle.transaction.specs.Numbers.{IsNumber};
 
 use std::alloc::{AllocError, Global};
@@ -11,7 +11,8 @@ pub fn one_each<T: Drop, F: Fn(u32) -> Result<T, AllocError>>(
     make: F,
 ) -> Result<Vec<T>, AllocError>
     requires { F.IsAlwaysCallable make }
-    ensures { IfOk result (λ rules. All (λ rule. (n : ℕ) × (IsNumber count n × F.post make n (Ok rule))) rules.items) }
+    ensures count { IfOk result (λ rules. length rules.items ≡ count) }
+    ensures numbers { IfOk result (λ rules. All (λ rule. (n : ℕ) × (IsNumber count n × F.post make n (Ok rule))) rules.items) }
 {
     let mut rules = Vec::new(alloc);
     for below in 0..count {

@@ -15,8 +15,8 @@ use std::marker::Model;
 use transaction::Annotation;
 
 /// What a rule is shown of a transaction (Reference Manual, Transaction). Contracts see documents as their characters. Neither
-/// document has more than 16,777,216 characters, the changes lead from the start document to the new one, each selection lies in
-/// its document, and the numbers of effects and annotations lie in the ranges of their types.
+/// document has more than 16,777,216 characters, the changes lead from the start document to the new one, each selection is one
+/// in normal form that lies in its document, and the numbers of effects and annotations lie in the ranges of their types.
 #[derive(Drop)]
 pub struct TrView {
     changes: ChangeSet,

@@ -1,7 +1,7 @@
 ghost use Rattle.std.specs.Prelude.{◌≡◌, ◌≤◌, length, IfOk, IfSome};
 ghost use Rattle.line_tree.specs.Text.{max_len};
 ghost use Rattle.change_desc.specs.Sections.{apply, old_size};
-ghost use Rattle.selection.specs.Selections.{LieIn};
+ghost use Rattle.selection.specs.Selections.{IsSelection, LieIn};
 ghost use Rattle.values.specs.InRange.{AreInRange, IsInRange};
 
 use crate::made::{Made, Of, plain_of, value_of};
@@ -75,6 +75,7 @@ fn cursor(alloc: Global, characters: &str, head: u32) -> Result<Deps, Fail> {
     if first_outside(selection.ranges(), text.len()).is_some() {
         return Err("a place in the text".into());
     }
+    selection.known();
     Ok(Deps::new(Some(text), Some(selection), Listed::empty(alloc)))
 }
 
@@ -159,9 +160,11 @@ fn notes(alloc: Global, values: Of<'_>, note: Note<'_>) -> Result<TrNotes, Fail>
 /// A document that isn't too long, with a cursor at its start.
 fn scene(alloc: Global, document: Text) -> Result<Scene, AllocError>
     ensures document { IfOk result (λ scene. scene.document ≡ document) }
+    ensures is_selection { IfOk result (λ scene. IsSelection scene.selection) }
     ensures inside { IfOk result (λ scene. LieIn (length document.characters) scene.selection.ranges) }
 {
     let selection = Selection::single(alloc, 0, 0)?;
+    selection.known();
     Ok(Scene {
         document,
         selection,
@@ -171,6 +174,7 @@ fn scene(alloc: Global, document: Text) -> Result<Scene, AllocError>
 /// The start of what is typed.
 fn start_of(alloc: Global, typed: Typed<'_>) -> Result<Scene, Fail>
     ensures short { IfOk result (λ scene. length scene.document.characters ≤ max_len) }
+    ensures is_selection { IfOk result (λ scene. IsSelection scene.selection) }
     ensures inside { IfOk result (λ scene. LieIn (length scene.document.characters) scene.selection.ranges) }
 {
     let document = text(alloc, typed.start)?;
@@ -182,6 +186,7 @@ fn end_of(alloc: Global, changes: &ChangeSet, start: &Text) -> Result<Scene, Fai
     requires { old_size changes.now ≡ length start.now.characters }
     ensures document { IfOk result (λ scene. scene.document.characters ≡ apply changes.now start.now.characters) }
     ensures short { IfOk result (λ scene. length scene.document.characters ≤ max_len) }
+    ensures is_selection { IfOk result (λ scene. IsSelection scene.selection) }
     ensures inside { IfOk result (λ scene. LieIn (length scene.document.characters) scene.selection.ranges) }
 {
     let document = changes.apply(start)?;
