@@ -1,6 +1,5 @@
-use Rattle.std.proofs.Common.{ℕ, ◌+◌, Ok, subst, arith}
+use Rattle.std.proofs.Common.{ℕ, ◌+◌, [], ◌∷◌, Ok, subst, arith, length-append}
 use Rattle.std.proofs.lemmas.List.Elements.{All-push}
-use Rattle.std.proofs.lemmas.List.Length.{length-append}
 use Rattle.transaction.specs.Numbers.{IsNumber}
 use Rattle.values.proofs.making.one_each.Goals as goal
 
