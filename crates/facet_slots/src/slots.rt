@@ -9,6 +9,8 @@ use crate::setup::Setup;
 use crate::transition::Transition;
 use crate::walk::kept_after;
 use configuration::{Config, Defs, Vertex};
+use line_tree::Text;
+use selection::Selection;
 use std::alloc::{AllocError, Global};
 use std::marker::{Model, PhantomData};
 use std::rc::Rc;
@@ -170,6 +172,43 @@ impl<M: Meanings> Slots<M> {
             kept,
             meanings: PhantomData,
         })
+    }
+
+    /// The definitions, which others may share. Takes no memory.
+    pub fn defs(&self) -> &Rc<Defs<Val>>
+        ensures { defs_of result.now.value ≡ self.now.setup.defs }
+    {
+        &self.defs
+    }
+
+    /// The configuration. Takes no memory.
+    pub fn config(&self) -> &Config
+        ensures { result.now ≡ self.now.setup.config }
+    {
+        &self.config
+    }
+
+    /// The document. Takes no memory.
+    pub fn document(&self) -> &Text
+        ensures { result.now.characters ≡ self.now.scene.document }
+    {
+        &self.kept.scene.document
+    }
+
+    /// The selection. Takes no memory.
+    pub fn selection(&self) -> &Selection
+        ensures { result.now ≡ self.now.scene.selection }
+    {
+        &self.kept.scene.selection
+    }
+
+    /// What may be relied on in slots. Takes no memory.
+    pub fn known(&self)
+        ensures resolved { IsResolved self.now.setup }
+        ensures lawful { IsLawful M.rules self.now.setup }
+        ensures is_scene { IsScene self.now.scene }
+    {
+        let _ = &self.kept;
     }
 
     /// The value of a facet that is declared. Takes no memory.

@@ -20,6 +20,7 @@ mod deps;
 mod effect_map;
 mod extender;
 mod kit;
+mod kit_maps;
 mod known;
 mod making;
 mod meanings;
