@@ -1,0 +1,3 @@
+pub mod CircleExamples
+pub mod Circling
+pub mod Rounds
