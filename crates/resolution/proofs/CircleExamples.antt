@@ -1,6 +1,5 @@
 -- Worked examples of circles.
-use Rattle.std.proofs.Common.{◌≡◌, List, [], ◌∷◌, Option, Some, None, refl}
-use Rattle.dep_graph.specs.declared.edge.Edge.{Edge}
+use Rattle.std.proofs.Common.{◌≡◌, [], ◌∷◌, Some, None, refl}
 use Rattle.dep_graph.specs.Order.{edge}
 use Rattle.resolution.specs.Circles.{circle_of}
 

@@ -1,17 +1,17 @@
 -- The circle of a graph is the one that the function finds, and where there is an order it finds none.
-use Rattle.std.proofs.Common.{◌≡◌, ◌⊎◌, ◌<◌, ◌≤◌, ◌+◌, ◌-◌, ◌++◌, ◌∙◌, ℕ, zero, suc, List, [], ◌∷◌, Bool, true, false, cond, not, eqb, length, reverse, fold, filter, find, min, Option, Some, None, refl, sym, ap, subst, ⊎_elim, inl, inr, arith, append_assoc}
-use Rattle.std.proofs.lemmas.Bool.{cases_Bool, cases_lt, eq-eqb, ne_eqb, true≢false}
+use Rattle.std.proofs.Common.{◌≡◌, ◌⊎◌, ◌<◌, ◌≤◌, ◌+◌, ◌-◌, ◌++◌, ◌∙◌, ℕ, zero, suc, List, [], ◌∷◌, Bool, true, false, not, eqb, length, reverse, fold, filter, find, min, Some, None, refl, sym, ap, subst, ⊎_elim, inl, inr, arith, append_assoc}
+use Rattle.std.proofs.lemmas.Bool.{cases_Bool, cases_lt, eq-eqb, ne_eqb}
 use Rattle.std.proofs.lemmas.List.{append-nil}
 use Rattle.std.specs.List.{AllByRecursion, range_with_len}
 use Rattle.id_lists.specs.Members.{In}
 use Rattle.id_lists.specs.Least.{lesser, least}
 use Rattle.dep_graph.specs.declared.edge.Edge.{Edge}
-use Rattle.dep_graph.specs.Order.{IsEdge, DependsOn, IsOrder, IsStuck, IsFirstStuck, IsNext, IsChain, AreDistinct, IsCircle}
+use Rattle.dep_graph.specs.Order.{IsEdge, DependsOn, IsOrder, IsFirstStuck, IsNext, IsChain, AreDistinct, IsCircle}
 use Rattle.dep_graph.specs.Counting.{has}
-use Rattle.dep_graph.proofs.Members.{in-end, in-more, in-reverse}
+use Rattle.dep_graph.proofs.Members.{in-end, in-reverse}
 use Rattle.dep_graph.proofs.Told.{has-in, in-has}
 use Rattle.dep_graph.proofs.Stuck.{edge-within}
-use Rattle.resolution.specs.Circles.{dependencies_of, can_order, is_stuck, first_stuck, next_stuck, from_visit, circle_after, circle_of}
+use Rattle.resolution.specs.Circles.{dependencies_of, is_stuck, first_stuck, next_stuck, from_visit, circle_after, circle_of}
 use Rattle.resolution.proofs.Rounds.{in-filter, from-filter, in-dependencies, from-dependencies, distinct-within, can-order, stuck-from, is-stuck}
 
 -- the least of a list is one of it that is no greater than any

@@ -1,7 +1,6 @@
 -- What can be ordered within as many rounds as there are vertices is what stands in an ordered list.
 use Rattle.std.proofs.Common.{◌≡◌, ◌<◌, ◌≤◌, ◌∙◌, ℕ, zero, suc, List, [], ◌∷◌, Bool, true, false, cond, not, eqb, nat_lt, map, filter, length, refl, sym, ap, subst, ⊎_elim, inl, inr, arith}
 use Rattle.std.proofs.lemmas.Bool.{cases_Bool, cases_eq, eq-eqb, eqb-true, ne_eqb, true≢false, and_parts, and_from, lt-ltb, ltb-true}
-use Rattle.std.proofs.lemmas.Map.Keys.{IsDistinct-cons}
 use Rattle.std.proofs.lemmas.Map.Steps.{length-le_from_distinct_below}
 use Rattle.std.specs.List.{list_all, AllByRecursion, IsDistinct}
 use Rattle.id_lists.specs.Members.{In}
