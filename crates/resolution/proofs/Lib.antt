@@ -1,0 +1,7 @@
+pub mod CircleExamples
+pub mod Circling
+pub mod Keeping
+pub mod ResolutionExamples
+pub mod Resolving
+pub mod Rounds
+pub mod SameTrees

@@ -1,0 +1,9 @@
+pub mod Circles
+pub mod Resolution
+pub use Rattle.compartments.specs.Contents
+pub use Rattle.configuration.specs.Config
+pub use Rattle.configuration.specs.Resolved
+pub use Rattle.ext_tree.specs.Flat
+pub use Rattle.ext_tree.specs.Refusal
+pub use Rattle.ext_tree.specs.Tree
+pub use Rattle.ext_tree.specs.Unfolding
