@@ -10,13 +10,15 @@ loop-cluster-init c =
     (ap graphemes_left c.into_iter-cluster-iterator.ensures.into_iter_gives ∙ c.graphemes-cluster-items.ensures.left)
 
 pub returns-then-is_full : goal.returns-then-is_full
-returns-then-is_full c = place_full (style_in c.args.styles.now) c.loop-cluster.place _ _ _ _ (sym c.is_full.ensures ∙ c.if-is_full.true) c.loop-cluster.invariant
+returns-then-is_full c =
+    place_full (style_in c.args.styles.now) c.loop-cluster.place _ _ _ _ _ _ _ c.in-Some.ensures.steps (sym c.is_full.ensures ∙ c.if-is_full.true)
+    c.leave_out.ensures c.loop-cluster.invariant
 
 pub loop-cluster-preserved : goal.loop-cluster-preserved
 loop-cluster-preserved c =
     place_step (style_in c.args.styles.now) c.loop-cluster.place _ _ _ _ _ _ _ _ c.in-Some.ensures.steps
     (ap (λ (n : ℕ). c.loop-cluster.place + n) c.char_count.ensures)
-    (rw (← c.style_in.ensures) c.in_ok-push_cluster.ensures) c.loop-cluster.invariant
+    (rw (← c.style_in-style.ensures) c.in_ok-push.ensures) c.loop-cluster.invariant
 
 pub returns : goal.returns
 returns c = place_end (style_in c.args.styles.now) c.loop-cluster.place _ _ _ _ c.in-None.ensures.steps.0 c.loop-cluster.invariant
