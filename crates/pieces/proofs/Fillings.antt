@@ -37,7 +37,7 @@ put_full : (f : FillingView) (p : PieceView) → is_full f ≡ true → put f p 
 put_full f p full = rw full refl
 
 -- where all is kept, the next piece is left out, and no other is kept
-pub put_all-full : (f : FillingView) (p : PieceView) (ps : List PieceView) → is_full f ≡ true → put_all f (p ∷ ps) ≡ ended f
+put_all-full : (f : FillingView) (p : PieceView) (ps : List PieceView) → is_full f ≡ true → put_all f (p ∷ ps) ≡ ended f
 unfolding put_all
 put_all-full f p ps full = ap (λ (g : FillingView). put_all g ps) (put_full f p full) ∙ put_all-over (ended f) ps refl
 

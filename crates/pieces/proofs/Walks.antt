@@ -12,8 +12,8 @@ use Rattle.cells.proofs.Layouts.{clusters-bytes}
 use Rattle.pieces.specs.Items.{ItemView, item_piece}
 use Rattle.pieces.specs.Piece.{PieceView}
 use Rattle.pieces.specs.Styles.{plain}
-use Rattle.pieces.specs.Filling.{FillingView, ended, is_full, put, put_all}
-use Rattle.pieces.proofs.Fillings.{put_all-append, put_all-full, put_all-over}
+use Rattle.pieces.specs.Filling.{FillingView, put, put_all}
+use Rattle.pieces.proofs.Fillings.{put_all-append, put_all-over}
 use Rattle.pieces.specs.Pieces.{BlockView, by_clusters, cluster_piece, run, style_in, up_to, walked}
 
 -- how many characters pieces of text have together
@@ -105,11 +105,8 @@ place_fits f place g left rest filling all end taken before =
     let place_is = rw taken at before.place_is in
     omega (arith, place_is)
 
-pub place_full : (f : ℕ → Style) (place : ℕ) (g : List ℕ) (left rest : List (List ℕ)) (filling now all : FillingView) (end : ℕ) → left ≡ g ∷ rest → is_full filling ≡ true → now ≡ ended filling → Placing f place left filling all end → now ≡ all
-unfolding by_clusters
-place_full f place g left rest filling now all end taken full is before =
-    let goes = rw taken at before.puts in
-    is ∙ sym (put_all-full filling (cluster_piece f place (chars g)) (by_clusters f (place + length (chars g)) (map chars rest)) full) ∙ goes
+pub place_over : (f : ℕ → Style) (place : ℕ) (left : List (List ℕ)) (filling all : FillingView) (end : ℕ) → filling.over ≡ true → Placing f place left filling all end → filling ≡ all
+place_over f place left filling all end over before = sym (put_all-over filling (by_clusters f place (map chars left)) over) ∙ before.puts
 
 pub place_end : (f : ℕ → Style) (place : ℕ) (left : List (List ℕ)) (filling all : FillingView) (end : ℕ) → left ≡ [] → Placing f place left filling all end → filling ≡ all
 unfolding by_clusters put_all

@@ -360,8 +360,7 @@ fn push_clusters(
 {
     let mut place = base;
     for cluster in text.graphemes(true) {
-        if filling.is_full() {
-            filling.leave_out();
+        if filling.is_over() {
             return Ok(());
         }
         let style = style_in(styles, place);

@@ -1,7 +1,7 @@
 // Pieces that are put one after the other, of which those that are wanted are kept.
 ghost use Rattle.std.specs.Prelude.{◌≡◌, ◌+◌, ◌*◌, ◌-◌, ◌^◌, ◌≤◌, chars, IfOk, OnOk};
 ghost use Rattle.pieces.specs.Edge.{is_past};
-ghost use Rattle.pieces.specs.Filling.{GoalFits, after, begun, ended, is_full, is_passed, is_reached, put, width_in};
+ghost use Rattle.pieces.specs.Filling.{GoalFits, after, begun, is_full, is_passed, is_reached, put, width_in};
 
 use crate::edge::Edge;
 use crate::goal::Goal;
@@ -47,7 +47,7 @@ impl Filling {
     }
 
     /// Whether all that is wanted is kept.
-    pub(crate) fn is_full(&self) -> bool
+    fn is_full(&self) -> bool
         ensures { result ≡ is_full self.now }
     {
         self.over || is_reached(self.goal, !self.pieces.is_empty(), self.at)
@@ -58,13 +58,6 @@ impl Filling {
         ensures { result ≡ self.now.over }
     {
         self.over
-    }
-
-    /// Leaves a piece out.
-    pub(crate) fn leave_out(&mut self)
-        ensures { self.new ≡ ended self.old }
-    {
-        self.over = true;
     }
 
     /// Puts a piece; its text is copied only if it is kept. `Err`: out of memory.
@@ -79,7 +72,7 @@ impl Filling {
         ensures { OnOk result (self.new ≡ put self.old (record { place = place; text = chars text.now; style = style; before_cursor = before_cursor })) }
     {
         if self.is_full() {
-            self.leave_out();
+            self.over = true;
             return Ok(());
         }
         let end = end_of(self.goal, self.at, text)?;
