@@ -283,11 +283,11 @@ framed_whole left cols at (g ∷ gs) fit = by (nat_le left at) refl (framed_whol
   }
 
 -- a row shows whole groups of its block's pieces
-pub row_whole : (tab cols left : ℕ) (p : PiecesView) → ShowsWhole (groups_of tab 0 p.pieces) (row_of tab cols left p)
+pub row_whole : (tab cols left : ℕ) (p : PiecesView) → ShowsWhole (groups_of tab p.start p.pieces) (row_of tab cols left p)
 row_whole tab cols left p =
-    let shown = pieces_in_window tab left cols 0 p.pieces in
+    let shown = pieces_in_window tab left cols p.start p.pieces in
     let bare = replicate (cols - length shown) (in_style p.style blank) in
-    let r = framed_whole left cols 0 (groups_of tab 0 p.pieces) (groups_fit left cols tab 0 p.pieces) in
+    let r = framed_whole left cols p.start (groups_of tab p.start p.pieces) (groups_fit left cols tab p.start p.pieces) in
     record {
       before = r.before;
       shown = r.shown;
@@ -295,7 +295,7 @@ row_whole tab cols left p =
       start = r.start;
       end = r.end ++ bare;
       in_order = r.in_order;
-      cells = ap (λ (cs : List StyledCell). cs ++ bare) (sym (framed_pieces tab left cols 0 p.pieces) ∙ r.cells) ∙ append_assoc (r.start ++ cells_in r.shown) r.end bare;
+      cells = ap (λ (cs : List StyledCell). cs ++ bare) (sym (framed_pieces tab left cols p.start p.pieces) ∙ r.cells) ∙ append_assoc (r.start ++ cells_in r.shown) r.end bare;
       blank_start = r.blank_start;
       blank_end = All-append IsBlank _ _ r.blank_end (All-replicate IsBlank (cols - length shown) (in_style p.style blank) refl);
     }

@@ -44,6 +44,15 @@ pieces_past tab left cols at [] past = refl
 pieces_past tab left cols at (piece ∷ pieces) past =
     rw (cells_past left cols piece.style at (cells_of tab at piece.text) past) (pieces_past tab left cols (at + length (cells_of tab at piece.text)) pieces (omega arith))
 
+-- before the left edge nothing is shown
+before_edge : (left cols at : ℕ) → at < left → (nat_le left at && nat_lt (at - left) cols) ≡ false
+before_edge left cols at before = grind (arith, nat_tests)
+
+pub cells_before : (left cols : ℕ) (style : Style) (at : ℕ) (cells : List Shown) → at + length cells ≤ left → in_window left cols style at cells ≡ []
+unfolding in_window
+cells_before left cols style at [] before = refl
+cells_before left cols style at (cell ∷ cells) before = rw (before_edge left cols at (omega arith)) (cells_before left cols style (at + 1) cells (omega arith))
+
 -- so a row is whole once it came to the edge
 pub edge_end : (tab left cols at : ℕ) (pieces : List PieceView) (done all : List StyledCell) → left + cols ≤ at → done ++ pieces_in_window tab left cols at pieces ≡ all → done ≡ all
 edge_end tab left cols at pieces done all past goes = sym (append-nil done) ∙ (rw (pieces_past tab left cols at pieces past) at goes)
@@ -86,9 +95,9 @@ pieces_room tab left cols at (piece ∷ pieces) =
 -- a row has exactly as many cells as the window has columns
 pub length-row : (tab cols left : ℕ) (p : PiecesView) → length (row_of tab cols left p) ≡ cols
 length-row tab cols left p =
-    let shown = pieces_in_window tab left cols 0 p.pieces in
+    let shown = pieces_in_window tab left cols p.start p.pieces in
     let bare : StyledCell = record { cell = blank; style = p.style } in
-    omega (arith, pieces_room tab left cols 0 p.pieces, length-append shown (replicate (cols - length shown) bare), length-replicate (cols - length shown) bare)
+    omega (arith, pieces_room tab left cols p.start p.pieces, length-append shown (replicate (cols - length shown) bare), length-replicate (cols - length shown) bare)
 
 -- the next of a list's items, and those after it
 pub drop_item : {X : Type 0} (xs : List X) (i : ℕ) (x : X) → i < length xs → x ≡ get_or xs i x → drop i xs ≡ x ∷ drop (i + 1) xs

@@ -34,4 +34,4 @@ filled cols style cells = cells ++ replicate (cols - length cells) (record { cel
 -- Row: the cells in the columns from `left` to `left + cols - 1` of a block's pieces, and blanks in the block's style after the
 -- text.
 abbrev pub row_of : ℕ → ℕ → ℕ → PiecesView → List StyledCell
-row_of tab cols left p = filled cols p.style (pieces_in_window tab left cols 0 p.pieces)
+row_of tab cols left p = filled cols p.style (pieces_in_window tab left cols p.start p.pieces)

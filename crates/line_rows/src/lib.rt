@@ -14,6 +14,6 @@ mod runs;
 pub use blocks::{Block, Blocks};
 pub use columns::column_of;
 pub use cursor::Cursor;
-pub use pieces::{Edge, Piece, Pieces, pieces, pieces_before, same_style};
+pub use pieces::{Edge, Piece, Pieces, piece_at, pieces, same_style, shown_pieces};
 pub use rows::{StyledCell, row};
 pub use runs::{Run, runs_of};

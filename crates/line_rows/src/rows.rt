@@ -5,7 +5,7 @@ ghost use Rattle.line_rows.specs.Row.{filled, in_window, pieces_in_window, row_o
 
 use cells::{Cell, cells_of};
 use decoration::Style;
-use pieces::{Piece, Pieces};
+use pieces::Pieces;
 use std::alloc::{AllocError, Global};
 use std::sync::ledger::Ledger;
 use steps::Steps;
@@ -33,7 +33,7 @@ pub fn row<L: Ledger>(
     requires few { cols ≤ 500 }
     ensures value { IfOk result (λ cells. cells.items ≡ row_of tab cols left pieces.now) }
     ensures length { IfOk result (λ cells. length cells.items ≡ cols) }
-    ensures whole { IfOk result (λ cells. ShowsWhole (groups_of tab 0 pieces.now.pieces) cells.items) }
+    ensures whole { IfOk result (λ cells. ShowsWhole (groups_of tab pieces.now.start pieces.now.pieces) cells.items) }
     ensures counted { laid.new ≡ laid.old + 1 }
 {
     laid.tick();
@@ -55,7 +55,7 @@ fn cells_of_row(
     ensures { IfOk result (λ cells. cells.items ≡ row_of tab cols left pieces.now) }
 {
     let mut row = Vec::new(alloc);
-    push_pieces(alloc, &mut row, pieces.list(), tab, cols, left)?;
+    push_pieces(alloc, &mut row, pieces, tab, cols, left)?;
     fill(&mut row, pieces.style(), cols)?;
     Ok(row)
 }
@@ -64,17 +64,17 @@ fn cells_of_row(
 fn push_pieces(
     alloc: Global,
     row: &mut Vec<StyledCell>,
-    pieces: &[Piece],
+    pieces: &Pieces,
     tab: u8,
     cols: u32,
     left: u128,
 ) -> Result<(), AllocError>
     requires positive { 0 < tab }
     requires small { tab ≤ 16 }
-    ensures { OnOk result (row.new.items ≡ row.old.items ++ pieces_in_window tab left cols 0 pieces.now) }
+    ensures { OnOk result (row.new.items ≡ row.old.items ++ pieces_in_window tab left cols pieces.now.start pieces.now.pieces) }
 {
-    let mut at = 0;
-    for piece in pieces {
+    let mut at = pieces.start();
+    for piece in pieces.list() {
         if at >= left && at - left >= cols as u128 {
             return Ok(());
         }

@@ -1,7 +1,10 @@
 pub mod Covering
 pub mod Fillings
 pub mod Gathering
+pub mod Parts
+pub mod Prefixes
 pub mod Ruled
 pub mod SameText
 pub mod Shades
+pub mod Tells
 pub mod Walks

@@ -1,6 +1,6 @@
 -- Equality of styles, texts and pieces, as tests.
 use lib.Pointwise.{pointwise, bytes_decides}
-use Rattle.std.proofs.Common.{◌≡◌, ◌↔◌, ℕ, Bool, true, false, nat_eq, List, [], ◌∷◌, map, Option, Some, None, IsTrue, refl, sym, ap, ◌∙◌}
+use Rattle.std.proofs.Common.{◌≡◌, ◌↔◌, ℕ, ◌&&◌, Bool, true, false, nat_eq, List, [], ◌∷◌, map, Option, Some, None, IsTrue, refl, sym, ap, ◌∙◌}
 use Rattle.std.specs.Str.{IsUtf8, chars, bytes_eq}
 use Rattle.std.specs.Prelude.{encode_utf8_all}
 use Rattle.std.proofs.lemmas.Str.{encodes-chars}
@@ -100,11 +100,16 @@ list_test (p ∷ ps) (q ∷ qs) e =
 -- the test holds exactly of pieces that look the same
 pub same_pieces-is : (a b : PiecesView) → same_pieces a b ≡ true → look_of a ≡ look_of b
 same_pieces-is a b same =
-    let parts = and_parts (same_style a.style b.style) (pointwise same_piece a.pieces b.pieces) same in
-    λ i. (same_style-is a.style b.style parts.0 i, list_is a.pieces b.pieces parts.1 i)
+    let parts = and_parts (same_style a.style b.style && nat_eq a.start b.start) (pointwise same_piece a.pieces b.pieces) same in
+    let head = and_parts (same_style a.style b.style) (nat_eq a.start b.start) parts.0 in
+    λ i. (same_style-is a.style b.style head.0 i, eqb-true a.start b.start head.1 i, list_is a.pieces b.pieces parts.1 i)
+
+same_pieces-test : (a b : PiecesView) → look_of a ≡ look_of b → same_pieces a b ≡ true
+same_pieces-test a b e =
+    let style : a.style ≡ b.style = ap (λ (r : Style × ℕ × List (List ℕ × Style)). r.0) e in
+    let start : a.start ≡ b.start = ap (λ (r : Style × ℕ × List (List ℕ × Style)). r.1) e in
+    let list : map look a.pieces ≡ map look b.pieces = ap (λ (r : Style × ℕ × List (List ℕ × Style)). r.2) e in
+    and_from _ _ (and_from _ _ (style_test a.style b.style style) (eq-eqb a.start b.start start)) (list_test a.pieces b.pieces list)
 
 pub pieces_same : (a b : PiecesView) (result : Bool) → result ≡ same_pieces a b → IsTrue result ↔ (look_of a ≡ look_of b)
-pieces_same a b result is = (
-  λ same. same_pieces-is a b (sym is ∙ same),
-  λ e. is ∙ and_from _ _ (style_test a.style b.style (ap (λ (r : Style × List (List ℕ × Style)). r.0) e)) (list_test a.pieces b.pieces (ap (λ (r : Style × List (List ℕ × Style)). r.1) e)),
-)
+pieces_same a b result is = (λ same. same_pieces-is a b (sym is ∙ same), λ e. is ∙ same_pieces-test a b e)

@@ -10,9 +10,10 @@ use Rattle.line_tree.specs.Text.{slice}
 use Rattle.cells.specs.Layout.{clusters}
 use Rattle.cells.proofs.Layouts.{clusters-bytes}
 use Rattle.pieces.specs.Items.{ItemView, item_piece}
+use Rattle.pieces.specs.Piece.{PieceView}
 use Rattle.pieces.specs.Styles.{plain}
-use Rattle.pieces.specs.Filling.{FillingView, is_full, put, put_all}
-use Rattle.pieces.proofs.Fillings.{put_all-append, put_full}
+use Rattle.pieces.specs.Filling.{FillingView, put, put_all}
+use Rattle.pieces.proofs.Fillings.{put_all-append, put_all-over}
 use Rattle.pieces.specs.Pieces.{BlockView, by_clusters, cluster_piece, run, style_in, up_to, walked}
 
 -- how many characters pieces of text have together
@@ -104,8 +105,8 @@ place_fits f place g left rest filling all end taken before =
     let place_is = rw taken at before.place_is in
     omega (arith, place_is)
 
-pub place_full : (f : ℕ → Style) (place : ℕ) (left : List (List ℕ)) (filling all : FillingView) (end : ℕ) → is_full filling ≡ true → Placing f place left filling all end → filling ≡ all
-place_full f place left filling all end full before = put_full filling (by_clusters f place (map chars left)) all full before.puts
+pub place_over : (f : ℕ → Style) (place : ℕ) (left : List (List ℕ)) (filling all : FillingView) (end : ℕ) → filling.over ≡ true → Placing f place left filling all end → filling ≡ all
+place_over f place left filling all end over before = sym (put_all-over filling (by_clusters f place (map chars left)) over) ∙ before.puts
 
 pub place_end : (f : ℕ → Style) (place : ℕ) (left : List (List ℕ)) (filling all : FillingView) (end : ℕ) → left ≡ [] → Placing f place left filling all end → filling ≡ all
 unfolding by_clusters put_all
@@ -139,6 +140,10 @@ pub walk_step : (b : BlockView) (at now : ℕ) (x : ItemView) (left xs : List It
 unfolding walked
 walk_step b at now x left xs filling more all taken further adds goes =
     rw (adds, further) (sym (put_all-append filling (up_to b at x) (walked b (max at x.to) xs)) ∙ (rw taken at goes))
+
+-- where a piece was left out, nothing more is kept
+pub walk_over : (filling : FillingView) (ps : List PieceView) (all : FillingView) → filling.over ≡ true → put_all filling ps ≡ all → filling ≡ all
+walk_over filling ps all over goes = sym (put_all-over filling ps over) ∙ goes
 
 pub walk_end : (b : BlockView) (at : ℕ) (left : List ItemView) (filling more all : FillingView) → left ≡ [] → more ≡ put_all filling (run b at b.to) → put_all filling (walked b at left) ≡ all → more ≡ all
 unfolding walked

@@ -7,5 +7,7 @@ pub mod ItemOrder
 pub mod Pieces
 pub mod Blocks
 pub mod Rules
+pub mod Widths
 pub mod Edge
+pub mod Standing
 pub mod Filling

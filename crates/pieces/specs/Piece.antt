@@ -10,7 +10,8 @@ pub record PieceView : Type 0 where
   pub style : Style
   pub before_cursor : Bool
 
--- the pieces of a block in their order, and the block's own style
+-- pieces of a block in their order, the column in which the first of them begins, and the block's own style
 pub record PiecesView : Type 0 where
   pub style : Style
+  pub start : ℕ
   pub pieces : List PieceView

@@ -67,4 +67,4 @@ ruled b items = parted b (is_hidden items) b.from (slice b.from b.to b.text) (dr
 -- Pieces: those of the block of a text from one place to another, and the block's style.
 abbrev pub pieces_of : List ℕ → (from to : ℕ) → List (List (Ranged Deco)) → List Range → PiecesView
 pieces_of text from to layers ranges =
-    record { style = block_style from layers; pieces = ruled (block_of text from to layers ranges) (items_of from to layers) }
+    record { style = block_style from layers; start = 0; pieces = ruled (block_of text from to layers ranges) (items_of from to layers) }

@@ -1,19 +1,21 @@
 // Cutting a block into its pieces.
-ghost use Rattle.std.specs.Prelude.{false, ◌≡◌, ◌+◌, ◌-◌, ◌<◌, ◌≤◌, ◌^◌, length, chars, IfOk, OnOk};
+ghost use Rattle.std.specs.Prelude.{◌≡◌, ◌+◌, ◌-◌, ◌<◌, ◌≤◌, ◌^◌, length, chars, IfOk, IfSome, OnOk};
 ghost use Rattle.std.specs.String.{string_bytes};
 ghost use Rattle.line_tree.specs.Text.{slice};
 ghost use Rattle.cells.specs.Layout.{clusters};
 ghost use Rattle.pieces.specs.Pieces.{block_of, by_clusters, run, style_in, up_to, walked};
 ghost use Rattle.pieces.specs.Blocks.{AreStyled, shown_block};
 ghost use Rattle.pieces.specs.Edge.{cut_at};
-ghost use Rattle.pieces.specs.Filling.{EdgeFits, cut_if, put, put_all};
+ghost use Rattle.pieces.specs.Standing.{piece_at};
+ghost use Rattle.pieces.specs.Filling.{GoalFits, all_put, put_all, wanted};
 ghost use Rattle.pieces.specs.Rules.{pieces_of};
 
 use crate::edge::Edge;
 use crate::filling::Filling;
+use crate::goal::Goal;
 use crate::item::Item;
 use crate::items::items_of;
-use crate::piece::{Piece, Pieces};
+use crate::piece::Pieces;
 use crate::shading::{block_style, style_ranges};
 use crate::style_range::{StyleRange, styles_of};
 use decoration::{Layers, Style};
@@ -47,11 +49,12 @@ pub fn pieces(
     requires within { to ≤ length text.now.characters }
     ensures { IfOk result (λ pieces. pieces ≡ pieces_of text.now.characters from to layers.now selection.now.ranges) }
 {
-    pieces_if(alloc, text, from, to, layers, selection, None)
+    whole_block(alloc, text, from, to, layers, selection, Goal::Whole)
 }
 
-/// Those of them that begin before the edge. `Err`: out of memory.
-pub fn pieces_before(
+/// Those of them that a window shows: from the first that ends after its left edge to the last that begins before its right
+/// edge. `Err`: out of memory.
+pub fn shown_pieces(
     alloc: Global,
     text: &Text,
     from: u32,
@@ -66,28 +69,138 @@ pub fn pieces_before(
     requires small { edge.tab ≤ 16 }
     ensures { IfOk result (λ pieces. pieces ≡ cut_at edge (pieces_of text.now.characters from to layers.now selection.now.ranges)) }
 {
-    pieces_if(alloc, text, from, to, layers, selection, Some(edge))
+    let columns = edge.left.saturating_add(edge.cols as u128);
+    let len = columns.min(u32::MAX as u128) as u32;
+    let goal = Goal::Shown(edge);
+    growing_part(alloc, text, from, to, layers, selection, goal, len)
 }
 
-/// The pieces, up to the edge where there is one.
-fn pieces_if(
+/// The one of them that stands at the cursor's place `pos`, which counts characters from the block's start, if one does.
+/// `Err`: out of memory.
+pub fn piece_at(
     alloc: Global,
     text: &Text,
     from: u32,
     to: u32,
     layers: &Layers,
     selection: &Selection,
-    edge: Option<Edge>,
+    tab: u8,
+    pos: u32,
 ) -> Result<Pieces, AllocError>
     requires order { from ≤ to }
     requires within { to ≤ length text.now.characters }
-    requires edge { EdgeFits edge }
-    ensures { IfOk result (λ pieces. pieces ≡ cut_if edge (pieces_of text.now.characters from to layers.now selection.now.ranges)) }
+    requires positive { 0 < tab }
+    requires small { tab ≤ 16 }
+    ensures { IfOk result (λ pieces. pieces ≡ piece_at tab pos (pieces_of text.now.characters from to layers.now selection.now.ranges)) }
+{
+    let goal = Goal::At { tab, pos };
+    let len = pos.saturating_add(1);
+    growing_part(alloc, text, from, to, layers, selection, goal, len)
+}
+
+/// The pieces that are wanted of a block, found in a part from its start: one character more than `len`, then twice as many,
+/// and so on, until a piece after those that are wanted was met.
+fn growing_part(
+    alloc: Global,
+    text: &Text,
+    from: u32,
+    to: u32,
+    layers: &Layers,
+    selection: &Selection,
+    goal: Goal,
+    len: u32,
+) -> Result<Pieces, AllocError>
+    requires order { from ≤ to }
+    requires within { to ≤ length text.now.characters }
+    requires goal { GoalFits goal }
+    ensures { IfOk result (λ pieces. pieces ≡ wanted goal (pieces_of text.now.characters from to layers.now selection.now.ranges)) }
+{
+    let mut len = len.saturating_add(1);
+    for _ in 0..32 {
+        let stop = part_end(from, to, len);
+        let found = in_part(alloc, text, from, stop, to, layers, selection, goal)?;
+        if let Some(pieces) = found {
+            return Ok(pieces);
+        }
+        len = len.saturating_mul(2);
+    }
+    whole_block(alloc, text, from, to, layers, selection, goal)
+}
+
+/// Where a part of so many characters of a block ends.
+fn part_end(from: u32, to: u32, len: u32) -> u32
+    requires { from ≤ to }
+    ensures starts { from ≤ result }
+    ensures ends { result ≤ to }
+{
+    from + (to - from).min(len)
+}
+
+/// The pieces that are wanted of a block, if its part up to the place `stop` tells.
+fn in_part(
+    alloc: Global,
+    text: &Text,
+    from: u32,
+    stop: u32,
+    to: u32,
+    layers: &Layers,
+    selection: &Selection,
+    goal: Goal,
+) -> Result<Option<Pieces>, AllocError>
+    requires order { from ≤ stop }
+    requires part { stop ≤ to }
+    requires within { to ≤ length text.now.characters }
+    requires goal { GoalFits goal }
+    ensures { IfOk result (λ found. IfSome found (λ pieces. pieces ≡ wanted goal (pieces_of text.now.characters from to layers.now selection.now.ranges))) }
+{
+    let filling = filling_of(alloc, text, from, stop, layers, selection, goal)?;
+    if stop == to {
+        return Ok(Some(filling.into_pieces()));
+    }
+    if filling.is_over() {
+        return Ok(Some(filling.into_pieces()));
+    }
+    Ok(None)
+}
+
+/// The pieces that are wanted of a block.
+fn whole_block(
+    alloc: Global,
+    text: &Text,
+    from: u32,
+    to: u32,
+    layers: &Layers,
+    selection: &Selection,
+    goal: Goal,
+) -> Result<Pieces, AllocError>
+    requires order { from ≤ to }
+    requires within { to ≤ length text.now.characters }
+    requires goal { GoalFits goal }
+    ensures { IfOk result (λ pieces. pieces ≡ wanted goal (pieces_of text.now.characters from to layers.now selection.now.ranges)) }
+{
+    let filling = filling_of(alloc, text, from, to, layers, selection, goal)?;
+    Ok(filling.into_pieces())
+}
+
+/// All pieces of a block put, of which those that are wanted are kept.
+fn filling_of(
+    alloc: Global,
+    text: &Text,
+    from: u32,
+    to: u32,
+    layers: &Layers,
+    selection: &Selection,
+    goal: Goal,
+) -> Result<Filling, AllocError>
+    requires order { from ≤ to }
+    requires within { to ≤ length text.now.characters }
+    requires goal { GoalFits goal }
+    ensures { IfOk result (λ filling. filling ≡ all_put goal (pieces_of text.now.characters from to layers.now selection.now.ranges)) }
 {
     let block = block_of(alloc, text, from, to, layers, selection)?;
     let items = items_of(alloc, layers, from, to)?;
-    let pieces = walked(alloc, &block, items, edge)?;
-    Ok(pieces)
+    let filling = walked(alloc, &block, items, goal)?;
+    Ok(filling)
 }
 
 fn block_of<'a>(
@@ -115,22 +228,22 @@ fn block_of<'a>(
     })
 }
 
-/// The pieces of the block, in which these items stand, up to the edge where there is one.
+/// The pieces of the block, in which these items stand, put of which those that are wanted are kept.
 fn walked(
     alloc: Global,
     block: &Block<'_>,
     items: Vec<Item>,
-    edge: Option<Edge>,
-) -> Result<Pieces, AllocError>
+    goal: Goal,
+) -> Result<Filling, AllocError>
     requires order { block.now.from ≤ block.now.to }
     requires within { block.now.to ≤ length block.now.text.now.characters }
     requires styled { AreStyled block.now }
-    requires edge { EdgeFits edge }
-    ensures { IfOk result (λ pieces. pieces ≡ cut_if edge (record { style = block.now.style; pieces = walked (shown_block block.now) block.now.from items.items })) }
+    requires goal { GoalFits goal }
+    ensures { IfOk result (λ filling. filling ≡ all_put goal (record { style = block.now.style; start = 0; pieces = walked (shown_block block.now) block.now.from items.items })) }
 {
-    let mut filling = Filling::new(alloc, block.style, edge);
+    let mut filling = Filling::new(alloc, block.style, goal);
     push_items(alloc, &mut filling, block, items)?;
-    Ok(filling.into_pieces())
+    Ok(filling)
 }
 
 /// Puts the pieces of the block, in which these items stand.
@@ -147,12 +260,11 @@ fn push_items(
 {
     let mut at = block.from;
     for item in items {
-        if filling.is_full() {
+        if filling.is_over() {
             return Ok(());
         }
-        let to = item.to;
-        push_up_to(alloc, filling, block, at, item)?;
-        at = at.max(to);
+        push_up_to(alloc, filling, block, at, &item)?;
+        at = at.max(item.to);
     }
     push_run(alloc, filling, block, at, block.to)?;
     Ok(())
@@ -164,16 +276,16 @@ fn push_up_to(
     filling: &mut Filling,
     block: &Block<'_>,
     at: u32,
-    item: Item,
+    item: &Item,
 ) -> Result<(), AllocError>
     requires within { block.now.to ≤ length block.now.text.now.characters }
     requires started { block.now.from ≤ at }
     requires styled { AreStyled block.now }
-    ensures { OnOk result (filling.new ≡ put_all filling.old (up_to (shown_block block.now) at item)) }
+    ensures { OnOk result (filling.new ≡ put_all filling.old (up_to (shown_block block.now) at item.now)) }
 {
     if at <= item.place {
         push_run(alloc, filling, block, at, item.place)?;
-        filling.push(item.into_piece(block.from, block.style))?;
+        item.push_to(alloc, filling, block.from, block.style)?;
     }
     Ok(())
 }
@@ -193,9 +305,6 @@ fn push_run(
 {
     let end = end.min(block.to);
     if at >= end {
-        return Ok(());
-    }
-    if filling.is_full() {
         return Ok(());
     }
     push_some(alloc, filling, block, at, end)
@@ -251,10 +360,11 @@ fn push_clusters(
 {
     let mut place = base;
     for cluster in text.graphemes(true) {
-        if filling.is_full() {
+        if filling.is_over() {
             return Ok(());
         }
-        push_cluster(alloc, filling, cluster, place, style_in(styles, place))?;
+        let style = style_in(styles, place);
+        filling.push(alloc, place, cluster, style, false)?;
         place += char_count(cluster) as u32;
     }
     Ok(())
@@ -268,20 +378,6 @@ fn style_in(styles: &[Style], place: u32) -> Style
         .get(place as usize)
         .copied()
         .unwrap_or(Style::plain())
-}
-
-fn push_cluster(
-    alloc: Global,
-    filling: &mut Filling,
-    cluster: &str,
-    place: u32,
-    style: Style,
-) -> Result<(), AllocError>
-    ensures { OnOk result (filling.new ≡ put filling.old (record { place = place; text = chars cluster.now; style = style; before_cursor = false })) }
-{
-    let text = String::from_str(alloc, cluster)?;
-    filling.push(Piece::new(place, text, style, false))?;
-    Ok(())
 }
 
 fn char_count(text: &str) -> usize

@@ -1,4 +1,4 @@
-/// The right edge of a window that shows the columns from `left` to `left + cols - 1`, where tabs stop at multiples of `tab`
+/// The edges of a window that shows the columns from `left` to `left + cols - 1`, where tabs stop at multiples of `tab`
 /// columns, from 1 to 16.
 #[derive(Clone, Copy, Drop)]
 pub struct Edge {

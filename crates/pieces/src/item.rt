@@ -1,13 +1,14 @@
 // The widgets and replacements of a block.
-ghost use Rattle.std.specs.Prelude.{◌≡◌, ◌-◌, ◌≤◌, chars};
-ghost use Rattle.std.specs.String.{string_bytes};
-ghost use Rattle.pieces.specs.Items.{ItemView, item_before, is_before_cursor, item_piece, rank};
+ghost use Rattle.std.specs.Prelude.{◌≡◌, ◌≤◌, OnOk};
+ghost use Rattle.pieces.specs.Filling.{put};
+ghost use Rattle.pieces.specs.Items.{item_before, is_before_cursor, item_piece, rank};
 ghost use Rattle.pieces.specs.ItemOrder.{item_before-order};
 
-use crate::piece::Piece;
+use crate::filling::Filling;
 use crate::styles::over;
 use decoration::{MAX_SIDE, Style};
 use stable_order::Ranked;
+use std::alloc::{AllocError, Global};
 use std::cmp::Ordering;
 use std::marker::Model;
 
@@ -53,17 +54,24 @@ impl Item {
         }
     }
 
-    /// The piece that shows it, in a block that starts at the place `from` and has a style of its own.
-    pub(crate) fn into_piece(self, from: u32, line: Style) -> Piece
-        requires { from ≤ self.place }
-        ensures { result ≡ item_piece from line self }
+    /// Puts the piece that shows it, in a block that starts at the place `from` and has a style of its own. `Err`: out of
+    /// memory.
+    pub(crate) fn push_to(
+        &self,
+        alloc: Global,
+        filling: &mut Filling,
+        from: u32,
+        line: Style,
+    ) -> Result<(), AllocError>
+        requires { from ≤ self.now.place }
+        ensures { OnOk result (filling.new ≡ put filling.old (item_piece from line self.now)) }
     {
-        let before_cursor = self.is_before_cursor();
-        Piece::new(
+        filling.push(
+            alloc,
             self.place - from,
-            self.text,
+            self.text.as_str(),
             over(line, self.style),
-            before_cursor,
+            self.is_before_cursor(),
         )
     }
 }

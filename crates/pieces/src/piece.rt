@@ -1,8 +1,9 @@
 // The pieces of a block.
 ghost use lib.Pointwise.{pointwise};
-ghost use Rattle.std.specs.Prelude.{◌≡◌, ◌↔◌, ◌<◌, ◌≤◌, ◌^◌, [], ◌∷◌, ◌++◌, chars, length, IsTrue, OnOk, OnErr};
+ghost use Rattle.std.specs.Prelude.{◌≡◌, ◌↔◌, ◌≤◌, ◌^◌, [], ◌∷◌, ◌++◌, not, chars, length, IsTrue, OnOk, OnErr};
 ghost use Rattle.std.specs.Str.{bytes_eq};
 ghost use Rattle.std.specs.String.{string_bytes};
+ghost use Rattle.pieces.specs.Filling.{has_piece};
 ghost use Rattle.pieces.specs.SamePieces.{look_of, same_piece, same_pieces};
 
 use crate::styles::same_style;
@@ -84,10 +85,12 @@ fn same_text(a: &str, b: &str) -> bool
     a == b
 }
 
-/// The pieces of a block in their order, and the block's own style. There are at most 2 ^ 60.
+/// Pieces of a block in their order, at most 2 ^ 58, with the column in which the first of them begins, and the block's own
+/// style.
 #[derive(Drop)]
 pub struct Pieces {
     style: Style,
+    start: u128,
     list: Vec<Piece>,
 }
 
@@ -97,29 +100,37 @@ impl Model for Pieces {
 
     ghost Value = { PiecesView };
 
-    ghost view = { λ p. record { style = p.style; pieces = p.list.items } };
+    ghost view = { λ p. record { style = p.style; start = p.start; pieces = p.list.items } };
 
-    ghost invariant = { λ p. length p.list.items ≤ 2 ^ 60 };
+    ghost invariant = { λ p. (p.start ≤ 2 ^ 126) × (length p.list.items ≤ 2 ^ 58) };
 }
 
 impl Pieces {
     /// No pieces, in a block of this style.
     pub fn none(alloc: Global, style: Style) -> Pieces
-        ensures { result ≡ record { style = style; pieces = [] } }
+        ensures { result ≡ record { style = style; start = 0; pieces = [] } }
     {
         Pieces {
             style,
+            start: 0,
             list: Vec::new(alloc),
         }
     }
 
-    /// Adds a piece after the others. `Err`: out of memory, which 2 ^ 60 pieces count as; the pieces are as before.
+    /// Lets the pieces begin in a column.
+    pub(crate) fn start_at(&mut self, column: u128)
+        requires { column ≤ 2 ^ 126 }
+        ensures { self.new ≡ record self.old { start = column } }
+    {
+        self.start = column;
+    }
+
+    /// Adds a piece after the others. `Err`: out of memory, which 2 ^ 58 pieces count as; the pieces are as before.
     pub(crate) fn push(&mut self, piece: Piece) -> Result<(), AllocError>
-        ensures ok { OnOk result (self.new ≡ record { style = self.old.style; pieces = self.old.pieces ++ piece ∷ [] }) }
-        ensures few { OnOk result (length self.old.pieces < 2 ^ 60) }
+        ensures ok { OnOk result (self.new ≡ record self.old { pieces = self.old.pieces ++ piece ∷ [] }) }
         ensures err { OnErr result (self.new ≡ self.old) }
     {
-        if self.list.len() >= 1 << 60 {
+        if self.list.len() >= 1 << 58 {
             return Err(AllocError);
         }
         self.list.push(piece)?;
@@ -133,15 +144,30 @@ impl Pieces {
         self.style
     }
 
+    /// The column in which the first of them begins, or would begin.
+    pub fn start(&self) -> u128
+        ensures value { result ≡ self.now.start }
+        ensures bound { result ≤ 2 ^ 126 }
+    {
+        self.start
+    }
+
+    /// Whether there are none.
+    pub(crate) fn is_empty(&self) -> bool
+        ensures { result ≡ not (has_piece self.now.pieces) }
+    {
+        self.list.is_empty()
+    }
+
     /// The pieces in their order.
     pub fn list(&self) -> &[Piece]
         ensures value { result.now ≡ self.now.pieces }
-        ensures few { length result.now ≤ 2 ^ 60 }
+        ensures few { length result.now ≤ 2 ^ 58 }
     {
         self.list.as_slice()
     }
 
-    /// Whether the pieces show the same, and the blocks' own styles are equal. Their places don't count.
+    /// Whether the pieces show the same from the same column on, and the blocks' own styles are equal. Their places don't count.
     pub fn same(&self, other: &Pieces) -> bool
         ensures value { result ≡ same_pieces self.now other.now }
         ensures look { IsTrue result ↔ (look_of self.now ≡ look_of other.now) }
@@ -153,7 +179,9 @@ impl Pieces {
 fn are_same(a: &Pieces, b: &Pieces) -> bool
     ensures { result ≡ same_pieces a.now b.now }
 {
-    same_style(a.style, b.style) && same_list(a.list.as_slice(), b.list.as_slice())
+    same_style(a.style, b.style)
+        && a.start == b.start
+        && same_list(a.list.as_slice(), b.list.as_slice())
 }
 
 fn same_list(a: &[Piece], b: &[Piece]) -> bool

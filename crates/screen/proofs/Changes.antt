@@ -4,7 +4,7 @@ use Rattle.std.specs.Prelude.{slice_get}
 use Rattle.std.proofs.lemmas.Bool.{and_parts, eqb-true}
 use Rattle.std.proofs.lemmas.Option.{slice_get_past}
 use Rattle.blocks.specs.Hiding.{blocks_of}
-use Rattle.pieces.specs.Edge.{cut_at, up_to_edge}
+use Rattle.pieces.specs.Edge.{cut_at, in_edges}
 use Rattle.pieces.specs.Styles.{plain}
 use Rattle.selection.specs.declared.range.Range.{Range}
 use Rattle.selection.specs.Ranges.{high}
@@ -36,8 +36,8 @@ no_block v zero past = refl
 no_block v (suc n) past = slice_get_past (blocks_of v.text v.layers) n (omega (arith, past))
 
 -- a row past the last block has no pieces
-pub past_row : (v : ViewView) (number : ℕ) → block_at v number ≡ None → record { style = plain; pieces = [] } ≡ cut_at (edge_of v) (pieces_at v (block_at v number))
-unfolding up_to_edge
+pub past_row : (v : ViewView) (number : ℕ) → block_at v number ≡ None → record { style = plain; start = 0; pieces = [] } ≡ cut_at (edge_of v) (pieces_at v (block_at v number))
+unfolding in_edges
 past_row v number none = rw none refl
 
 -- the rows of a view are those that are made anew

@@ -8,7 +8,8 @@ use Rattle.viewport.specs.Window.{Window}
 use Rattle.blocks.specs.Hiding.{blocks_of}
 use Rattle.blocks.proofs.Apart.{number_is, one_block}
 use Rattle.pieces.specs.Piece.{PieceView}
-use Rattle.line_rows.specs.Column.{column_of, is_before, width_of}
+use Rattle.pieces.specs.Widths.{is_before, width_of}
+use Rattle.line_rows.specs.Column.{column_of}
 use Rattle.screen.specs.Screen.{ViewView, IsHeadAt, IsPlaced, ShowsHead, block_at, head_column}
 
 -- a block that is found by its number less 1 is the block of that number

@@ -19,7 +19,7 @@ use Rattle.line_rows.specs.Row.{row_of}
 use Rattle.line_rows.specs.declared.rows.StyledCell.{StyledCell}
 use Rattle.screen.specs.declared.view.View.{View}
 
--- what a row depends on: the pieces of its block up to the window's right edge with the block's style, the tab size, and the
+-- what a row depends on: the pieces of its block between the window's edges with the block's style, the tab size, and the
 -- columns that it shows
 pub record RowKey : Type 0 where
   pub pieces : PiecesView
@@ -53,9 +53,9 @@ block_pieces v block = pieces_of v.text block.from block.to v.layers v.selection
 -- the pieces of a row: those of its block, and none past the last block
 abbrev pub pieces_at : ViewView → Option lines.Line → PiecesView
 pieces_at v (Some block) = block_pieces v block
-pieces_at v None = record { style = plain; pieces = [] }
+pieces_at v None = record { style = plain; start = 0; pieces = [] }
 
--- the right edge of the window
+-- the edges of the window
 abbrev pub edge_of : ViewView → Edge
 edge_of v = record { tab = v.tab; left = v.window.left; cols = v.window.cols }
 

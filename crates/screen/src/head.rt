@@ -7,7 +7,7 @@ ghost use Rattle.screen.specs.Screen.{IsPlaced, ShowsHead, shown_view};
 ghost use Rattle.screen.specs.Reveal.{IsRevealed};
 
 use crate::view::View;
-use line_rows::{Blocks, Cursor, column_of, pieces};
+use line_rows::{Blocks, Cursor, column_of, piece_at};
 use std::alloc::{AllocError, Global};
 use viewport::Viewport;
 
@@ -61,15 +61,18 @@ pub(crate) fn head_place(
 {
     let main = view.selection.main();
     let block = blocks.at(main.head);
-    let pieces = pieces(
+    let pos = main.head - block.from;
+    let found = piece_at(
         alloc,
         view.doc,
         block.from,
         block.to,
         view.layers,
         view.selection,
+        view.tab,
+        pos,
     )?;
-    let (column, width) = column_of(&pieces, view.tab, main.head - block.from);
+    let (column, width) = column_of(&found, view.tab, pos);
     Ok(HeadPlace {
         number: block.number,
         column,

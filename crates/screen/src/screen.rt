@@ -11,7 +11,7 @@ use crate::drawn_row::DrawnRow;
 use crate::head::{cursor_at, head_place};
 use crate::view::View;
 use decoration::Style;
-use line_rows::{Block, Blocks, Cursor, Edge, Pieces, pieces_before};
+use line_rows::{Block, Blocks, Cursor, Edge, Pieces, shown_pieces};
 use std::alloc::{AllocError, Global};
 use std::marker::Model;
 use std::sync::ledger::Ledger;
@@ -151,7 +151,7 @@ fn drawn_row<L: Ledger>(
     )
 }
 
-/// The pieces of the block of a number up to the window's right edge, none past the last block.
+/// The pieces of the block of a number between the window's edges, none past the last block.
 fn row_pieces(
     alloc: Global,
     view: &View<'_>,
@@ -170,7 +170,7 @@ fn row_pieces(
     block_pieces(alloc, view, block)
 }
 
-/// The pieces of a block up to the window's right edge.
+/// The pieces of a block between the window's edges.
 fn block_pieces(alloc: Global, view: &View<'_>, block: Block) -> Result<Pieces, AllocError>
     requires positive { 0 < (shown_view view.now).tab }
     requires small { (shown_view view.now).tab ≤ 16 }
@@ -183,7 +183,7 @@ fn block_pieces(alloc: Global, view: &View<'_>, block: Block) -> Result<Pieces, 
         left: view.window.left(),
         cols: view.window.cols(),
     };
-    pieces_before(
+    shown_pieces(
         alloc,
         view.doc,
         block.from,

@@ -197,6 +197,43 @@ fn a_wide_character_at_the_edge_shows_a_blank(rt: HostRuntime) -> Result<(), Fai
 }
 
 #[test]
+fn a_window_shows_a_part_of_a_line(rt: HostRuntime) -> Result<(), Fail> {
+    let cases = [
+        ("a\t漢b", 4, 3, "^H^1;1H b^K^1;3H"),
+        (
+            "e\u{301}\u{301}\u{301}\u{301}\u{301}xyz",
+            0,
+            2,
+            "^H^1;1He\u{301}\u{301}\u{301}\u{301}\u{301}x^K^1;1H",
+        ),
+        ("abcdefghij", 6, 3, "^H^1;1Hefg^K^1;3H"),
+    ];
+    for (doc, head, cols, want) in cases {
+        let case = Case {
+            doc,
+            layers: &[],
+            selection: (head, head),
+            size: (1, cols),
+        };
+        assert!(rt; shows(rt.alloc(), &case, want)?);
+    }
+    Ok(())
+}
+
+#[test]
+fn what_follows_a_long_fold_is_shown(rt: HostRuntime) -> Result<(), Fail> {
+    let fold = [(Kind::Replace, 1, 25, "+", bold())];
+    let case = Case {
+        doc: "a------------------------bcdef",
+        layers: &[&fold],
+        selection: (0, 0),
+        size: (1, 4),
+    };
+    assert!(rt; shows(rt.alloc(), &case, "^H^1;1Ha^0;1m+^0mbc^K^1;1H")?);
+    Ok(())
+}
+
+#[test]
 fn a_short_line_is_followed_by_the_cursor(rt: HostRuntime) -> Result<(), Fail> {
     let cases = [
         ("", 0, "^H^1;1H^K^1;1H"),

@@ -89,9 +89,9 @@ pieces_none (piece ∷ pieces) tab left cols at =
 
 row_none : (tab cols left : ℕ) (p : PiecesView) → list_any in_styled (row_of tab cols left p) ≡ false
 row_none tab cols left p =
-    let cells = pieces_in_window tab left cols 0 p.pieces in
+    let cells = pieces_in_window tab left cols p.start p.pieces in
     let last : StyledCell = record { cell = blank; style = p.style } in
-    both_none in_styled cells (replicate (cols - length cells) last) (pieces_none p.pieces tab left cols 0) (copies_none in_styled last (cols - length cells) refl)
+    both_none in_styled cells (replicate (cols - length cells) last) (pieces_none p.pieces tab left cols p.start) (copies_none in_styled last (cols - length cells) refl)
 
 onto_none : (c : StyledCell) (kept : List StyledCell) → in_styled c ≡ false → list_any in_styled kept ≡ false → list_any in_styled (onto_kept c kept) ≡ false
 onto_none c [] none more = pick_none in_styled (is_bare c) [] (c ∷ []) refl (more_none in_styled c [] none refl)

@@ -2,8 +2,7 @@ use Rattle.std.proofs.Common.{ap, sym, ◌∙◌, arith}
 use Rattle.std.proofs.lemmas.List.{nil_from_length}
 use Rattle.pieces.specs.Items.{ItemView}
 use Rattle.pieces.specs.Blocks.{shown_block}
-use Rattle.pieces.proofs.Fillings.{put_full}
-use Rattle.pieces.proofs.Walks.{walk_step, walk_end}
+use Rattle.pieces.proofs.Walks.{walk_step, walk_over, walk_end}
 use Rattle.pieces.proofs.block_pieces.push_items.Goals as goal
 
 pub loop-item-preserved : goal.loop-item-preserved
@@ -14,8 +13,8 @@ loop-item-preserved c = record {
       c.in_ok-push_up_to.ensures c.loop-item.invariant.puts;
 }
 
-pub returns-then-is_full : goal.returns-then-is_full
-returns-then-is_full c = put_full _ _ _ (sym c.is_full.ensures ∙ c.if-is_full.true) c.loop-item.invariant.puts
+pub returns-then-is_over : goal.returns-then-is_over
+returns-then-is_over c = walk_over _ _ _ (sym c.is_over.ensures ∙ c.if-is_over.true) c.loop-item.invariant.puts
 
 pub returns : goal.returns
 returns c =

@@ -2,12 +2,9 @@ use Rattle.std.proofs.Common.{ap, ◌∙◌}
 use Rattle.pieces.specs.Blocks.{shown_block}
 use Rattle.pieces.specs.Filling.{FillingView, put_all}
 use Rattle.pieces.specs.Pieces.{walked}
-use Rattle.pieces.proofs.Fillings.{filled}
 use Rattle.pieces.proofs.block_pieces.walked.Goals as goal
 
 pub returns : goal.returns
 returns c =
     let ps = walked (shown_block c.args.block.now) c.args.block.now.from c.args.items.items in
-    c.into_pieces.ensures
-    ∙ ap (λ (f : FillingView). f.pieces) (c.in_ok-push_items.ensures ∙ ap (λ (f : FillingView). put_all f ps) c.new-filling.ensures)
-    ∙ filled c.args.block.now.style c.args.edge ps
+    c.in_ok-push_items.ensures ∙ ap (λ (f : FillingView). put_all f ps) c.new-filling.ensures

@@ -2,7 +2,9 @@ use Rattle.std.proofs.Common.{◌-◌, ℕ, length, sym, ap, ◌∙◌, refl, ar
 use Rattle.std.specs.Prelude.{slice_get}
 use Rattle.line_tree.specs.declared.line.Line as lines
 use Rattle.pieces.specs.Piece.{PiecesView}
+use Rattle.pieces.specs.Rules.{pieces_of}
 use Rattle.line_rows.specs.Column.{column_of}
+use Rattle.line_rows.proofs.ColumnSteps.{column_at}
 use Rattle.blocks.specs.Hiding.{BlocksView}
 use Rattle.screen.specs.Screen.{shown_view}
 use Rattle.screen.proofs.Changes.{head_lies}
@@ -19,8 +21,11 @@ returns c =
     let v = shown_view c.args.view.now in
     let place = c.main-main.result.head - c.at-block.result.from in
     let block : lines.Line = record { number = c.at-block.result.number; from = c.at-block.result.from; to = c.at-block.result.to } in
+    let all = pieces_of v.text block.from block.to v.layers v.selection.ranges in
     let column =
-    c.column_of-column.ensures ∙ ap (λ (p : PiecesView). column_of c.args.view.now.tab place 0 p.pieces) c.in_ok-pieces.ensures in
+    c.column_of-column.ensures
+    ∙ ap (λ (p : PiecesView). column_of c.args.view.now.tab place p.start p.pieces) c.in_ok-found.ensures
+    ∙ column_at c.args.view.now.tab place 0 all.pieces in
     record {
       main = c.main-main.result;
       block = block;
@@ -33,5 +38,5 @@ returns c =
       number_is = refl;
       column_is = ap (λ (r : ℕ × ℕ). r.0) column;
       width_is = ap (λ (r : ℕ × ℕ). r.1) column;
-      some = rw (ap (λ (r : ℕ × ℕ). r.1) c.column_of-column.ensures) (wide_some c.args.view.now.tab place 0 c.in_ok-pieces.pieces.pieces);
+      some = rw (ap (λ (r : ℕ × ℕ). r.1) c.column_of-column.ensures) (wide_some c.args.view.now.tab place c.in_ok-found.found.start c.in_ok-found.found.pieces);
     }

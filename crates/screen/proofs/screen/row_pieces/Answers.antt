@@ -13,4 +13,4 @@ returns-then-number-eq0 c =
       | then-number-eq0-via-else-number-eq0+then-number-from w ↦ no_block v c.args.number
           (omega (arith, w.count.ensures, w.from.ensures, w.if-number-from.true, ap (λ (b : BlocksView). length b.blocks) c.requires.blocks))
     ] in
-    c.none.ensures ∙ (λ i. record { style = c.plain.ensures i; pieces = [] }) ∙ past_row v c.args.number none
+    c.none.ensures ∙ (λ i. record { style = c.plain.ensures i; start = 0; pieces = [] }) ∙ past_row v c.args.number none
