@@ -8,11 +8,7 @@ mod effect_maps;
 #[cfg(test)]
 mod filtering;
 #[cfg(test)]
-mod kit;
-#[cfg(test)]
 mod made;
-#[cfg(test)]
-mod more;
 #[cfg(test)]
 mod reading;
 #[cfg(test)]

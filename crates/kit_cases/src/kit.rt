@@ -2,11 +2,10 @@
 ghost use Rattle.std.specs.Prelude.{◌≡◌, ◌<◌};
 ghost use Rattle.values.specs.Shipped.{shipped};
 ghost use Rattle.values.specs.Whole.{IsWhole};
-ghost use Rattle.values_cases.specs.More.{more};
+ghost use Rattle.kit_cases.specs.More.{more};
 
-use crate::made::{Made, Of, are, is};
 use crate::more::{More, combine_more};
-use crate::views::{Note, Read, TYPED, deps_of, shown};
+use crate::views::view;
 use change_desc::Desc;
 use cm_plain::Plain;
 use shipped_rules::{Shipped, rule_lists, shipped_lists};
@@ -17,43 +16,47 @@ use std::test::*;
 use steps::Steps;
 use values::{Deps, Filtering, Gap, Guarding, Kit, Sort, TrView, UpdateView, Val};
 
-/// Whether the rules that compare and combine answer: equal numbers are the same, and the greatest of none is 0.
-fn combines<L: Ledger>(
-    alloc: Global,
-    kit: &Kit<Shipped>,
-    calls: &mut Steps<L>,
-) -> Result<bool, Fail>
+fn int(number: i64) -> Val {
+    Val::Plain(Plain::Int(number))
+}
+
+fn is_int(value: &Val, want: i64) -> bool {
+    match value {
+        Val::Plain(Plain::Int(number)) => *number == want,
+        _ => false,
+    }
+}
+
+fn is_true(value: &Val) -> bool {
+    match value {
+        Val::Plain(Plain::Bool(truth)) => *truth,
+        _ => false,
+    }
+}
+
+/// Whether the rules that compare and combine answer: the greatest of no numbers is 0, and the same as 0.
+fn combines<L: Ledger>(kit: &Kit<Shipped>, calls: &mut Steps<L>) -> Result<bool, Fail>
     requires { IsWhole shipped kit.now }
 {
     let greatest = kit.combiner(4).call(&[], calls)?;
-    let zero = Val::Plain(Plain::Int(0));
-    Ok(kit.comparer(1).call(&greatest, &zero) && is(alloc, &greatest, Made::Int(0))?)
+    Ok(kit.comparer(1).call(&greatest, &int(0)))
 }
 
-/// Whether the rules that read answer of the text `ab`: its length, its lines and its length once more.
-fn reads<L: Ledger>(
-    alloc: Global,
-    kit: &Kit<Shipped>,
-    deps: &Deps,
-    calls: &mut Steps<L>,
-) -> Result<bool, Fail>
+/// Whether the rules that read answer where nothing is read.
+fn reads<L: Ledger>(kit: &Kit<Shipped>, deps: &Deps, calls: &mut Steps<L>) -> Result<bool, Fail>
     requires { IsWhole shipped kit.now }
 {
     let length = kit.computer(1).call(deps, calls)?;
     let lines = kit.computer_n(1).call(deps, calls)?;
-    let first = kit.creator(3).call(deps, calls)?;
-    Ok(
-        is(alloc, &length, Made::Int(2))?
-            && are(alloc, lines.as_slice(), Of(&[Made::Int(2)]))?
-            && first.same(&length),
-    )
+    let first = kit.creator(2).call(deps, calls)?;
+    Ok(is_int(&length, 0) && lines.as_slice().is_empty() && is_int(&first, 0))
 }
 
-/// Whether the rules that see a transaction answer: nothing stays, nothing is done, nothing is added.
+/// Whether the rules that see a transaction answer: no change stays, the transaction stays, nothing is added.
 fn filters(kit: &Kit<Shipped>, transaction: &TrView) -> Result<bool, Fail>
     requires { IsWhole shipped kit.now }
 {
-    let data = Val::Plain(Plain::Unit);
+    let data = int(0);
     let guarded = kit.change_guard(2).call(transaction, &data)?;
     let filtered = kit.filter(1).call(transaction, &data)?;
     let added = kit.extender(1).call(transaction, &data)?;
@@ -64,28 +67,26 @@ fn filters(kit: &Kit<Shipped>, transaction: &TrView) -> Result<bool, Fail>
     )
 }
 
-/// Whether the second updater counts up, and the first effect map keeps the one place of the empty text.
+/// Whether the second updater counts up.
 fn updates<L: Ledger>(
-    alloc: Global,
     kit: &Kit<Shipped>,
     view: &UpdateView,
     calls: &mut Steps<L>,
 ) -> Result<bool, Fail>
     requires { IsWhole shipped kit.now }
 {
-    let old = Val::Plain(Plain::Int(1));
-    let new = kit.updater(2).call(&old, view, calls)?;
-    let nothing = Desc::new(alloc);
-    match kit.effect_map(1).call(Val::Plain(Plain::Int(0)), &nothing)? {
-        Some(place) => Ok(is(alloc, &new, Made::Int(2))? && is(alloc, &place, Made::Int(0))?),
-        None => Ok(false),
-    }
+    let new = kit.updater(2).call(&int(1), view, calls)?;
+    Ok(is_int(&new, 2))
 }
 
-fn view(alloc: Global) -> Result<UpdateView, Fail> {
-    let transaction = shown(alloc, TYPED, Of(&[]), Note::None)?;
-    let deps = deps_of(alloc, Read::Document("ab"))?;
-    Ok(UpdateView { transaction, deps })
+/// Whether the first effect map keeps the one place of the empty text.
+fn maps(alloc: Global, kit: &Kit<Shipped>) -> Result<bool, Fail>
+    requires { IsWhole shipped kit.now }
+{
+    match kit.effect_map(1).call(int(0), &Desc::new(alloc))? {
+        Some(place) => Ok(is_int(&place, 0)),
+        None => Ok(false),
+    }
 }
 
 /// Whether a rule of each sort answers.
@@ -134,7 +135,7 @@ fn the_kit_of_the_shipped_rules(rt: HostRuntime) -> Result<(), Fail> {
 }
 
 /// Whether the stranger's combiner answers that there are no inputs, and a shipped one still that their greatest is 0.
-fn combines_more<L: Ledger>(alloc: Global, kit: &Kit<More>, blank: Blank) -> Result<bool, Fail>
+fn combines_more<L: Ledger>(kit: &Kit<More>, blank: Blank) -> Result<bool, Fail>
     requires name { blank.name ≡ L.name }
     requires parts { blank.parts ≡ L.parts }
     requires some { 0 < L.parts }
@@ -143,7 +144,7 @@ fn combines_more<L: Ledger>(alloc: Global, kit: &Kit<More>, blank: Blank) -> Res
     let mut calls = Steps::<L>::new(blank);
     let none = kit.combiner(14).call(&[], &mut calls)?;
     let greatest = kit.combiner(4).call(&[], &mut calls)?;
-    Ok(is(alloc, &none, Made::Bool(true))? && is(alloc, &greatest, Made::Int(0))?)
+    Ok(is_true(&none) && is_int(&greatest, 0))
 }
 
 /// The gap of a kit without the last combiner.
@@ -180,7 +181,7 @@ fn a_kit_with_one_more_rule(rt: HostRuntime) -> Result<(), Fail> {
     );
     match Kit::new(lists) {
         Ok(kit) => {
-            assert!(rt; combines_more::<Brand>(rt.alloc(), &kit, Blank::new(1))?);
+            assert!(rt; combines_more::<Brand>(&kit, Blank::new(1))?);
             assert!(rt; without_combiner(kit) == Some(want));
             Ok(())
         }

@@ -44,7 +44,15 @@ row-lawful n vs true e is a = no_inputs-lawful vs
 row-lawful n vs false e is a = combine-lawful 3 4 3 n vs (not-last n e is) a
 
 pub more-lawful : AreLawful more
-more-lawful = record shipped-lawful { combine_fits = λ n vs is a. row-lawful n vs (eqb n 14) refl is a }
+more-lawful =
+    record {
+      combine_fits = λ n vs is a. row-lawful n vs (eqb n 14) refl is a;
+      compare_sound = shipped-lawful.compare_sound;
+      compute_fits = shipped-lawful.compute_fits;
+      list_fits = shipped-lawful.list_fits;
+      create_fits = shipped-lawful.create_fits;
+      update_fits = shipped-lawful.update_fits;
+    }
 
 shipped-row : {X : Type 0} (last : X) (rows : ℕ → X) (n : ℕ) → IsNumber 13 n → with_last last rows n ≡ rows n
 shipped-row last rows n is =
@@ -52,9 +60,31 @@ shipped-row last rows n is =
 
 pub more-keeps : KeepsShipped more
 more-keeps =
-    record shipped-keeps {
+    record {
       combiners = omega arith;
       combine_input = record { kept = shipped-row any (combine_input 3 4 3) };
       combine_output = record { kept = shipped-row booleans combine_output };
       combine = record { kept = shipped-row no_inputs combine };
+      comparers = shipped-keeps.comparers;
+      compare = shipped-keeps.compare;
+      computers = shipped-keeps.computers;
+      compute_output = shipped-keeps.compute_output;
+      compute = shipped-keeps.compute;
+      list_computers = shipped-keeps.list_computers;
+      list_output = shipped-keeps.list_output;
+      compute_list = shipped-keeps.compute_list;
+      creators = shipped-keeps.creators;
+      create_output = shipped-keeps.create_output;
+      create = shipped-keeps.create;
+      updaters = shipped-keeps.updaters;
+      update_shape = shipped-keeps.update_shape;
+      update = shipped-keeps.update;
+      effect_maps = shipped-keeps.effect_maps;
+      map_effect = shipped-keeps.map_effect;
+      change_guards = shipped-keeps.change_guards;
+      guard = shipped-keeps.guard;
+      transaction_filters = shipped-keeps.transaction_filters;
+      filter = shipped-keeps.filter;
+      extenders = shipped-keeps.extenders;
+      extend = shipped-keeps.extend;
     }

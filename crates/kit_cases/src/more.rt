@@ -2,7 +2,7 @@
 ghost use Rattle.std.specs.Prelude.{◌≡◌, IfOk};
 ghost use Rattle.cm_plain.specs.Shape.{form_of};
 ghost use Rattle.transaction.specs.Numbers.{IsNumber};
-ghost use Rattle.values_cases.specs.More.{more, more-keeps, more-lawful, no_inputs};
+ghost use Rattle.kit_cases.specs.More.{more, more-keeps, more-lawful, no_inputs};
 
 use cm_plain::{Plain, Shape};
 use shipped_rules::{Shipped, combine};
