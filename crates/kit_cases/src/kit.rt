@@ -99,10 +99,11 @@ fn answers<L: Ledger>(alloc: Global, kit: &Kit<Shipped>, blank: Blank) -> Result
     let view = view(alloc)?;
     let mut calls = Steps::<L>::new(blank);
     Ok(
-        combines(alloc, kit, &mut calls)?
-            && reads(alloc, kit, &view.deps, &mut calls)?
+        combines(kit, &mut calls)?
+            && reads(kit, &view.deps, &mut calls)?
             && filters(kit, &view.transaction)?
-            && updates(alloc, kit, &view, &mut calls)?,
+            && updates(kit, &view, &mut calls)?
+            && maps(alloc, kit)?,
     )
 }
 
