@@ -6,10 +6,16 @@ mod combining;
 #[cfg(test)]
 mod effect_maps;
 #[cfg(test)]
+mod filtering;
+#[cfg(test)]
 mod made;
 #[cfg(test)]
 mod reading;
 #[cfg(test)]
 mod shapes;
+#[cfg(test)]
+mod showing;
+#[cfg(test)]
+mod updating;
 #[cfg(test)]
 mod views;
