@@ -1,0 +1,5 @@
+pub mod Halves
+pub mod Outcomes
+pub mod RuleNumbers
+pub mod ShownViews
+pub mod Steps
