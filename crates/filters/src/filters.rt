@@ -1,11 +1,13 @@
 // Transaction filters, and all that filters make of a draft.
-ghost use Rattle.std.specs.Prelude.{All, Err, IfErr, IfOk, Ok, [], ◌≡◌, ◌≢◌};
+ghost use Rattle.std.specs.Prelude.{All, Err, IfErr, IfOk, None, Ok, [], length, ◌≡◌, ◌≢◌};
 ghost use Rattle.transaction.specs.Effects.{HasMaps};
+ghost use Rattle.transaction.specs.Merging.{merged};
 ghost use Rattle.transaction.specs.Numbers.{IsNumber};
+ghost use Rattle.transaction.specs.Refusals.{specs_refusal};
 ghost use Rattle.values.specs.Whole.{IsWhole};
 ghost use Rattle.filters.specs.Facets.{AreFacets, ListsNumbers, facets_of};
 ghost use Rattle.filters.specs.Filtered.{answered, filtered, filtered_by, transaction_filtered};
-ghost use Rattle.filters.specs.Outcomes.{in_turn};
+ghost use Rattle.filters.specs.Outcomes.{in_turn, unless};
 ghost use Rattle.filters.specs.Shown.{shown_of};
 ghost use Rattle.filters.specs.Starts.{IsStart, StartsIn, start_of};
 
@@ -17,7 +19,7 @@ use crate::start::Start;
 use crate::view::shown;
 use listed::Listed;
 use std::alloc::{AllocError, Global};
-use transaction::{Draft, TransactionError, resolve};
+use transaction::{Draft, Frame, Spec, TransactionError, resolve};
 use values::{Filtering, Kit, Meanings, Val};
 
 /// What the transaction filter of a number answers of a draft.
@@ -40,6 +42,29 @@ fn answer_of<M: Meanings>(
     kit.filter(number).call(&transaction, facets.filter_data)
 }
 
+/// Specs, merged over the start document.
+fn replaced<M: Meanings>(
+    alloc: Global,
+    kit: &Kit<M>,
+    start: &Start<'_>,
+    specs: Vec<Spec<Val>>,
+) -> Result<Draft<Val>, TransactionError>
+    requires whole { IsWhole M.rules kit.now }
+    requires maps { HasMaps M.rules.effect_maps start.now.kinds.now.maps }
+    requires start { IsStart (start_of start.now) }
+    ensures draft { IfOk result (λ d. unless (specs_refusal (length start.now.document.now.characters) start.now.max start.now.kinds.now None specs.items) (merged start.now.kinds.now M.rules.map_effect (length start.now.document.now.characters) specs.items) ≡ Ok d) }
+    ensures starts { IfOk result (λ d. StartsIn (start_of start.now) d) }
+    ensures refused { IfErr result (λ error. error ≢ TransactionError.NoMemory → unless (specs_refusal (length start.now.document.now.characters) start.now.max start.now.kinds.now None specs.items) (merged start.now.kinds.now M.rules.map_effect (length start.now.document.now.characters) specs.items) ≡ Err error) }
+{
+    let frame = Frame {
+        len: start.document.len(),
+        max: start.max,
+        kinds: start.kinds,
+        maps: kit,
+    };
+    resolve(alloc, specs, &frame)
+}
+
 /// What comes of a draft by an answer.
 fn answered<M: Meanings>(
     alloc: Global,
@@ -58,7 +83,7 @@ fn answered<M: Meanings>(
 {
     match answer {
         Filtering::Keep => Ok(draft),
-        Filtering::Instead(specs) => resolve(alloc, specs.into_vec(), &start.frame(kit)),
+        Filtering::Instead(specs) => replaced(alloc, kit, start, specs.into_vec()),
         Filtering::Also(specs) => followed_by(alloc, kit, start, draft, specs.into_vec()),
     }
 }

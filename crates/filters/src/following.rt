@@ -10,7 +10,7 @@ ghost use Rattle.filters.specs.Starts.{IsStart, StartsIn, start_of};
 use crate::check::check;
 use crate::start::Start;
 use std::alloc::Global;
-use transaction::{Draft, Spec, TransactionError, merge};
+use transaction::{Draft, Frame, Spec, TransactionError, merge};
 use values::{Kit, Meanings, Val};
 
 /// A draft and then specs that aren't refused.
@@ -30,7 +30,12 @@ fn merged_with<M: Meanings>(
     ensures starts { IfOk result (λ d. StartsIn (start_of start.now) d) }
     ensures memory { IfErr result (λ error. error ≡ TransactionError.NoMemory) }
 {
-    let frame = start.frame(kit);
+    let frame = Frame {
+        len: start.document.len(),
+        max: start.max,
+        kinds: start.kinds,
+        maps: kit,
+    };
     let mut draft = draft;
     for spec in specs {
         match merge(alloc, draft, spec, &frame) {

@@ -1,7 +1,7 @@
 use crate::drafts::{Done, Edit};
 use crate::states::{Case, Rules, Want, comes};
 use line_tree::MAX_LEN;
-use shipped_rules::{Shipped, shipped_lists};
+use shipped_rules::shipped_lists;
 use std::test::*;
 use values::Kit;
 
@@ -46,11 +46,7 @@ fn edits(edits: &'static [Edit]) -> Done {
 }
 
 /// Effects at places, and a given selection.
-fn carried(
-    edits: &'static [Edit],
-    ranges: &'static [(u32, u32)],
-    places: &'static [i64],
-) -> Done {
+fn carried(edits: &'static [Edit], ranges: &'static [(u32, u32)], places: &'static [i64]) -> Done {
     Done {
         edits,
         ranges,
@@ -105,11 +101,7 @@ fn noted(text: &'static str, effects: &'static [(u32, i64)]) -> Want {
     }
 }
 
-fn selected(
-    text: &'static str,
-    range: (u32, u32),
-    effects: &'static [(u32, i64)],
-) -> Want {
+fn selected(text: &'static str, range: (u32, u32), effects: &'static [(u32, i64)]) -> Want {
     Want::Draft {
         text,
         range: Some(range),
@@ -164,20 +156,51 @@ const CD_AS_ZZ: &[Edit] = &[
 /// A whole kit is asked each case.
 #[test]
 fn change_filters_decide_what_stays(rt: HostRuntime) -> Result<(), Fail> {
-    let kit = Kit::new(shipped_lists!(rt.alloc(), Shipped))?;
+    let kit = Kit::new(shipped_lists!(rt.alloc()))?;
     let cases = [
         // a deletion of which the first character is protected
-        (case("abcdef", edits(BCD_GONE), guards(&[3], &[(0, 2)])), text("abef")),
-        (case("abcdef", edits(BCD_GONE), guards(&[1, 3], &[(0, 2), (3, 4)])), text("abdef")),
-        (case("abcdef", edits(BCD_GONE), guards(&[3, 2], &[(0, 2)])), text("abcdef")),
-        (case("abcdef", edits(BCD_GONE), guards(&[2, 1], &[])), text("abcdef")),
-        (case("abcdef", unfiltered(BCD_GONE), guards(&[2], &[])), text("aef")),
+        (
+            case("abcdef", edits(BCD_GONE), guards(&[3], &[(0, 2)])),
+            text("abef"),
+        ),
+        (
+            case(
+                "abcdef",
+                edits(BCD_GONE),
+                guards(&[1, 3], &[(0, 2), (3, 4)]),
+            ),
+            text("abdef"),
+        ),
+        (
+            case("abcdef", edits(BCD_GONE), guards(&[3, 2], &[(0, 2)])),
+            text("abcdef"),
+        ),
+        (
+            case("abcdef", edits(BCD_GONE), guards(&[2, 1], &[])),
+            text("abcdef"),
+        ),
+        (
+            case("abcdef", unfiltered(BCD_GONE), guards(&[2], &[])),
+            text("aef"),
+        ),
         // the selection and the effects go back over what is dropped, one of them inside it
-        (case("abc", carried(XY, &[(3, 4)], &[2, 3]), guards(&[2], &[])), selected("abc", (1, 2), &[(1, 1)])),
-        (case("abc", carried(XY, &[(3, 4)], &[2, 3]), guards(&[1], &[])), selected("axybc", (3, 4), &[(1, 2), (1, 3)])),
+        (
+            case("abc", carried(XY, &[(3, 4)], &[2, 3]), guards(&[2], &[])),
+            selected("abc", (1, 2), &[(1, 1)]),
+        ),
+        (
+            case("abc", carried(XY, &[(3, 4)], &[2, 3]), guards(&[1], &[])),
+            selected("axybc", (3, 4), &[(1, 2), (1, 3)]),
+        ),
         // nothing is dropped, and effects are mapped all the same
-        (case("abc", carried(&[], &[], &[2, 99]), guards(&[3], &[])), noted("abc", &[(1, 2)])),
-        (case("abc", carried(&[], &[], &[2, 99]), guards(&[1], &[])), noted("abc", &[(1, 2), (1, 99)])),
+        (
+            case("abc", carried(&[], &[], &[2, 99]), guards(&[3], &[])),
+            noted("abc", &[(1, 2)]),
+        ),
+        (
+            case("abc", carried(&[], &[], &[2, 99]), guards(&[1], &[])),
+            noted("abc", &[(1, 2), (1, 99)]),
+        ),
     ];
     for (case, want) in cases {
         assert!(rt; comes(rt.alloc(), &kit, case, want)?);
@@ -187,17 +210,32 @@ fn change_filters_decide_what_stays(rt: HostRuntime) -> Result<(), Fail> {
 
 #[test]
 fn transaction_filters_are_asked_from_the_lowest_precedence(rt: HostRuntime) -> Result<(), Fail> {
-    let kit = Kit::new(shipped_lists!(rt.alloc(), Shipped))?;
+    let kit = Kit::new(shipped_lists!(rt.alloc()))?;
     let cases = [
-        (case("", edits(A), rules(&[], &[3], &[3])), noted("a\n", &[(0, 0)])),
-        (case("", unfiltered(A), rules(&[], &[3], &[3])), noted("a", &[(0, 0)])),
+        (
+            case("", edits(A), rules(&[], &[3], &[3])),
+            noted("a\n", &[(0, 0)]),
+        ),
+        (
+            case("", unfiltered(A), rules(&[], &[3], &[3])),
+            noted("a", &[(0, 0)]),
+        ),
         (case("abc", edits(DE), limited(&[4], 4)), text("abc")),
         (case("abc", edits(D), limited(&[4], 4)), touched("abcd")),
         // the line end makes it too long only where it was added before
         (case("abc", edits(D), limited(&[4, 3], 4)), text("abc")),
-        (case("abc", edits(D), limited(&[3, 4], 4)), touched("abcd\n")),
-        (case("abc", edits(D), limited(&[3, 3], 9)), touched("abcd\n\n")),
-        (case("abc", edits(D), rules(&[], &[1, 2], &[3, 3])), noted("abc", &[(0, 3), (0, 3)])),
+        (
+            case("abc", edits(D), limited(&[3, 4], 4)),
+            touched("abcd\n"),
+        ),
+        (
+            case("abc", edits(D), limited(&[3, 3], 9)),
+            touched("abcd\n\n"),
+        ),
+        (
+            case("abc", edits(D), rules(&[], &[1, 2], &[3, 3])),
+            noted("abc", &[(0, 3), (0, 3)]),
+        ),
     ];
     for (case, want) in cases {
         assert!(rt; comes(rt.alloc(), &kit, case, want)?);
@@ -207,7 +245,7 @@ fn transaction_filters_are_asked_from_the_lowest_precedence(rt: HostRuntime) -> 
 
 #[test]
 fn what_rules_answer_is_refused(rt: HostRuntime) -> Result<(), Fail> {
-    let kit = Kit::new(shipped_lists!(rt.alloc(), Shipped))?;
+    let kit = Kit::new(shipped_lists!(rt.alloc()))?;
     let cases = [
         // what stays of the changes leads to a longer document
         (

@@ -89,7 +89,7 @@ pub(crate) struct Facets {
     filter_data: Val,
 }
 
-fn facets(alloc: Global, rules: Rules) -> Result<Facets, Fail> {
+fn facet_values(alloc: Global, rules: Rules) -> Result<Facets, Fail> {
     let change_filter = numbers(alloc, rules.guards)?;
     let transaction_filter = numbers(alloc, rules.filters)?;
     let transaction_extender = numbers(alloc, rules.extenders)?;
@@ -114,9 +114,11 @@ fn lists(alloc: Global, value: &Val, count: u32) -> Result<bool, AllocError>
 fn are_facets(alloc: Global, facets: &FilterFacets<'_>) -> Result<bool, AllocError>
     ensures { IfOk result (λ is. IsTrue is → AreFacets shipped (facets_of facets.now)) }
 {
-    Ok(lists(alloc, facets.change_filter, 3)?
-        && lists(alloc, facets.transaction_filter, 4)?
-        && lists(alloc, facets.transaction_extender, 3)?)
+    Ok(
+        lists(alloc, facets.change_filter, 3)?
+            && lists(alloc, facets.transaction_filter, 4)?
+            && lists(alloc, facets.transaction_extender, 3)?,
+    )
 }
 
 /// The draft of what is done.
@@ -211,12 +213,7 @@ fn has_text(
 }
 
 /// Whether a draft is what is wanted over a start.
-fn is_wanted(
-    alloc: Global,
-    start: &Start<'_>,
-    draft: &Draft<Val>,
-    want: Want,
-) -> Result<bool, Fail>
+fn is_wanted(alloc: Global, start: &Start<'_>, draft: &Draft<Val>, want: Want) -> Result<bool, Fail>
     requires { StartsIn (start_of start.now) draft.now }
 {
     match want {
@@ -225,10 +222,12 @@ fn is_wanted(
             range,
             effects,
             annotations,
-        } => Ok(has_text(alloc, start, draft, text)?
-            && is_range(&draft.selection, range)
-            && are_effects(draft.effects.as_slice(), effects)
-            && draft.annotations.as_slice().len() == annotations),
+        } => Ok(
+            has_text(alloc, start, draft, text)?
+                && is_range(&draft.selection, range)
+                && are_effects(draft.effects.as_slice(), effects)
+                && draft.annotations.as_slice().len() == annotations,
+        ),
         _ => Ok(false),
     }
 }
@@ -293,15 +292,10 @@ fn comes_in(
 }
 
 /// Whether what is wanted comes of a case.
-pub(crate) fn comes(
-    alloc: Global,
-    kit: &Kit<Shipped>,
-    case: Case,
-    want: Want,
-) -> Result<bool, Fail>
+pub(crate) fn comes(alloc: Global, kit: &Kit<Shipped>, case: Case, want: Want) -> Result<bool, Fail>
     requires { IsWhole shipped kit.now }
 {
-    let facets = facets(alloc, case.rules)?;
+    let facets = facet_values(alloc, case.rules)?;
     let document = text(alloc, case.start)?;
     let lent = FilterFacets {
         change_filter: &facets.change_filter,
