@@ -1,5 +1,5 @@
 -- One more spec after changes, and several in a row.
-use Rattle.std.proofs.Common.{◌≡◌, ℕ, ◌≤◌, Bool, true, false, List, [], ◌∷◌, length, fold, Option, Some, None, refl, sym, ap, subst, ◌∙◌}
+use Rattle.std.proofs.Common.{◌≡◌, ◌≢◌, ℕ, ◌≤◌, Bool, true, false, List, [], ◌∷◌, length, fold, Option, Some, None, refl, sym, ap, subst, ◌∙◌}
 use Rattle.std.specs.Prelude.{option_map}
 use Rattle.std.specs.Option.{option_or}
 use Rattle.change_desc.specs.Sections.{spelled, new_size, old_size}
@@ -8,6 +8,7 @@ use Rattle.change_set.specs.Changes.{as_sets}
 use Rattle.change_set.specs.Refusals.{refusal}
 use Rattle.transaction.specs.declared.draft.Draft.{Draft}
 use Rattle.transaction.specs.declared.error.TransactionError.{TransactionError}
+use Rattle.transaction.specs.declared.error.TransactionError.TheVariants.{BadRange, LengthMismatch, TooLong, NoRanges, BadMain, SelectionOutside, UnknownEffect, UnknownCompartment, NoMemory}
 use Rattle.transaction.specs.declared.spec.Spec.{Spec}
 use Rattle.transaction.specs.declared.effect_kinds.EffectKinds.{EffectKinds}
 use Rattle.transaction.specs.Effects.{ValueMap}
@@ -171,3 +172,15 @@ follow-step rules start first all d next s rest p e i =
       accepted = rest-accepted len start.max start.kinds d.changes s rest p.accepted next.changes total;
       value = ap (λ v. followed_by rules start v rest) e ∙ p.value;
     }
+
+-- a refusal of what isn't refused is none
+pub only-memory : (error : TransactionError) (o : Option TransactionError) → o ≡ None → (error ≢ NoMemory → o ≡ Some error) → error ≡ NoMemory
+only-memory NoMemory o n h = refl
+only-memory (BadRange i f t l) o n h = let e : o ≡ Some (BadRange i f t l) = h (λ q. cc) in cc
+only-memory (LengthMismatch a b) o n h = let e : o ≡ Some (LengthMismatch a b) = h (λ q. cc) in cc
+only-memory (TooLong l m) o n h = let e : o ≡ Some (TooLong l m) = h (λ q. cc) in cc
+only-memory NoRanges o n h = let e : o ≡ Some NoRanges = h (λ q. cc) in cc
+only-memory (BadMain m k) o n h = let e : o ≡ Some (BadMain m k) = h (λ q. cc) in cc
+only-memory (SelectionOutside p l) o n h = let e : o ≡ Some (SelectionOutside p l) = h (λ q. cc) in cc
+only-memory (UnknownEffect i) o n h = let e : o ≡ Some (UnknownEffect i) = h (λ q. cc) in cc
+only-memory (UnknownCompartment i) o n h = let e : o ≡ Some (UnknownCompartment i) = h (λ q. cc) in cc

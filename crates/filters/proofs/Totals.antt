@@ -1,5 +1,5 @@
 -- Changes and then those of one more spec.
-use Rattle.std.proofs.Common.{◌≡◌, ℕ, ◌≤◌, ◌<◌, ◌^◌, Bool, true, false, List, Option, Some, None, refl, sym, ap, subst, ◌∙◌, arith}
+use Rattle.std.proofs.Common.{◌≡◌, ℕ, ◌≤◌, ◌<◌, ◌^◌, Bool, true, false, List, Option, Some, None, Result, Ok, Err, IfOk, refl, sym, ap, subst, ◌∙◌, arith}
 use Rattle.change_desc.specs.declared.section.Section.{Section}
 use Rattle.change_desc.specs.Sections.{spelled, counted, lengths, old_size, new_size}
 use Rattle.change_desc.specs.Compose.{compose}
@@ -14,6 +14,11 @@ use Rattle.transaction.specs.Refusals.{too_long}
 use Rattle.transaction.proofs.Meetings.{not_long}
 use Rattle.transaction.proofs.Within.{is-short}
 use Rattle.filters.specs.PrivateSteps.{AreShort}
+
+-- what two clauses say together
+pub IfOk-both : {T E : Type 0} (r : Result T E) (P Q R : T → Type 0) → IfOk r P → IfOk r Q → ((x : T) → P x → Q x → R x) → IfOk r R
+IfOk-both (Ok x) P Q R p q f = f x p q
+IfOk-both (Err e) P Q R p q f = p
 
 -- the length that is told of described sets is that of their texts
 pub told-len : (second : Changes) (theirs mine : List (Section ℕ)) (n : ℕ) → theirs ≡ lengths spelled second →

@@ -1,11 +1,13 @@
 // Why specs that follow changes are refused.
-ghost use Rattle.std.specs.Prelude.{IfErr, IfOk, None, Some, false, ◌<◌, ◌^◌, ◌≡◌, ◌≢◌, ◌≤◌};
+ghost use Rattle.std.specs.Prelude.{IfErr, IfOk, None, Some, false, option_map, ◌<◌, ◌^◌, ◌≡◌, ◌≢◌, ◌≤◌};
 ghost use Rattle.std.specs.Option.{option_or};
 ghost use Rattle.change_desc.specs.Map.{map_over};
-ghost use Rattle.change_desc.specs.Of.{then_also};
+ghost use Rattle.change_desc.specs.Of.{of, then_also};
 ghost use Rattle.change_desc.specs.Sections.{lengths, new_size, old_size, spelled};
+ghost use Rattle.change_set.specs.Changes.{as_sets};
+ghost use Rattle.change_set.specs.Refusals.{refusal};
 ghost use Rattle.transaction.specs.Merging.{next_total, start_len};
-ghost use Rattle.transaction.specs.Refusals.{changes_refusal, given_refusal, ranges_refusal, selections_refusal, spec_changes_refusal, specs_refusal, too_long, unknown_effect, unknown_in, unknown_refusal};
+ghost use Rattle.transaction.specs.Refusals.{changes_refusal, given_refusal, of_changes_error, ranges_refusal, selections_refusal, spec_changes_refusal, specs_refusal, too_long, unknown_effect, unknown_in, unknown_refusal};
 ghost use Rattle.filters.specs.PrivateSteps.{AreShort, IsChecked};
 
 use change_desc::Desc;
@@ -156,6 +158,22 @@ fn start_len(before: &ChangeSet, sequential: bool, len: u32) -> u32
     if sequential { before.new_len() } else { len }
 }
 
+/// A spec's changes, over a document of `start` characters.
+fn own_changes(
+    alloc: Global,
+    spec: &Spec<Val>,
+    start: u32,
+    max: u32,
+) -> Result<ChangeSet, TransactionError>
+    ensures set { IfOk result (λ own. own ≡ of spelled start (as_sets start spec.now.changes)) }
+    ensures starts { IfOk result (λ own. old_size own ≡ start) }
+    ensures short { IfOk result (λ own. new_size spelled own ≤ max) }
+    ensures accepted { IfOk result (λ _. refusal start max spec.now.changes ≡ None) }
+    ensures refused { IfErr result (λ error. error ≢ TransactionError.NoMemory → option_map of_changes_error (refusal start max spec.now.changes) ≡ Some error) }
+{
+    Ok(ChangeSet::of(alloc, spec.changes.as_slice(), start, max)?)
+}
+
 /// One more spec after changes of a document of `len` characters.
 fn after_spec(
     alloc: Global,
@@ -169,10 +187,15 @@ fn after_spec(
     ensures refused { IfErr result (λ error. error ≢ TransactionError.NoMemory → spec_changes_refusal len max (Some before.now) spec.now ≡ Some error) }
 {
     let start = start_len(before, spec.sequential, len);
-    let own = ChangeSet::of(alloc, spec.changes.as_slice(), start, max)?;
+    let own = match own_changes(alloc, spec, start, max) {
+        Ok(own) => own,
+        Err(error) => return Err(error),
+    };
     let refusal = given_refusal(&spec.selection, own.new_len());
-    let total = total_after(before, spec.sequential, &own, len, max)?;
-    Ok(Checked { total, refusal })
+    match total_after(before, spec.sequential, &own, len, max) {
+        Ok(total) => Ok(Checked { total, refusal }),
+        Err(error) => Err(error),
+    }
 }
 
 /// Nothing, where specs may follow changes of a document of `len` characters. `Err`: why they are refused, or out of memory.
@@ -210,9 +233,13 @@ fn check_known(
     let mut total = before.try_copy()?;
     let mut refusal = None;
     for spec in specs {
-        let next = after_spec(alloc, &total, spec, len, max)?;
-        total = next.total;
-        refusal = refusal.or(next.refusal);
+        match after_spec(alloc, &total, spec, len, max) {
+            Ok(next) => {
+                total = next.total;
+                refusal = refusal.or(next.refusal);
+            }
+            Err(error) => return Err(error),
+        }
     }
     match refusal {
         None => Ok(()),
