@@ -11,7 +11,7 @@ use Rattle.filters.proofs.guards.guarded.Goals as goal
 
 pub with_parts-requires-clause-parts : goal.with_parts-requires-clause-parts
 with_parts-requires-clause-parts g c =
-    dropped-parts c.args.draft.changes c.in_ok-parts.parts.kept c.in_ok-parts.parts.dropped c.in_ok-parts.ensures.kept c.in_ok-parts.ensures.dropped
+    dropped-parts c.args.draft.changes c.in_ok-parts-in-Nothing.parts.kept c.in_ok-parts-in-Nothing.parts.dropped c.in_ok-parts-in-Nothing.ensures.kept c.in_ok-parts-in-Nothing.ensures.dropped
 
 pub filter-requires-clause-kept_fits : goal.filter-requires-clause-kept_fits
 filter-requires-clause-kept_fits g c = omega (arith, halves-size c.as_slice.result.now c.args.draft.changes)
@@ -30,10 +30,10 @@ returns-in_ok-parts-in-Nothing-clause-draft g c =
     let rules = g.M.Meanings.rules in
     let start = start_of c.args.start.now in
     let d = c.args.draft in
-    let p = c.in_ok-parts.parts in
+    let p = c.in_ok-parts-in-Nothing.parts in
     rw c.in-Nothing.is
     (IfOk-weaker c.with_parts.result (λ out. with_parts rules start p.kept p.dropped d ≡ Ok out) (λ out. guarded rules start Nothing d ≡ Ok out)
-    (λ out h. parts-by rules start p.kept (no_changes (old_size d.changes)) p.dropped d.changes d (Ok out) c.in_ok-parts.ensures.kept c.in_ok-parts.ensures.dropped h)
+    (λ out h. parts-by rules start p.kept (no_changes (old_size d.changes)) p.dropped d.changes d (Ok out) c.in_ok-parts-in-Nothing.ensures.kept c.in_ok-parts-in-Nothing.ensures.dropped h)
     c.with_parts.ensures.draft)
 
 pub returns-in_ok-parts-in-Protected-clause-draft : goal.returns-in_ok-parts-in-Protected-clause-draft
