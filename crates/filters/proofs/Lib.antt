@@ -1,0 +1,9 @@
+pub mod Chains
+pub mod Guardings
+pub mod Halves
+pub mod Outcomes
+pub mod Reducing
+pub mod RuleNumbers
+pub mod ShownViews
+pub mod Steps
+pub mod Totals

@@ -1,0 +1,5 @@
+use Rattle.std.proofs.Common.{◌≡◌, take}
+use Rattle.filters.proofs.view.annotations_copy.Given as goal
+
+abbrev pub invariant-loop-annotation : goal.invariant-loop-annotation
+invariant-loop-annotation l = l.copy ≡ take l.annotation-index l.annotations
