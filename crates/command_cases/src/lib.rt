@@ -4,8 +4,12 @@
 #[cfg(test)]
 mod commands;
 #[cfg(test)]
+mod keys;
+#[cfg(test)]
 mod moves;
 #[cfg(test)]
 mod player;
+#[cfg(test)]
+mod shelf;
 #[cfg(test)]
 mod specs;
