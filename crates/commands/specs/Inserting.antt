@@ -30,10 +30,14 @@ insertion s text event =
     editing s (map (replacing text) s.selection.ranges)
     (Some (record { ranges = cursors_after (length text) 0 0 s.selection.ranges; main = s.selection.main })) event
 
--- Insert: an insertion, none where the document is read only.
-abbrev pub insert_spec : SceneView → (text : List ℕ) → Option (Spec Val)
-insert_spec s text = cond s.read_only None (Some (insertion s text (codes "input.type")))
+-- an insertion; none where the document is read only
+abbrev pub allowed_insertion : SceneView → (text event : List ℕ) → Option (Spec Val)
+allowed_insertion s text event = cond s.read_only None (Some (insertion s text event))
 
--- Newline: an insertion of a break.
+-- Insert: a text that is typed.
+abbrev pub insert_spec : SceneView → (text : List ℕ) → Option (Spec Val)
+insert_spec s text = allowed_insertion s text (codes "input.type")
+
+-- Newline: a break.
 abbrev pub newline_spec : SceneView → Option (Spec Val)
-newline_spec s = cond s.read_only None (Some (insertion s (line_feed ∷ []) (codes "input")))
+newline_spec s = allowed_insertion s (line_feed ∷ []) (codes "input")

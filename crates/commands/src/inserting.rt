@@ -1,7 +1,7 @@
 // The commands that insert.
 ghost use Rattle.std.specs.Prelude.{◌≡◌, ◌^◌, ◌<◌, IfOk, map};
 ghost use Rattle.commands.specs.Editing.{shown_scene};
-ghost use Rattle.commands.specs.Inserting.{cursor_after, cursors_after, insert_spec, insertion, newline_spec, replacing};
+ghost use Rattle.commands.specs.Inserting.{allowed_insertion, cursor_after, cursors_after, insert_spec, insertion, newline_spec, replacing};
 
 use crate::edit_scene::EditScene;
 use crate::editing::editing;
@@ -27,11 +27,7 @@ pub fn insert(
 ) -> Result<Option<Spec<Val>>, AllocError>
     ensures { IfOk result (λ spec. spec ≡ insert_spec (shown_scene scene.now) text.now.characters) }
 {
-    if scene.read_only {
-        return Ok(None);
-    }
-    let spec = insertion(alloc, scene, text, &INPUT_TYPE)?;
-    Ok(Some(spec))
+    allowed_insertion(alloc, scene, text, &INPUT_TYPE)
 }
 
 /// Puts a break in place of each range, with a cursor after each; `None` exactly where the document is read only. (Reference
@@ -39,11 +35,23 @@ pub fn insert(
 pub fn newline(alloc: Global, scene: &EditScene<'_>) -> Result<Option<Spec<Val>>, AllocError>
     ensures { IfOk result (λ spec. spec ≡ newline_spec (shown_scene scene.now)) }
 {
+    let text = Text::of(alloc, &['\n'])?;
+    allowed_insertion(alloc, scene, &text, &INPUT)
+}
+
+/// An insertion, unless the document is read only.
+fn allowed_insertion(
+    alloc: Global,
+    scene: &EditScene<'_>,
+    text: &Text,
+    event: &[char],
+) -> Result<Option<Spec<Val>>, AllocError>
+    ensures { IfOk result (λ spec. spec ≡ allowed_insertion (shown_scene scene.now) text.now.characters event.now) }
+{
     if scene.read_only {
         return Ok(None);
     }
-    let text = Text::of(alloc, &['\n'])?;
-    let spec = insertion(alloc, scene, &text, &INPUT)?;
+    let spec = insertion(alloc, scene, text, event)?;
     Ok(Some(spec))
 }
 

@@ -1,8 +1,11 @@
 -- One cluster further in a walk over the ends of clusters.
-use Rattle.std.proofs.Common.{◌≡◌, ℕ, ◌+◌, ◌<◌, ◌≤◌, Bool, true, false, List, [], ◌∷◌, ◌++◌, length, map, refl, sym, ap, ◌∙◌, arith, length-append, if◌then◌else◌}
+use Rattle.std.proofs.Common.{◌≡◌, ℕ, ◌+◌, ◌-◌, ◌<◌, ◌≤◌, Bool, true, false, List, [], ◌∷◌, ◌++◌, length, drop, map, refl, sym, ap, ◌∙◌, arith, length-append, length-drop, if◌then◌else◌}
 use Rattle.std.specs.Prelude.{fold, find, ltb}
 use Rattle.std.specs.Option.{unwrap_or}
+use Rattle.std.proofs.lemmas.Bool.Decides.{nat_tests}
+use Rattle.std.proofs.lemmas.List.{length-take}
 use Rattle.std.specs.Str.{chars, IsUtf8}
+use Rattle.line_tree.specs.Text.{slice}
 use Rattle.unicode_segmentation.specs.Grapheme.{graphemes, is_grapheme_break}
 use Rattle.unicode_segmentation.specs.Segments.{Rule, cut, prepend}
 use Rattle.cells.specs.Layout.{clusters}
@@ -88,3 +91,12 @@ next_found after to place now g left rest result taken now_is past before =
 pub next_none : (after to place : ℕ) (left : List (List ℕ)) (result : ℕ) → left ≡ [] → next_of after to place (map chars left) ≡ result → to ≡ result
 unfolding ends_from
 next_none after to place left result none before = rw none at before
+
+pub less_is : (a b : ℕ) → a < b → ltb a b ≡ true
+less_is a b h = grind (arith, nat_tests)
+
+pub not_less_is : (a b : ℕ) → b ≤ a → ltb a b ≡ false
+not_less_is a b h = grind (arith, nat_tests)
+
+pub length-slice : (from to : ℕ) (cs : List ℕ) → from ≤ to → to ≤ length cs → from + length (slice from to cs) ≡ to
+length-slice from to cs order within = omega (arith, length-take (to - from) (drop from cs), length-drop from cs)

@@ -59,7 +59,7 @@ pub fn up(text: &Text, place: u32) -> Result<u32, AllocError>
     ensures inside { IfOk result (λ to. to ≤ length text.now.characters) }
 {
     let line = line_of(text, place);
-    match numbered_line(text, line.number - 1) {
+    match numbered_line(text, line.number.saturating_sub(1)) {
         Some(target) => at_column(text, &target, place - line.from),
         None => Ok(0),
     }
@@ -74,7 +74,7 @@ pub fn down(text: &Text, place: u32) -> Result<u32, AllocError>
     ensures inside { IfOk result (λ to. to ≤ length text.now.characters) }
 {
     let line = line_of(text, place);
-    match numbered_line(text, line.number + 1) {
+    match next_line(text, &line) {
         Some(target) => at_column(text, &target, place - line.from),
         None => Ok(text.len()),
     }
@@ -89,6 +89,18 @@ fn numbered_line(text: &Text, number: u64) -> Option<Line>
         None
     } else {
         Some(text.line(number))
+    }
+}
+
+/// The line after a line, if there is one.
+fn next_line(text: &Text, line: &Line) -> Option<Line>
+    ensures value { result ≡ numbered_line text.now.characters (line.now.number + 1) }
+    ensures line { MatchOption result (numbered_line text.now.characters (line.now.number + 1) ≡ None) (λ line. (line.from ≤ line.to) × (line.to ≤ length text.now.characters)) }
+{
+    if line.number < text.lines() {
+        numbered_line(text, line.number + 1)
+    } else {
+        None
     }
 }
 

@@ -41,6 +41,7 @@ fn line_text(text: &Text, line: &Line) -> Result<String, AllocError>
     requires inside { line.now.to ≤ length text.now.characters }
     ensures value { IfOk result (λ s. chars (string_bytes s) ≡ slice line.now.from line.now.to text.now.characters) }
     ensures count { IfOk result (λ s. line.now.from + length (chars (string_bytes s)) ≡ line.now.to) }
+    ensures fits { line.now.to < 2 ^ 32 }
 {
     let part = text.slice(line.from, line.to)?;
     let characters = part.text()?;

@@ -14,9 +14,9 @@ pub loop-cluster-preserved : goal.loop-cluster-preserved
 loop-cluster-preserved c =
     let now_is = ap (λ (n : ℕ). c.loop-cluster.place + n) c.char_count.ensures in
     record {
-      most_is = c.later_stop.ensures.most;
+      most_is = c.later_stop-found.ensures.most;
       place_is = walk_place c.loop-cluster.place _ _ _ _ _ c.in-Some.ensures.steps now_is c.loop-cluster.invariant.place_is;
-      gives = last_step c.args.most c.loop-cluster.found _ c.loop-cluster.place _ _ _ _ _ c.in-Some.ensures.steps now_is c.later_stop.ensures.value c.loop-cluster.invariant.gives;
+      gives = last_step c.args.most c.loop-cluster.found _ c.loop-cluster.place _ _ _ _ _ c.in-Some.ensures.steps now_is c.later_stop-found.ensures.value c.loop-cluster.invariant.gives;
     }
 
 pub returns-clause-value : goal.returns-clause-value
