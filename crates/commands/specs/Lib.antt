@@ -8,3 +8,4 @@ pub mod Inserting
 pub mod Deleting
 pub mod Moving
 pub mod Undoing
+pub mod Examples

@@ -1,5 +1,5 @@
 -- The commands that go over the history (manual: undo, redo, undoSelection, redoSelection).
-use Rattle.std.specs.Prelude.{ℕ, Bool, false, cond, ℤ, pos, List, [], ◌∷◌, ◌++◌, map, length, is_none, Option, Some, None, codes, option_map}
+use Rattle.std.specs.Prelude.{ℕ, Bool, true, false, cond, ◌&&◌, ℤ, pos, List, [], ◌∷◌, ◌++◌, map, length, is_none, Option, Some, None, codes, option_map}
 use Rattle.std.specs.Option.{option_and_then, option_map_or, option_to_list}
 use Rattle.cm_plain.specs.declared.kept_effect.KeptEffect.{KeptEffect}
 use Rattle.cm_plain.specs.declared.plain.Plain.TheVariants as plain
@@ -8,9 +8,11 @@ use Rattle.transaction.specs.declared.annotation.Annotation.{Annotation}
 use Rattle.transaction.specs.declared.effect.Effect.{Effect}
 use Rattle.transaction.specs.declared.effect.Effect.TheVariants.{Kind}
 use Rattle.transaction.specs.declared.spec.Spec.{Spec}
+use Rattle.history.specs.declared.item.Item.{Item}
 use Rattle.history.specs.declared.lists.Lists.{Lists}
 use Rattle.history.specs.declared.restore.Restore.{Restore}
 use Rattle.history.specs.Histories.{empty, leads_from}
+use Rattle.history.specs.Items.{is_change}
 use Rattle.history.specs.Reading.{restored_change, restored_item}
 use Rattle.values.specs.declared.val.Val.{Val}
 use Rattle.values.specs.declared.val.Val.TheVariants as val
@@ -61,3 +63,8 @@ undo_selection_spec s =
 abbrev pub redo_selection_spec : SceneView → Option (Spec Val)
 redo_selection_spec s =
     option_and_then (restoring_item s (codes "redo") (codes "select.redo")) (restored_item (pos 1) (pos 3) (history_of s).undone)
+
+-- no item of a list can be restored: there is none, or the newest is a Change and the document is read only
+abbrev pub has_no_item : (read_only : Bool) → List Item → Bool
+has_no_item read_only [] = true
+has_no_item read_only (item ∷ items) = read_only && is_change item

@@ -1,11 +1,12 @@
 // The commands that go over the history.
-ghost use Rattle.std.specs.Prelude.{◌≡◌, ◌++◌, ◌∷◌, [], IfOk, MatchOption, map, option_map, pos};
+ghost use Rattle.std.specs.Prelude.{◌≡◌, ◌++◌, ◌∷◌, [], ◌||◌, IfOk, MatchOption, is_none, map, option_map, pos};
 ghost use Rattle.std.specs.Option.{option_and_then, option_to_list};
 ghost use Rattle.change_set.specs.declared.change.Change.TheVariants as changes;
 ghost use Rattle.history.specs.Histories.{empty};
+ghost use Rattle.history.specs.Items.{newest_change};
 ghost use Rattle.history.specs.Reading.{restored_change, restored_item};
 ghost use Rattle.commands.specs.Editing.{shown_scene, time_notes};
-ghost use Rattle.commands.specs.Undoing.{from_history, history_of, redo_selection_spec, redo_spec, restoring, restoring_item, sent, undo_selection_spec, undo_spec};
+ghost use Rattle.commands.specs.Undoing.{from_history, has_no_item, history_of, redo_selection_spec, redo_spec, restoring, restoring_item, sent, undo_selection_spec, undo_spec};
 
 use crate::edit_scene::EditScene;
 use crate::editing::{number_note, time_notes};
@@ -33,7 +34,8 @@ const SELECT_REDO: [char; 11] = ['s', 'e', 'l', 'e', 'c', 't', '.', 'r', 'e', 'd
 /// Undoes the newest Change; `None` exactly where the document is read only or no Change is left. A history that doesn't lead from
 /// the document counts as empty. (Reference Manual, undo.) `Err`: out of memory.
 pub fn undo(alloc: Global, scene: &EditScene<'_>) -> Result<Option<Spec<Val>>, AllocError>
-    ensures { IfOk result (λ spec. spec ≡ undo_spec (shown_scene scene.now)) }
+    ensures value { IfOk result (λ spec. spec ≡ undo_spec (shown_scene scene.now)) }
+    ensures none { IfOk result (λ spec. is_none spec ≡ (scene.now.read_only || is_none (newest_change (history_of (shown_scene scene.now)).done))) }
 {
     if scene.read_only {
         return Ok(None);
@@ -45,7 +47,8 @@ pub fn undo(alloc: Global, scene: &EditScene<'_>) -> Result<Option<Spec<Val>>, A
 /// Does the newest Change that was undone again; `None` exactly where the document is read only or no such Change is left. A
 /// history that doesn't lead from the document counts as empty. (Reference Manual, redo.) `Err`: out of memory.
 pub fn redo(alloc: Global, scene: &EditScene<'_>) -> Result<Option<Spec<Val>>, AllocError>
-    ensures { IfOk result (λ spec. spec ≡ redo_spec (shown_scene scene.now)) }
+    ensures value { IfOk result (λ spec. spec ≡ redo_spec (shown_scene scene.now)) }
+    ensures none { IfOk result (λ spec. is_none spec ≡ (scene.now.read_only || is_none (newest_change (history_of (shown_scene scene.now)).undone))) }
 {
     if scene.read_only {
         return Ok(None);
@@ -57,7 +60,8 @@ pub fn redo(alloc: Global, scene: &EditScene<'_>) -> Result<Option<Spec<Val>>, A
 /// Undoes the newest item, a Change or a selection that was left; `None` exactly where no item is left, or where it is a Change and
 /// the document is read only. (Reference Manual, undoSelection.) `Err`: out of memory.
 pub fn undo_selection(alloc: Global, scene: &EditScene<'_>) -> Result<Option<Spec<Val>>, AllocError>
-    ensures { IfOk result (λ spec. spec ≡ undo_selection_spec (shown_scene scene.now)) }
+    ensures value { IfOk result (λ spec. spec ≡ undo_selection_spec (shown_scene scene.now)) }
+    ensures none { IfOk result (λ spec. is_none spec ≡ has_no_item scene.now.read_only (history_of (shown_scene scene.now)).done) }
 {
     let restore = undone_item(scene)?;
     restoring_item_if(alloc, scene, restore, &UNDO, &SELECT_UNDO)
@@ -66,7 +70,8 @@ pub fn undo_selection(alloc: Global, scene: &EditScene<'_>) -> Result<Option<Spe
 /// Does the newest item that was undone again, a Change or a selection; `None` exactly where no such item is left, or where it is a
 /// Change and the document is read only. (Reference Manual, redoSelection.) `Err`: out of memory.
 pub fn redo_selection(alloc: Global, scene: &EditScene<'_>) -> Result<Option<Spec<Val>>, AllocError>
-    ensures { IfOk result (λ spec. spec ≡ redo_selection_spec (shown_scene scene.now)) }
+    ensures value { IfOk result (λ spec. spec ≡ redo_selection_spec (shown_scene scene.now)) }
+    ensures none { IfOk result (λ spec. is_none spec ≡ has_no_item scene.now.read_only (history_of (shown_scene scene.now)).undone) }
 {
     let restore = redone_item(scene)?;
     restoring_item_if(alloc, scene, restore, &REDO, &SELECT_REDO)
