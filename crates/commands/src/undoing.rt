@@ -1,5 +1,5 @@
 // The commands that go over the history.
-ghost use Rattle.std.specs.Prelude.{◌≡◌, ◌++◌, ◌∷◌, [], ◌||◌, IfOk, MatchOption, is_none, map, option_map, pos};
+ghost use Rattle.std.specs.Prelude.{◌≡◌, ◌++◌, ◌∷◌, [], ◌||◌, IfOk, MatchOption, false, is_none, map, option_map, pos};
 ghost use Rattle.std.specs.Option.{option_and_then, option_to_list};
 ghost use Rattle.change_set.specs.declared.change.Change.TheVariants as changes;
 ghost use Rattle.history.specs.Histories.{empty};
