@@ -19,11 +19,14 @@ pub struct FacetKey<I: Carried, O: Carried> {
 
 impl<I: Carried, O: Carried> Model for FacetKey<I, O> {
     ghost use Rattle.std.specs.Prelude.{◌≡◌, true};
-    ghost use Rattle.cm_plain.specs.Form.{fits};
+    ghost use Rattle.std.specs.Coded.{codes};
+    ghost use Rattle.cm_plain.specs.Form.{coded_form, fits};
     ghost use Rattle.cm_plain.specs.Shape.{form_of};
     ghost use Rattle.typed_keys.specs.Keys.{FacetKeyView};
 
     ghost Value = { FacetKeyView };
+
+    ghost coded = { Prim.hlevel (codes, coded_form) };
 
     ghost view = { λ k. record { id = k.id; combine = k.combine; output = form_of k.output } };
 

@@ -19,11 +19,14 @@ pub struct FieldKey<T: Carried> {
 
 impl<T: Carried> Model for FieldKey<T> {
     ghost use Rattle.std.specs.Prelude.{◌≡◌, true};
-    ghost use Rattle.cm_plain.specs.Form.{fits};
+    ghost use Rattle.std.specs.Coded.{codes};
+    ghost use Rattle.cm_plain.specs.Form.{coded_form, fits};
     ghost use Rattle.cm_plain.specs.Shape.{form_of};
     ghost use Rattle.typed_keys.specs.Keys.{FieldKeyView};
 
     ghost Value = { FieldKeyView };
+
+    ghost coded = { Prim.hlevel (codes, coded_form) };
 
     ghost view = { λ k. record { id = k.id; update = k.update; shape = form_of k.shape } };
 
