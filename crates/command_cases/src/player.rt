@@ -233,10 +233,11 @@ fn selection_after(
     if let Some(selection) = given(alloc, spec)? {
         return Ok(selection);
     }
-    if first_outside(player.selection.ranges(), changes.len()).is_some() {
-        return Err("a selection in the document".into());
+    let desc = changes.desc()?;
+    match first_outside(player.selection.ranges(), desc.len()) {
+        Some(_) => Err("a selection in the document".into()),
+        None => Ok(player.selection.map(&desc)?),
     }
-    Ok(player.selection.map(&changes.desc()?)?)
 }
 
 /// The history after a step.
