@@ -1,0 +1,11 @@
+pub use Rattle.line_tree.specs.Text
+pub use Rattle.selection.specs.Selections
+pub use Rattle.cursor_moves.specs.Moves
+pub use Rattle.history.specs.Histories
+pub use Rattle.history.specs.Reading
+pub mod Editing
+pub mod Inserting
+pub mod Deleting
+pub mod Moving
+pub mod Undoing
+pub mod Examples

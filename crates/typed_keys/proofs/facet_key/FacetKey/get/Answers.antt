@@ -1,0 +1,9 @@
+use Rattle.std.proofs.Common.{sym, subst}
+use Rattle.typed_keys.specs.Keys.{FacetKeyView, KnowsFacet}
+use Rattle.typed_keys.proofs.Known.{facet-of}
+use Rattle.typed_keys.proofs.facet_key.FacetKey.get.Goals as goal
+
+pub from_val-requires : goal.from_val-requires
+from_val-requires g c =
+    let known = subst (λ (k : FacetKeyView). KnowsFacet g.L.Lookup.rules (g.L.Lookup.facet_def c.args.lookup.now k.id) k) (sym c.self.view_is) c.requires.known in
+    facet-of g.L.Lookup.rules _ _ g.O.Carried.form c.facet.result.now known c.self.invariant c.facet.ensures.fits
