@@ -72,7 +72,12 @@ macro_rules! refusing_lists {
 }
 
 /// Whether each step is made by the kit that refuses most calls exactly where a case says so.
-fn are_made(alloc: Global, kit: &Kit<Shipped>, other: &Kit<Shipped>, all: &[(u32, Sent<'_>, bool)]) -> bool
+fn are_made(
+    alloc: Global,
+    kit: &Kit<Shipped>,
+    other: &Kit<Shipped>,
+    all: &[(u32, Sent<'_>, bool)],
+) -> bool
     requires whole { IsWhole shipped kit.now }
     requires other { IsWhole shipped other.now }
 {

@@ -38,11 +38,15 @@ pub(crate) const TOLD: u32 = 1;
 
 /// The node of each field.
 pub(crate) const COUNT_NODE: u32 = 1;
+
 pub(crate) const GROWN_NODE: u32 = 2;
+
 pub(crate) const HEARD_NODE: u32 = 3;
 /// The input of each facet.
 pub(crate) const LENGTH_INPUT: u32 = 4;
+
 pub(crate) const SUM_INPUT: u32 = 5;
+
 pub(crate) const LIST_INPUT: u32 = 6;
 
 /// What is declared, with the definitions that slots share.

@@ -1,9 +1,9 @@
 // What slots have.
-use crate::declared::Declared;
-use crate::running::{Case, Step, after, next};
 ghost use Rattle.values.specs.Shipped.{shipped};
 ghost use Rattle.values.specs.Whole.{IsWhole};
 
+use crate::declared::Declared;
+use crate::running::{Case, Step, after, next};
 use cm_plain::Plain;
 use facet_slots::Slots;
 use shipped_rules::Shipped;

@@ -107,11 +107,7 @@ fn end_of(
 }
 
 /// A transaction that gives no selection.
-fn mapped(
-    slots: &Slots<Shipped>,
-    changes: ChangeSet,
-    notes: TrNotes,
-) -> Result<TrView, AllocError>
+fn mapped(slots: &Slots<Shipped>, changes: ChangeSet, notes: TrNotes) -> Result<TrView, AllocError>
     requires { old_size changes ≡ length slots.now.scene.document }
     ensures { IfOk result (λ t. IsMade slots.now.scene t) }
 {
@@ -170,11 +166,7 @@ fn typed(
     mapped(slots, set, notes(alloc, &[])?)
 }
 
-fn told(
-    alloc: Global,
-    slots: &Slots<Shipped>,
-    numbers: &[(u32, i64)],
-) -> Result<TrView, AllocError>
+fn told(alloc: Global, slots: &Slots<Shipped>, numbers: &[(u32, i64)]) -> Result<TrView, AllocError>
     ensures { IfOk result (λ t. IsMade slots.now.scene t) }
 {
     let set = changes(alloc, &[], slots.document().len())?;

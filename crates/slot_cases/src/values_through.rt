@@ -48,7 +48,10 @@ fn takes_what_is_declared_since(alloc: Global, kit: &Kit<Shipped>) -> Result<boo
     )?;
     Ok(have(
         &slots,
-        &[Has::Facet(LIST + 1, Want::Int(0)), Has::Facet(SUM, Want::Int(3))],
+        &[
+            Has::Facet(LIST + 1, Want::Int(0)),
+            Has::Facet(SUM, Want::Int(3)),
+        ],
     ))
 }
 
@@ -65,7 +68,10 @@ fn values_through_transactions_and_configurations(rt: HostRuntime) {
                         document: "ab",
                         steps: &[],
                     },
-                    [Has::Facet(SUM, Want::Int(2)), Has::Facet(LIST, Want::Ints(&[7]))],
+                    [
+                        Has::Facet(SUM, Want::Int(2)),
+                        Has::Facet(LIST, Want::Ints(&[7])),
+                    ],
                 ),
                 (
                     "a dependency that changed only through another facet",
@@ -74,19 +80,22 @@ fn values_through_transactions_and_configurations(rt: HostRuntime) {
                         document: "ab",
                         steps: &[Step::Sends(Sent::Typed(2, 2, "c"))],
                     },
-                    [Has::Facet(SUM, Want::Int(3)), Has::Field(COUNT, Want::Int(1))],
+                    [
+                        Has::Facet(SUM, Want::Int(3)),
+                        Has::Field(COUNT, Want::Int(1)),
+                    ],
                 ),
                 (
                     "a transaction of nothing, and a selection alone",
                     Case {
                         nodes: ALL,
                         document: "ab",
-                        steps: &[
-                            Step::Sends(Sent::Told(&[])),
-                            Step::Sends(Sent::Selected(1)),
-                        ],
+                        steps: &[Step::Sends(Sent::Told(&[])), Step::Sends(Sent::Selected(1))],
                     },
-                    [Has::Facet(LENGTH, Want::Int(2)), Has::Field(COUNT, Want::Int(0))],
+                    [
+                        Has::Facet(LENGTH, Want::Int(2)),
+                        Has::Field(COUNT, Want::Int(0)),
+                    ],
                 ),
                 (
                     "a field that leaves",
@@ -95,7 +104,10 @@ fn values_through_transactions_and_configurations(rt: HostRuntime) {
                         document: "ab",
                         steps: &[Step::Enters(&[]), Step::Sends(Sent::Typed(2, 2, "c"))],
                     },
-                    [Has::Field(GROWN, Want::Absent), Has::Facet(SUM, Want::Int(0))],
+                    [
+                        Has::Field(GROWN, Want::Absent),
+                        Has::Facet(SUM, Want::Int(0)),
+                    ],
                 ),
                 (
                     "a field that comes back is created over the old document, then updated once",
@@ -109,7 +121,10 @@ fn values_through_transactions_and_configurations(rt: HostRuntime) {
                             Step::Sends(Sent::Typed(3, 3, "de")),
                         ],
                     },
-                    [Has::Field(GROWN, Want::Int(4)), Has::Field(HEARD, Want::Absent)],
+                    [
+                        Has::Field(GROWN, Want::Int(4)),
+                        Has::Field(HEARD, Want::Absent),
+                    ],
                 ),
                 (
                     "a field that stays keeps its value",
@@ -121,7 +136,10 @@ fn values_through_transactions_and_configurations(rt: HostRuntime) {
                             Step::Enters(&[LENGTH_INPUT, GROWN_NODE]),
                         ],
                     },
-                    [Has::Field(GROWN, Want::Int(3)), Has::Facet(LENGTH, Want::Int(2))],
+                    [
+                        Has::Field(GROWN, Want::Int(3)),
+                        Has::Facet(LENGTH, Want::Int(2)),
+                    ],
                 ),
                 (
                     "listened effects, in order",
@@ -133,7 +151,10 @@ fn values_through_transactions_and_configurations(rt: HostRuntime) {
                             Step::Sends(Sent::Told(&[(TOLD, 3)])),
                         ],
                     },
-                    [Has::Field(HEARD, Want::Ints(&[5, 4, 3])), Has::Facet(LIST, Want::Ints(&[]))],
+                    [
+                        Has::Field(HEARD, Want::Ints(&[5, 4, 3])),
+                        Has::Facet(LIST, Want::Ints(&[])),
+                    ],
                 ),
             ] {
                 assert!(rt; passes(rt.alloc(), &kit, *case, all), "{name}");
