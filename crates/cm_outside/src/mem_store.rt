@@ -1,9 +1,9 @@
-ghost use Rattle.std.specs.Prelude.{◌≡◌, ◌≤◌, ◌↔◌, [], ℕ, List, Option, Some, Err, IsTrue, IfOk, OnOk, OnErr};
+ghost use Rattle.std.specs.Prelude.{◌≡◌, ◌≤◌, ◌↔◌, [], ℕ, List, Option, Some, Err, IsTrue, IfOk, OnOk, OnErr, option_copied};
 ghost use Rattle.std.specs.List.{position_or_len};
 ghost use Rattle.cm_outside.specs.Faults.{Rose};
 ghost use Rattle.cm_outside.specs.Files.{Files, IsSaved, Loads, Saves, found_bytes};
 ghost use Rattle.cm_outside.specs.Memory.{is_failing};
-ghost use Rattle.cm_outside.specs.MemFiles.{MemStoreView, files_of, is_named};
+ghost use Rattle.cm_outside.specs.MemFiles.{IsCounted, MemStoreView, files_of, is_named};
 
 use crate::leaves::Leaves;
 use crate::store::Store;
@@ -112,10 +112,32 @@ impl MemStore {
         }
     }
 
+    /// Puts a file there in place of the one of its name, or after the others; this is no call. `Err`: out of memory, and all is
+    /// as before.
+    pub fn put(&mut self, name: &Str, bytes: &[u8]) -> Result<(), AllocError>
+        ensures saved { OnOk result (IsSaved name.now bytes.now (files_of self.old.files) (files_of self.new.files)) }
+        ensures same { self.new ≡ record self.old { files = self.new.files } }
+        ensures memory { OnErr result (self.new ≡ self.old) }
+    {
+        put(&mut self.files, name, bytes)
+    }
+
+    /// The bytes of the file of this name, if there is one; this is no call. Takes no memory.
+    pub fn bytes(&self, name: &Str) -> Option<&[u8]>
+        ensures { option_copied result ≡ files_of self.now.files name.now }
+    {
+        let place = place_of(self.files.as_slice(), name);
+        if place >= self.files.len() {
+            return None;
+        }
+        Some(self.files[place].bytes.as_slice())
+    }
+
     /// Counts a call. Answers whether it is to fail, which is counted too.
     fn begin(&mut self) -> bool
         ensures fails { IsTrue result ↔ IsTrue (is_failing self.old.calls self.old.failing) }
-        ensures same { (self.new.files ≡ self.old.files) × (self.new.leaves ≡ self.old.leaves) }
+        ensures same { self.new.files ≡ self.old.files }
+        ensures counted { IsCounted self.old self.new }
         ensures later { self.old.faults ≤ self.new.faults }
         ensures cause { IsTrue result → Rose self.old.faults self.new.faults }
     {
@@ -140,6 +162,8 @@ impl Store for MemStore {
         ensures cause { result ≡ Err StoreFault.Failed → Rose self.old.faults self.new.faults }
         // The calls that fail are those that are named.
         ensures fails { (result ≡ Err StoreFault.Failed) ↔ IsTrue (is_failing self.old.calls self.old.failing) }
+        ensures same { self.new.files ≡ self.old.files }
+        ensures counted { IsCounted self.old self.new }
     {
         if self.begin() {
             return Err(StoreFault::Failed);
@@ -158,6 +182,7 @@ impl Store for MemStore {
         ensures fails { (result ≡ Err StoreFault.Failed) ↔ IsTrue (is_failing self.old.calls self.old.failing) }
         ensures left { IsTrue (is_failing self.old.calls self.old.failing) → self.old.leaves ≡ Leaves.AsBefore
             → self.new.files ≡ self.old.files }
+        ensures counted { IsCounted self.old self.new }
     {
         if self.begin() {
             if self.leaves == Leaves::AsAsked {

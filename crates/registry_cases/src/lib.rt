@@ -12,6 +12,8 @@ mod declared;
 #[cfg(test)]
 mod fields;
 #[cfg(test)]
+mod limits;
+#[cfg(test)]
 mod lookups;
 #[cfg(test)]
 mod nodes;

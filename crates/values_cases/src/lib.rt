@@ -6,12 +6,20 @@ mod combining;
 #[cfg(test)]
 mod effect_maps;
 #[cfg(test)]
+mod filtering;
+#[cfg(test)]
 mod kit;
 #[cfg(test)]
 mod made;
 #[cfg(test)]
+mod more;
+#[cfg(test)]
 mod reading;
 #[cfg(test)]
 mod shapes;
+#[cfg(test)]
+mod showing;
+#[cfg(test)]
+mod updating;
 #[cfg(test)]
 mod views;

@@ -1,7 +1,7 @@
 use cm_plain::{Plain, Str};
 use decoration::{Deco, DecoSet, Inclusive, Layers, Style, place};
 use history::History;
-use range_set::RangeSet;
+use range_set::{RangeSet, Ranged};
 use std::alloc::{AllocError, Global};
 use std::test::Fail;
 use values::Val;
@@ -17,9 +17,22 @@ pub(crate) enum Made<'a> {
     Pairs(&'a [(i64, i64)]),
     /// Marks of these ranges.
     Ranges(&'a [(u32, u32)]),
+    /// A set of these decorations.
+    Set(&'a [Drawn]),
     /// A layer of a mark of each range.
     Layers(&'a [(u32, u32)]),
     History,
+}
+
+/// A decoration as the cases write it.
+#[derive(Clone, Copy)]
+pub(crate) enum Drawn {
+    /// A mark of a range, without a style.
+    Mark(u32, u32),
+    /// A mark of a range that shows reversed.
+    Reversed(u32, u32),
+    /// A line decoration in bold.
+    Bold(u32),
 }
 
 /// Values as the cases write them.
@@ -54,6 +67,46 @@ fn marks(alloc: Global, places: &[(u32, u32)]) -> Result<DecoSet, Fail> {
     Ok(RangeSet::of(ranges)?)
 }
 
+/// A mark of a range, which doesn't grow at its ends.
+fn marked(style: Style, from: u32, to: u32) -> Ranged<Deco> {
+    let inclusive = Inclusive {
+        start: false,
+        end: false,
+    };
+    Ranged {
+        from,
+        to,
+        value: Deco::mark(style, inclusive),
+    }
+}
+
+fn ranged(deco: Drawn) -> Ranged<Deco> {
+    let mut style = Style::plain();
+    match deco {
+        Drawn::Mark(from, to) => marked(style, from, to),
+        Drawn::Reversed(from, to) => {
+            style.reverse = true;
+            marked(style, from, to)
+        }
+        Drawn::Bold(place) => {
+            style.bold = true;
+            Ranged {
+                from: place,
+                to: place,
+                value: Deco::line(style),
+            }
+        }
+    }
+}
+
+fn set(alloc: Global, decos: &[Drawn]) -> Result<DecoSet, Fail> {
+    let mut ranges = Vec::new(alloc);
+    for deco in decos {
+        ranges.push(ranged(*deco))?;
+    }
+    Ok(RangeSet::of(ranges)?)
+}
+
 fn layers(alloc: Global, places: &[(u32, u32)]) -> Result<Layers, Fail> {
     let mut sets = Vec::new(alloc);
     for range in places {
@@ -77,6 +130,7 @@ pub(crate) fn plain_of(alloc: Global, value: Made<'_>) -> Result<Plain, Fail> {
 pub(crate) fn value_of(alloc: Global, value: Made<'_>) -> Result<Val, Fail> {
     match value {
         Made::Ranges(places) => Ok(Val::Ranges(marks(alloc, places)?)),
+        Made::Set(decos) => Ok(Val::Ranges(set(alloc, decos)?)),
         Made::Layers(places) => Ok(Val::Layers(layers(alloc, places)?)),
         Made::History => Ok(Val::History(History::empty(alloc))),
         plain => Ok(Val::Plain(plain_of(alloc, plain)?)),

@@ -6,11 +6,11 @@ ghost use Rattle.values.specs.InRange.{AreInRange, IsInRange};
 
 use crate::made::{Made, Of, plain_of, value_of};
 use change_set::{Change, ChangeSet, InsertedText};
-use cm_plain::Str;
+use cm_plain::{KeptEffect, Plain, Str};
 use line_tree::{MAX_LEN, Text, cut_len};
 use listed::Listed;
 use selection::{Selection, first_outside};
-use std::alloc::{AllocError, Global};
+use std::alloc::Global;
 use std::test::Fail;
 use transaction::Annotation;
 use values::{Deps, Scene, ShownEffect, TrNotes, TrView, Val};
@@ -131,11 +131,24 @@ fn effects(alloc: Global, values: Of<'_>) -> Result<Listed<ShownEffect>, Fail> {
     Ok(effects)
 }
 
-/// One annotation of a kind, if there is one.
+/// What a transaction carries beside its effects: nothing, an annotation of a kind, or what undoes an effect, of kind 1.
 #[derive(Clone, Copy)]
 pub(crate) enum Note<'a> {
     None,
     Of(&'a str, Made<'a>),
+    Undoes(i64),
+}
+
+fn inverted(alloc: Global, note: Note<'_>) -> Result<Listed<KeptEffect>, Fail> {
+    let mut kept = Listed::empty(alloc);
+    if let Note::Undoes(number) = note {
+        kept.push(KeptEffect {
+            id: 1,
+            map: None,
+            value: Plain::Int(number),
+        })?;
+    }
+    Ok(kept)
 }
 
 fn annotations(alloc: Global, note: Note<'_>) -> Result<Listed<Annotation>, Fail> {
@@ -150,20 +163,24 @@ fn annotations(alloc: Global, note: Note<'_>) -> Result<Listed<Annotation>, Fail
 
 fn notes(alloc: Global, values: Of<'_>, note: Note<'_>) -> Result<TrNotes, Fail> {
     let effects = effects(alloc, values)?;
+    let inverted = inverted(alloc, note)?;
     Ok(TrNotes {
         effects,
-        inverted: Listed::empty(alloc),
+        inverted,
         annotations: annotations(alloc, note)?,
     })
 }
 
-/// A document that isn't too long, with a cursor at its start.
-fn scene(alloc: Global, document: Text) -> Result<Scene, AllocError>
+/// A document with a cursor.
+fn scene(alloc: Global, document: Text, head: u32) -> Result<Scene, Fail>
     ensures document { IfOk result (λ scene. scene.document ≡ document) }
     ensures is_selection { IfOk result (λ scene. IsSelection scene.selection) }
     ensures inside { IfOk result (λ scene. LieIn (length document.characters) scene.selection.ranges) }
 {
-    let selection = Selection::single(alloc, 0, 0)?;
+    let selection = Selection::single(alloc, head, head)?;
+    if first_outside(selection.ranges(), document.len()).is_some() {
+        return Err("a place in the text".into());
+    }
     selection.known();
     Ok(Scene {
         document,
@@ -171,18 +188,18 @@ fn scene(alloc: Global, document: Text) -> Result<Scene, AllocError>
     })
 }
 
-/// The start of what is typed.
+/// The start of what is typed, with a cursor before it.
 fn start_of(alloc: Global, typed: Typed<'_>) -> Result<Scene, Fail>
     ensures short { IfOk result (λ scene. length scene.document.characters ≤ max_len) }
     ensures is_selection { IfOk result (λ scene. IsSelection scene.selection) }
     ensures inside { IfOk result (λ scene. LieIn (length scene.document.characters) scene.selection.ranges) }
 {
     let document = text(alloc, typed.start)?;
-    Ok(scene(alloc, document)?)
+    scene(alloc, document, 0)
 }
 
-/// The end of changes.
-fn end_of(alloc: Global, changes: &ChangeSet, start: &Text) -> Result<Scene, Fail>
+/// The end of changes, with a cursor.
+fn end_of(alloc: Global, changes: &ChangeSet, start: &Text, head: u32) -> Result<Scene, Fail>
     requires { old_size changes.now ≡ length start.now.characters }
     ensures document { IfOk result (λ scene. scene.document.characters ≡ apply changes.now start.now.characters) }
     ensures short { IfOk result (λ scene. length scene.document.characters ≤ max_len) }
@@ -193,7 +210,7 @@ fn end_of(alloc: Global, changes: &ChangeSet, start: &Text) -> Result<Scene, Fai
     if document.len() > MAX_LEN {
         return Err("a short text".into());
     }
-    Ok(scene(alloc, document)?)
+    scene(alloc, document, head)
 }
 
 /// The changes of a text of `len` characters.
@@ -209,21 +226,37 @@ fn changes(alloc: Global, typed: Typed<'_>, len: u32) -> Result<ChangeSet, Fail>
     Ok(ChangeSet::of(alloc, &change, len, MAX_LEN)?)
 }
 
-/// What is shown of a transaction with these notes.
-fn viewed(alloc: Global, typed: Typed<'_>, notes: TrNotes) -> Result<TrView, Fail> {
+/// What is shown of a transaction with these notes, which gives a cursor or has one before the text.
+fn viewed(
+    alloc: Global,
+    typed: Typed<'_>,
+    given: Option<u32>,
+    notes: TrNotes,
+) -> Result<TrView, Fail> {
     notes.known();
     let start = start_of(alloc, typed)?;
     let changes = changes(alloc, typed, start.document.len())?;
-    let end = end_of(alloc, &changes, &start.document)?;
-    Ok(TrView::new(changes, start, end, false, notes))
+    let end = end_of(alloc, &changes, &start.document, given.unwrap_or(0))?;
+    Ok(TrView::new(changes, start, end, given.is_some(), notes))
 }
 
-/// What is shown of a transaction with effects of these values and an annotation.
+/// What is shown of a transaction with effects of these values and a note, which gives a cursor.
+pub(crate) fn given(
+    alloc: Global,
+    typed: Typed<'_>,
+    head: u32,
+    values: Of<'_>,
+    note: Note<'_>,
+) -> Result<TrView, Fail> {
+    viewed(alloc, typed, Some(head), notes(alloc, values, note)?)
+}
+
+/// What is shown of a transaction with effects of these values and a note.
 pub(crate) fn shown(
     alloc: Global,
     typed: Typed<'_>,
     values: Of<'_>,
     note: Note<'_>,
 ) -> Result<TrView, Fail> {
-    viewed(alloc, typed, notes(alloc, values, note)?)
+    viewed(alloc, typed, None, notes(alloc, values, note)?)
 }

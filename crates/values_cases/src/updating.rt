@@ -1,0 +1,230 @@
+// Updaters by number.
+use crate::made::{Drawn, Made, Of, is, value_of};
+use crate::views::{IDLE, Note, Read, TYPED, Typed, deps_of, shown};
+use shipped_rules::update;
+use std::alloc::Global;
+use std::test::*;
+use values::{UpdateView, Val};
+
+fn view_of(
+    alloc: Global,
+    typed: Typed<'_>,
+    effects: Of<'_>,
+    note: Note<'_>,
+    read: Read<'_>,
+) -> Result<UpdateView, Fail> {
+    let transaction = shown(alloc, typed, effects, note)?;
+    let deps = deps_of(alloc, read)?;
+    Ok(UpdateView { transaction, deps })
+}
+
+/// Whether an updater makes this of an old value over what is typed, effects and reads.
+fn updates(
+    alloc: Global,
+    number: u32,
+    old: Made<'_>,
+    typed: Typed<'_>,
+    effects: Of<'_>,
+    read: Read<'_>,
+    want: Made<'_>,
+) -> Result<bool, Fail> {
+    let view = view_of(alloc, typed, effects, Note::None, read)?;
+    let old = value_of(alloc, old)?;
+    is(alloc, &update(alloc, number, &old, &view)?, want)
+}
+
+/// No reads.
+const NONE: Read<'static> = Read::Values(&[]);
+
+#[test]
+fn updaters_answer_by_number(rt: HostRuntime) -> Result<(), Fail> {
+    let mixed = Of(&[Made::Int(1), Made::Text("a"), Made::Ranges(&[])]);
+    for (number, old, typed, effects, want) in &[
+        (1, Made::Int(3), TYPED, mixed, Made::Int(3)),
+        (2, Made::Int(3), TYPED, mixed, Made::Int(4)),
+        (2, Made::Int(3), IDLE, mixed, Made::Int(3)),
+        (2, Made::Int(i64::MAX), TYPED, Of(&[]), Made::Int(i64::MAX)),
+        (3, Made::Int(3), TYPED, mixed, Made::Text("a")),
+        (3, Made::Int(3), TYPED, Of(&[]), Made::Int(3)),
+        (
+            7,
+            Made::Ints(&[5]),
+            IDLE,
+            Of(&[Made::Int(1), Made::Ranges(&[]), Made::Int(2)]),
+            Made::Ints(&[5, 1, 2]),
+        ),
+    ] {
+        assert!(rt;
+            updates(rt.alloc(), *number, *old, *typed, *effects, NONE, *want)?,
+            "at {number}"
+        );
+    }
+    Ok(())
+}
+
+#[test]
+fn the_first_read_is_the_new_value(rt: HostRuntime) -> Result<(), Fail> {
+    for (read, want) in &[
+        (Some(Made::Text("a")), Made::Text("a")),
+        (Some(Made::Ranges(&[])), Made::Unit),
+        (None, Made::Unit),
+    ] {
+        let reads = [*read, Some(Made::Int(1))];
+        assert!(rt;
+            updates(
+                rt.alloc(),
+                8,
+                Made::Int(3),
+                TYPED,
+                Of(&[Made::Int(2)]),
+                Read::Values(&reads),
+                *want
+            )?
+        );
+    }
+    Ok(())
+}
+
+/// The text `ab`, and a `c` before it.
+const BEFORE: Typed<'static> = Typed {
+    start: "ab",
+    from: 0,
+    to: 0,
+    insert: "c",
+};
+
+#[test]
+fn marks_are_mapped_and_added(rt: HostRuntime) -> Result<(), Fail> {
+    let old = Made::Ranges(&[(0, 1), (1, 9)]);
+    for (typed, effects, want) in &[
+        (BEFORE, Of(&[]), Made::Set(&[Drawn::Mark(1, 2)])),
+        (
+            BEFORE,
+            Of(&[
+                Made::Ints(&[1, 3]),
+                Made::Ints(&[0, 4]),
+                Made::Ints(&[1, 1]),
+            ]),
+            Made::Set(&[Drawn::Mark(1, 2), Drawn::Reversed(1, 3)]),
+        ),
+        (
+            IDLE,
+            Of(&[Made::Ints(&[1, 2]), Made::Unit, Made::Ints(&[0, 1])]),
+            Made::Set(&[Drawn::Reversed(0, 1), Drawn::Reversed(1, 2)]),
+        ),
+    ] {
+        assert!(rt; updates(rt.alloc(), 4, old, *typed, *effects, NONE, *want)?);
+    }
+    Ok(())
+}
+
+#[test]
+fn lines_are_marked(rt: HostRuntime) -> Result<(), Fail> {
+    let old = Made::Ranges(&[(0, 1), (1, 9)]);
+    let effects = Of(&[Made::Int(3), Made::Int(1), Made::Int(0), Made::Int(-1)]);
+    let lines = Read::Document("ab\nc");
+    let bold = [Drawn::Bold(0), Drawn::Mark(1, 2), Drawn::Bold(3)];
+    let kept = [Drawn::Mark(1, 2)];
+    assert!(rt; updates(rt.alloc(), 5, old, BEFORE, effects, lines, Made::Set(&bold))?);
+    assert!(rt; updates(rt.alloc(), 5, old, BEFORE, effects, NONE, Made::Set(&kept))?);
+    Ok(())
+}
+
+/// The history after what is typed, with an annotation.
+fn stepped(
+    alloc: Global,
+    old: &Val,
+    typed: Typed<'_>,
+    note: Note<'_>,
+    read: Read<'_>,
+) -> Result<Val, Fail> {
+    let view = view_of(alloc, typed, Of(&[]), note, read)?;
+    Ok(update(alloc, 6, old, &view)?)
+}
+
+/// How many Changes can be undone, and how many done again; `None` where the value is no history.
+fn depth(value: &Val) -> Option<(usize, usize)> {
+    match value {
+        Val::History(history) => Some(history.depth()),
+        _ => None,
+    }
+}
+
+/// How many Changes can be undone after what is typed.
+fn first(
+    alloc: Global,
+    typed: Typed<'_>,
+    note: Note<'_>,
+    read: Read<'_>,
+) -> Result<Option<(usize, usize)>, Fail> {
+    let old = value_of(alloc, Made::History)?;
+    Ok(depth(&stepped(alloc, &old, typed, note, read)?))
+}
+
+#[test]
+fn a_history_takes_what_is_typed(rt: HostRuntime) -> Result<(), Fail> {
+    for (typed, note, want) in &[
+        (TYPED, Note::None, 1),
+        (IDLE, Note::None, 0),
+        (TYPED, Note::Of("addToHistory", Made::Bool(false)), 0),
+        (TYPED, Note::Of("addToHistory", Made::Int(0)), 1),
+        (TYPED, Note::Of("fromHistory", Made::Int(0)), 0),
+        (IDLE, Note::Undoes(1), 1),
+    ] {
+        assert!(rt; first(rt.alloc(), *typed, *note, NONE)? == Some((*want, 0)));
+    }
+    Ok(())
+}
+
+#[test]
+fn a_history_reads_its_depth_first(rt: HostRuntime) -> Result<(), Fail> {
+    for (bounds, want) in &[
+        (Made::Ints(&[0, 500]), 0),
+        (Made::Ints(&[1, 0]), 1),
+        (Made::Ints(&[0]), 1),
+        (Made::Int(0), 1),
+    ] {
+        let reads = [Some(*bounds)];
+        assert!(rt;
+            first(rt.alloc(), TYPED, Note::None, Read::Values(&reads))? == Some((*want, 0))
+        );
+    }
+    Ok(())
+}
+
+/// The text `abc`, and a `d` after it.
+const MORE: Typed<'static> = Typed {
+    start: "abc",
+    from: 3,
+    to: 3,
+    insert: "d",
+};
+
+/// How many Changes can be undone after two characters, the second 100 milliseconds later.
+fn second(alloc: Global, bounds: Made<'_>) -> Result<Option<(usize, usize)>, Fail> {
+    let reads = [Some(bounds)];
+    let old = value_of(alloc, Made::History)?;
+    let once = stepped(
+        alloc,
+        &old,
+        TYPED,
+        Note::Of("time", Made::Int(0)),
+        Read::Values(&reads),
+    )?;
+    let twice = stepped(
+        alloc,
+        &once,
+        MORE,
+        Note::Of("time", Made::Int(100)),
+        Read::Values(&reads),
+    )?;
+    Ok(depth(&twice))
+}
+
+#[test]
+fn a_history_joins_within_its_delay(rt: HostRuntime) -> Result<(), Fail> {
+    assert!(rt; second(rt.alloc(), Made::Ints(&[5, 101]))? == Some((1, 0)));
+    assert!(rt; second(rt.alloc(), Made::Ints(&[5, 100]))? == Some((2, 0)));
+    assert!(rt; second(rt.alloc(), Made::Unit)? == Some((1, 0)));
+    Ok(())
+}
