@@ -1,4 +1,5 @@
 // Calls that aren't due are not made: a kit whose rules are out of memory makes the step all the same.
+ghost use Rattle.std.specs.Prelude.{◌≡◌, IfOk};
 ghost use Rattle.values.specs.Shipped.{shipped};
 ghost use Rattle.values.specs.Whole.{IsWhole};
 
@@ -6,13 +7,13 @@ use crate::declared::{COUNT_NODE, LENGTH_INPUT, LIST_INPUT, SUM_INPUT, declared}
 use crate::reading::goes_on;
 use crate::running::{Case, Step};
 use crate::transactions::Sent;
-use shipped_rules::{Shipped, compute, each_or_none, shipped_lists};
+use listed::Listed;
+use shipped_rules::{
+    Shipped, compare, compute, extend, filter, guard, map_effect, rule_lists, shipped_lists, update,
+};
 use std::alloc::{AllocError, Global};
 use std::test::*;
-use values::{
-    CombineBox, Combiner, ComputeBox, ComputeListBox, Computer, ComputerN, CreateBox, Creator,
-    Deps, Kit, RuleLists, Val,
-};
+use values::{Deps, Kit, Val};
 
 /// A facet that reads the document, a facet that reads that facet, a facet with a fixed input, and a field, over "ab".
 const ALL: Case<'static> = Case {
@@ -36,39 +37,67 @@ fn makes(
     goes_on(alloc, kit, other, &declared, ALL, Step::Sends(sent))
 }
 
-/// Lists of which the comparers and the updaters answer, and the computers up to a number; the other rules of slots are out of
-/// memory.
+/// Combines nothing: it is out of memory.
+fn combine_nothing(_alloc: Global, number: u32, inputs: &[Val]) -> Result<Val, AllocError>
+    ensures { IfOk result (λ v. v ≡ shipped.combine number inputs.now) }
+{
+    let _ = (number, inputs);
+    Err(AllocError)
+}
+
+/// Computes nothing: it is out of memory.
+fn compute_nothing(_alloc: Global, number: u32, deps: &Deps) -> Result<Val, AllocError>
+    ensures { IfOk result (λ v. v ≡ shipped.compute number deps.now) }
+{
+    let _ = (number, deps);
+    Err(AllocError)
+}
+
+/// Computes the length of the document alone: each other rule is out of memory.
+fn compute_length(alloc: Global, number: u32, deps: &Deps) -> Result<Val, AllocError>
+    ensures { IfOk result (λ v. v ≡ shipped.compute number deps.now) }
+{
+    if number == 1 {
+        compute(alloc, number, deps)
+    } else {
+        Err(AllocError)
+    }
+}
+
+/// Computes no list: it is out of memory.
+fn compute_no_list(_alloc: Global, number: u32, deps: &Deps) -> Result<Listed<Val>, AllocError>
+    ensures { IfOk result (λ vs. vs ≡ shipped.compute_list number deps.now) }
+{
+    let _ = (number, deps);
+    Err(AllocError)
+}
+
+/// Creates nothing: it is out of memory.
+fn create_nothing(_alloc: Global, number: u32, deps: &Deps) -> Result<Val, AllocError>
+    ensures { IfOk result (λ v. v ≡ shipped.create number deps.now) }
+{
+    let _ = (number, deps);
+    Err(AllocError)
+}
+
+/// Lists of the shipped rules, of which those that combine, compute lists and create are out of memory.
 macro_rules! refusing_lists {
-    ($alloc:expr, $answering:expr) => {{
-        let alloc = $alloc;
-        let answering: u32 = $answering;
-        let lists = shipped_lists!(alloc, Shipped);
-        RuleLists::<Shipped> {
-            combiners: each_or_none(alloc, 13, move |number: u32| {
-                let rule: CombineBox = Box::new(alloc, move |_inputs: &[Val]| Err(AllocError))?;
-                Ok(Combiner::<Shipped>::new(number, rule))
-            }),
-            computers: each_or_none(alloc, 6, move |number: u32| {
-                let rule: ComputeBox = Box::new(alloc, move |deps: &Deps| {
-                    if number <= answering {
-                        compute(alloc, number, deps)
-                    } else {
-                        Err(AllocError)
-                    }
-                })?;
-                Ok(Computer::<Shipped>::new(number, rule))
-            }),
-            list_computers: each_or_none(alloc, 2, move |number: u32| {
-                let rule: ComputeListBox = Box::new(alloc, move |_deps: &Deps| Err(AllocError))?;
-                Ok(ComputerN::<Shipped>::new(number, rule))
-            }),
-            creators: each_or_none(alloc, 7, move |number: u32| {
-                let rule: CreateBox = Box::new(alloc, move |_deps: &Deps| Err(AllocError))?;
-                Ok(Creator::<Shipped>::new(number, rule))
-            }),
-            ..lists
-        }
-    }};
+    ($alloc:expr, $compute:path) => {
+        rule_lists!(
+            $alloc,
+            Shipped,
+            combine: combine_nothing,
+            compare: compare,
+            compute: $compute,
+            compute_list: compute_no_list,
+            create: create_nothing,
+            update: update,
+            map_effect: map_effect,
+            guard: guard,
+            filter: filter,
+            extend: extend
+        )
+    };
 }
 
 /// Whether each step is made by the kit that refuses most calls exactly where a case says so.
@@ -96,8 +125,8 @@ fn are_made(
 
 #[test]
 fn updaters_alone(rt: HostRuntime) {
-    let kit = Kit::new(shipped_lists!(rt.alloc(), Shipped));
-    let other = Kit::new(refusing_lists!(rt.alloc(), 0));
+    let kit = Kit::new(shipped_lists!(rt.alloc()));
+    let other = Kit::new(refusing_lists!(rt.alloc(), compute_nothing));
     match (kit, other) {
         (Ok(kit), Ok(other)) => {
             let all = [
@@ -114,8 +143,8 @@ fn updaters_alone(rt: HostRuntime) {
 
 #[test]
 fn updaters_and_the_length(rt: HostRuntime) {
-    let kit = Kit::new(shipped_lists!(rt.alloc(), Shipped));
-    let other = Kit::new(refusing_lists!(rt.alloc(), 1));
+    let kit = Kit::new(shipped_lists!(rt.alloc()));
+    let other = Kit::new(refusing_lists!(rt.alloc(), compute_length));
     match (kit, other) {
         (Ok(kit), Ok(other)) => {
             let all = [
