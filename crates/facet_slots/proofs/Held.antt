@@ -50,14 +50,14 @@ module _ (rules : Rules) (setup : Setup) (ordered : IsOrdered setup) (scene : Sc
       inputs_of-same rules setup scene values (values_of rules setup scene rule) v
       (AllNeeds-weaker (StandsBefore (order_of setup) i) (λ w. values w ≡ values_of rules setup scene rule w) (λ w before. known before.0 w before.1 before.2) setup v (ordered.after i v at))
 
-  facet-beyond : (f : ℕ) → facet_at setup f ≡ None → (n : ℕ) → rounds (round rules setup scene rule) None n (Facet f) ≡ None
+  pub facet-beyond : (f : ℕ) → facet_at setup f ≡ None → (n : ℕ) → rounds (round rules setup scene rule) None n (Facet f) ≡ None
   facet-beyond f none zero = refl
   facet-beyond f none (suc n) = ap (option_map (facet_value rules scene (rounds (round rules setup scene rule) None n))) none
 
   abbrev field-given : Values → ℕ → Option PresentField → Option Val
   field-given values f o = option_map (field_value scene rule values f) o
 
-  field-beyond : (f : ℕ) → field_at setup f ≡ None → (n : ℕ) → rounds (round rules setup scene rule) None n (Field f) ≡ None
+  pub field-beyond : (f : ℕ) → field_at setup f ≡ None → (n : ℕ) → rounds (round rules setup scene rule) None n (Field f) ≡ None
   field-beyond f none zero = refl
   field-beyond f none (suc n) = ap (field-given (rounds (round rules setup scene rule) None n) f) none
 

@@ -2,6 +2,7 @@ pub mod Advance
 pub mod Calls
 pub mod Changing
 pub mod Creation
+pub mod Declared
 pub mod Earlier
 pub mod Fitting
 pub mod Fresh
@@ -17,6 +18,7 @@ pub mod Places
 pub mod Ranged
 pub mod Resolved
 pub mod Rounds
+pub mod Standing
 pub mod Stated
 pub mod Still
 pub mod Unflagged
