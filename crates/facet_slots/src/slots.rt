@@ -62,7 +62,10 @@ fn share_config(config: &Rc<Config>) -> Result<Rc<Config>, AllocError>
 }
 
 impl<M: Meanings> Slots<M> {
-    ghost use Rattle.std.specs.Prelude.{◌≡◌, ◌<◌, ◌+◌, ◌≤◌, length, option_copied, IfOk, Some};
+    ghost use Rattle.std.specs.Prelude.{◌≡◌, ◌<◌, ◌+◌, ◌≤◌, ℕ, length, option_copied, IfOk, None, Some};
+    ghost use Rattle.std.specs.Option.{option_map};
+    ghost use Rattle.facet_slots.specs.FacetValues.{facet_value};
+    ghost use Rattle.facet_slots.specs.Setups.{facet_at, field_at};
     ghost use Rattle.values.specs.Whole.{IsWhole};
     ghost use Rattle.facet_slots.specs.Scenes.{IsScene};
     ghost use Rattle.facet_slots.specs.Found.{scene_of};
@@ -70,7 +73,7 @@ impl<M: Meanings> Slots<M> {
     ghost use Rattle.facet_slots.specs.Making.{IsMade};
     ghost use Rattle.facet_slots.specs.Agreement.{IsGrown};
     ghost use Rattle.facet_slots.specs.Resolving.{IsResolved};
-    ghost use Rattle.facet_slots.specs.Lawful.{IsLawful};
+    ghost use Rattle.facet_slots.specs.Lawful.{FieldsFit, IsLawful};
     ghost use Rattle.facet_slots.specs.Due.{transition_calls};
     ghost use Rattle.facet_slots.specs.Lent.{defs_of};
     ghost use Rattle.facet_slots.specs.Slotted.{plain};
@@ -202,11 +205,15 @@ impl<M: Meanings> Slots<M> {
         &self.kept.scene.selection
     }
 
-    /// What may be relied on in slots. Takes no memory.
+    /// What may be relied on in slots: a facet's value is its present inputs combined, each present field has a value of its
+    /// updater's shape, and an absent one has none. Takes no memory.
     pub fn known(&self)
         ensures resolved { IsResolved self.now.setup }
         ensures lawful { IsLawful M.rules self.now.setup }
         ensures is_scene { IsScene self.now.scene }
+        ensures combined { (f : ℕ) → (plain self.now).values (Vertex.Facet f) ≡ option_map (facet_value M.rules self.now.scene (plain self.now).values) (facet_at self.now.setup f) }
+        ensures fields { FieldsFit M.rules self.now.setup (plain self.now).values }
+        ensures absent { (f : ℕ) → field_at self.now.setup f ≡ None → (plain self.now).values (Vertex.Field f) ≡ None }
     {
         let _ = &self.kept;
     }

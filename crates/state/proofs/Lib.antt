@@ -1,0 +1,4 @@
+pub mod Several
+pub mod Kinds
+pub mod Kept
+pub mod Ends
