@@ -2,6 +2,7 @@ pub mod Advance
 pub mod Calls
 pub mod Changing
 pub mod Creation
+pub mod Declared
 pub mod Earlier
 pub mod Fitting
 pub mod Fresh

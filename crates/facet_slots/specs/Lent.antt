@@ -4,6 +4,7 @@ use Rattle.std.specs.Option.{unwrap_or}
 use Rattle.configuration.specs.declared.defs.Defs.{Defs}
 use Rattle.values.specs.declared.val.Val.{Val}
 use Rattle.configuration.specs.declared.facet_def.FacetDef.{FacetDef}
+use Rattle.values.specs.Declarations.{Declarations}
 use Rattle.values.specs.Rules.{Rules}
 use Rattle.facet_slots.specs.declared.before.Before.{Before}
 use Rattle.facet_slots.specs.declared.marks.Marks.{Marks}
@@ -23,6 +24,10 @@ use Rattle.facet_slots.specs.Nexts.{flagged, HasFlagRoom}
 -- definitions without what leaves are followed by
 abbrev pub defs_of : Defs Val → Definitions
 defs_of defs = record { facets = defs.facets; fields = defs.fields; node_defs = defs.node_defs }
+
+-- the definitions that a registry holds
+abbrev pub definitions : Declarations → Definitions
+definitions d = record { facets = d.facets; fields = d.fields; node_defs = d.node_defs }
 
 abbrev pub setup_of : LentSetup → Setup
 setup_of s = record { defs = defs_of s.defs.now; config = unwrap_or (option_copied s.config) no_setup.config }

@@ -7,6 +7,7 @@
 #![tactic(auto)]
 
 mod before;
+mod definitions;
 mod deps;
 mod draft;
 mod field;
@@ -27,4 +28,5 @@ mod step;
 mod transition;
 mod walk;
 
+pub use definitions::shared_defs;
 pub use slots::Slots;

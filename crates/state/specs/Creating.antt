@@ -4,16 +4,17 @@ use Rattle.configuration.specs.Config.{ConfigView}
 use Rattle.values.specs.Declarations.{Declarations}
 use Rattle.values.specs.Rules.{Rules}
 use Rattle.facet_slots.specs.Due.{transition_calls}
+use Rattle.facet_slots.specs.Lent.{definitions}
 use Rattle.facet_slots.specs.Scenes.{SceneView}
 use Rattle.facet_slots.specs.Setups.{Setup}
 use Rattle.facet_slots.specs.Stepping.{State, Enter, creation, empty_state}
 use Rattle.state.specs.Cutting.{allows_several, cut}
-use Rattle.state.specs.Reconfigured.{IsConfigOf, definitions_of}
+use Rattle.state.specs.Reconfigured.{IsConfigOf}
 use Rattle.state.specs.Refusals.{scene_refusal}
 
 -- the setup that a base comes to
 pub record IsSetupOf (d : Declarations) (base : List ℕ) (setup : Setup) : Type 0 where
-  pub defs : setup.defs ≡ definitions_of d
+  pub defs : setup.defs ≡ definitions d
   pub config : IsConfigOf d (record { base = base; contents = [] }) setup.config
 
 -- the document with its selection, cut to the main range unless the configuration allows several

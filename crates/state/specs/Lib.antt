@@ -3,6 +3,7 @@ pub use Rattle.facet_slots.specs.Agreement
 pub use Rattle.facet_slots.specs.Due
 pub use Rattle.facet_slots.specs.FacetValues
 pub use Rattle.facet_slots.specs.Lawful
+pub use Rattle.facet_slots.specs.Lent
 pub use Rattle.facet_slots.specs.Resolving
 pub use Rattle.facet_slots.specs.Scenes
 pub use Rattle.facet_slots.specs.Settling

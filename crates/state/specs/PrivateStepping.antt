@@ -2,14 +2,15 @@
 use Rattle.std.specs.Prelude.{Option, None, Some}
 use Rattle.configuration.specs.Config.{ConfigView}
 use Rattle.values.specs.Declarations.{Declarations}
+use Rattle.facet_slots.specs.Lent.{definitions}
 use Rattle.facet_slots.specs.Setups.{Setup}
 use Rattle.facet_slots.specs.Stepping.{Target, Stays, Becomes}
 use Rattle.state.specs.declared.extensions.Extensions.{Extensions}
-use Rattle.state.specs.Reconfigured.{definitions_of, IsConfigOf}
+use Rattle.state.specs.Reconfigured.{IsConfigOf}
 
 -- a configuration over all that is declared
 abbrev pub setup_in : Declarations → ConfigView → Setup
-setup_in d config = record { defs = definitions_of d; config = config }
+setup_in d config = record { defs = definitions d; config = config }
 
 -- the old configuration stays where none was found, else that one takes its place
 abbrev pub entered_target : Declarations → ConfigView → Option ConfigView → Target

@@ -10,7 +10,8 @@ use Rattle.transaction.specs.declared.effect.Effect.{Effect}
 use Rattle.transaction.specs.declared.effect.Effect.TheVariants.{Kind, Reconfigure, Root, Append}
 use Rattle.values.specs.declared.val.Val.{Val}
 use Rattle.values.specs.Declarations.{Declarations}
-use Rattle.facet_slots.specs.Setups.{Definitions, Setup}
+use Rattle.facet_slots.specs.Lent.{definitions}
+use Rattle.facet_slots.specs.Setups.{Setup}
 use Rattle.state.specs.declared.extensions.Extensions.{Extensions}
 
 -- the extensions that a configuration was resolved from
@@ -48,10 +49,6 @@ tree_in d e = tree_of d.nodes e.contents d.links
 abbrev pub IsConfigOf : Declarations → Extensions → ConfigView → Type 0
 IsConfigOf d e config = IsConfig (tree_in d e) d.facets d.fields d.node_defs e.base config
 
--- the definitions that are declared
-abbrev pub definitions_of : Declarations → Definitions
-definitions_of d = record { facets = d.facets; fields = d.fields; node_defs = d.node_defs }
-
 -- Configuration after effects: the old one where none is on the configuration; else what the extensions come to after all of
 -- them. A set content of a compartment that isn't met is dropped then.
 abbrev pub IsConfigAfter : (is_configured : Bool) → Declarations → ConfigView → List (Effect Val) → ConfigView → Type 0
@@ -60,5 +57,5 @@ IsConfigAfter true d old effects config = IsConfigOf d (extensions_after (extens
 
 -- Setup after effects: that configuration, over all that is declared.
 pub record IsSetupAfter (d : Declarations) (old : ConfigView) (effects : List (Effect Val)) (setup : Setup) : Type 0 where
-  pub defs : setup.defs ≡ definitions_of d
+  pub defs : setup.defs ≡ definitions d
   pub config : IsConfigAfter (configures effects) d old effects setup.config

@@ -42,7 +42,7 @@ impl<M: Meanings> Model for State<M> {
     ghost use Rattle.facet_slots.specs.Agreement.{IsGrown};
     ghost use Rattle.facet_slots.specs.Slotted.{Slotted};
     ghost use Rattle.registry.specs.Predeclared.{predeclared};
-    ghost use Rattle.state.specs.Reconfigured.{definitions_of};
+    ghost use Rattle.facet_slots.specs.Lent.{definitions};
 
     ghost Value = { Slotted };
 
@@ -50,12 +50,12 @@ impl<M: Meanings> Model for State<M> {
 
     ghost view = { λ s. s.slots };
 
-    ghost invariant = { λ s. IsGrown (definitions_of predeclared) s.slots.setup.defs };
+    ghost invariant = { λ s. IsGrown (definitions predeclared) s.slots.setup.defs };
 }
 
 impl<M: Meanings> State<M> {
     ghost use Rattle.state.specs.Creating.{creation_calls, IsCreated, IsCreationPaid};
-    ghost use Rattle.state.specs.Reconfigured.{definitions_of};
+    ghost use Rattle.facet_slots.specs.Lent.{definitions};
     ghost use Rattle.state.specs.Refusals.{IsCreateRefused, IsUpdateRefused};
     ghost use Rattle.state.specs.Steps.{calls_to, IsStep, IsStepPaid};
 
@@ -101,7 +101,7 @@ impl<M: Meanings> State<M> {
         calls: &mut Steps<L>,
     ) -> Result<Self, StateError>
         requires whole { IsWhole M.rules kit.now }
-        requires grown { IsGrown self.now.setup.defs (definitions_of registry.now) }
+        requires grown { IsGrown self.now.setup.defs (definitions registry.now) }
         ensures step { IfOk result (λ s. IsStep M.rules registry.now (plain self.now) specs.items (plain s)) }
         ensures cost { IfOk result (λ s. calls.new ≤ calls.old + calls_to M.rules registry.now (plain self.now) specs.items s.setup) }
         ensures refused { IfErr result (λ error. error ≢ StateError.NoMemory → IsUpdateRefused M.rules registry.now (plain self.now) specs.items error) }
@@ -163,7 +163,7 @@ impl<M: Meanings> State<M> {
     pub fn known(&self)
         ensures resolved { IsResolved self.now.setup }
         ensures lawful { IsLawful M.rules self.now.setup }
-        ensures predeclared { IsGrown (definitions_of predeclared) self.now.setup.defs }
+        ensures predeclared { IsGrown (definitions predeclared) self.now.setup.defs }
         ensures is_scene { IsScene self.now.scene }
         ensures fields { FieldsFit M.rules self.now.setup (plain self.now).values }
     {

@@ -13,7 +13,7 @@ ghost use Rattle.facet_slots.specs.Resolving.{IsResolved};
 ghost use Rattle.facet_slots.specs.Slotted.{plain};
 ghost use Rattle.facet_slots.specs.Stepping.{step, Becomes};
 ghost use Rattle.state.specs.Moving.{transaction_of};
-ghost use Rattle.state.specs.Reconfigured.{definitions_of};
+ghost use Rattle.facet_slots.specs.Lent.{definitions};
 ghost use Rattle.state.specs.Steps.{step_calls};
 ghost use Rattle.state.specs.PrivateStepping.{entered_target, IsEntered};
 
@@ -73,7 +73,7 @@ fn stepped<M: Meanings, L: Ledger>(
     calls: &mut Steps<L>,
 ) -> Result<Slots<M>, AllocError>
     requires whole { IsWhole M.rules kit.now }
-    requires grown { IsGrown slots.now.setup.defs (definitions_of registry.now) }
+    requires grown { IsGrown slots.now.setup.defs (definitions registry.now) }
     requires config { IsEntered registry.now config }
     requires made { IsMade slots.now.scene transaction.now }
     ensures state { IfOk result (λ s. plain s ≡ step M.rules (plain slots.now) (entered_target registry.now slots.now.setup.config config) transaction.now) }
@@ -102,7 +102,7 @@ pub fn after_draft<M: Meanings, L: Ledger>(
     calls: &mut Steps<L>,
 ) -> Result<Slots<M>, AllocError>
     requires whole { IsWhole M.rules kit.now }
-    requires grown { IsGrown slots.now.setup.defs (definitions_of registry.now) }
+    requires grown { IsGrown slots.now.setup.defs (definitions registry.now) }
     requires several { ALLOW_MULTIPLE_SELECTIONS < length slots.now.setup.defs.facets }
     requires config { IsEntered registry.now config }
     requires draft { IsDraft (length slots.now.scene.document) draft }

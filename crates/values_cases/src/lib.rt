@@ -6,6 +6,8 @@ mod combining;
 #[cfg(test)]
 mod effect_maps;
 #[cfg(test)]
+mod kit;
+#[cfg(test)]
 mod made;
 #[cfg(test)]
 mod reading;

@@ -6,7 +6,8 @@ use Rattle.values.proofs.making.one_each.Goals as goal
 pub loop-below-preserved : goal.loop-below-preserved
 loop-below-preserved g c =
     let number : ℕ = c.loop-below.below + 1 in
-    rw c.in_ok-push.ensures.items
-    (omega (arith, c.loop-below.invariant.0, length-append c.loop-below.rules.items (c.in_ok-rule.rule ∷ [])),
-    All-push (λ rule. (n : ℕ) × (IsNumber c.args.count n × g.F.Fn.post c.args.make (n, tt) (Ok rule))) c.loop-below.rules.items c.in_ok-rule.rule c.loop-below.invariant.1
-    (number, (record { low = omega arith; high = omega arith }, subst (λ r. g.F.Fn.post c.args.make (number, tt) r) c.in_ok-rule.was c.make.ensures)))
+    rw c.in_ok-push.ensures.items (
+      omega (arith, c.loop-below.invariant.0, length-append c.loop-below.rules.items (c.in_ok-rule.rule ∷ [])),
+      All-push (λ rule. (n : ℕ) × (IsNumber c.args.count n × g.F.Fn.post c.args.make (n, tt) (Ok rule))) c.loop-below.rules.items c.in_ok-rule.rule c.loop-below.invariant.1
+          (number, (record { low = omega arith; high = omega arith }, subst (λ r. g.F.Fn.post c.args.make (number, tt) r) c.in_ok-rule.was c.make.ensures)),
+    )
