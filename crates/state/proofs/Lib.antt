@@ -1,4 +1,6 @@
 pub mod Several
-pub mod Kinds
+pub mod KnownMaps
 pub mod Kept
 pub mod Ends
+pub mod Steps
+pub mod Creations

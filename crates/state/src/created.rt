@@ -1,9 +1,10 @@
 // The first state.
 ghost use Rattle.std.specs.Prelude.{◌≡◌, ◌≢◌, ◌≤◌, ◌+◌, [], None, Some, IfErr, IfOk};
-ghost use Rattle.values.specs.Growth.{IsGrowth};
 ghost use Rattle.values.specs.Whole.{IsWhole};
 ghost use Rattle.registry.specs.Predeclared.{predeclared};
+ghost use Rattle.facet_slots.specs.Agreement.{IsGrown};
 ghost use Rattle.facet_slots.specs.Found.{scene_of};
+ghost use Rattle.facet_slots.specs.Lent.{definitions};
 ghost use Rattle.facet_slots.specs.Scenes.{IsScene};
 ghost use Rattle.facet_slots.specs.Slotted.{plain};
 ghost use Rattle.state.specs.Creating.{created_state, creation_calls};
@@ -13,14 +14,13 @@ ghost use Rattle.state.specs.Refusals.{scene_refusal, IsConfigRefused};
 ghost use Rattle.state.specs.PrivateStepping.{setup_in, IsEntered};
 
 use crate::cutting::{config_allows_several, cut};
-use crate::definitions::shared_definitions;
 use crate::extensions::Extensions;
 use crate::reconfigured::resolved;
 use crate::state_error::StateError;
 use crate::stepped::shared_config;
 use configuration::Config;
 use ext_tree::ExtId;
-use facet_slots::Slots;
+use facet_slots::{Slots, shared_defs};
 use line_tree::MAX_LEN;
 use registry::Registry;
 use selection::first_outside;
@@ -98,7 +98,7 @@ pub fn created<M: Meanings, L: Ledger>(
     calls: &mut Steps<L>,
 ) -> Result<Slots<M>, AllocError>
     requires whole { IsWhole M.rules kit.now }
-    requires predeclared { IsGrowth predeclared registry.now }
+    requires predeclared { IsGrown (definitions predeclared) (definitions registry.now) }
     requires config { IsEntered registry.now (Some config) }
     requires is_scene { IsScene (scene_of scene) }
     ensures state { IfOk result (λ s. plain s ≡ created_state M.rules (setup_in registry.now config) (scene_of scene)) }
@@ -106,7 +106,7 @@ pub fn created<M: Meanings, L: Ledger>(
 {
     let several = config_allows_several(registry.defs(), &config);
     let start = cut_scene(scene, several)?;
-    let defs = shared_definitions(alloc, registry.defs())?;
+    let defs = shared_defs(alloc, registry.defs())?;
     let config = shared_config(alloc, config)?;
     Slots::fresh(alloc, kit, defs, config, start, calls)
 }

@@ -1,7 +1,6 @@
 // The state of an editor.
 ghost use Rattle.std.specs.Prelude.{◌≡◌, ◌≢◌, ◌<◌, ◌≤◌, ◌+◌, IfErr, IfOk, Some, is_some, length, option_copied, slice_get};
 ghost use Rattle.std.specs.Option.{unwrap_or};
-ghost use Rattle.values.specs.Growth.{IsGrowth};
 ghost use Rattle.values.specs.Whole.{IsWhole};
 ghost use Rattle.registry.specs.Predeclared.{predeclared};
 ghost use Rattle.facet_slots.specs.Agreement.{IsGrown};
@@ -73,8 +72,9 @@ impl<M: Meanings> State<M> {
         calls: &mut Steps<L>,
     ) -> Result<Self, StateError>
         requires whole { IsWhole M.rules kit.now }
-        requires predeclared { IsGrowth predeclared registry.now }
+        requires predeclared { IsGrown (definitions predeclared) (definitions registry.now) }
         ensures created { IfOk result (λ s. IsCreated M.rules registry.now base.now (record { document = document.characters; selection = selection }) (plain s)) }
+        ensures grown { IfOk result (λ s. IsGrown s.setup.defs (definitions registry.now)) }
         ensures cost { IfOk result (λ s. calls.new ≤ calls.old + creation_calls M.rules s.setup (record { document = document.characters; selection = selection })) }
         ensures refused { IfErr result (λ error. error ≢ StateError.NoMemory → IsCreateRefused registry.now base.now (record { document = document.characters; selection = selection }) error) }
         ensures uncalled { IfErr result (λ error. error ≢ StateError.NoMemory → calls.new ≡ calls.old) }
@@ -103,6 +103,7 @@ impl<M: Meanings> State<M> {
         requires whole { IsWhole M.rules kit.now }
         requires grown { IsGrown self.now.setup.defs (definitions registry.now) }
         ensures step { IfOk result (λ s. IsStep M.rules registry.now (plain self.now) specs.items (plain s)) }
+        ensures grown { IfOk result (λ s. IsGrown s.setup.defs (definitions registry.now)) }
         ensures cost { IfOk result (λ s. calls.new ≤ calls.old + calls_to M.rules registry.now (plain self.now) specs.items s.setup) }
         ensures refused { IfErr result (λ error. error ≢ StateError.NoMemory → IsUpdateRefused M.rules registry.now (plain self.now) specs.items error) }
         ensures uncalled { IfErr result (λ error. error ≢ StateError.NoMemory → calls.new ≡ calls.old) }
@@ -138,6 +139,13 @@ impl<M: Meanings> State<M> {
         ensures { result.now ≡ self.now.setup.config }
     {
         self.slots.config()
+    }
+
+    /// How many facets were declared when the state was made: a facet is known where its id is less than this. Takes no memory.
+    pub fn facet_count(&self) -> usize
+        ensures { result ≡ length self.now.setup.defs.facets }
+    {
+        self.slots.defs().facets.as_slice().len()
     }
 
     /// The value of a facet that was declared when the state was made. Takes no memory.

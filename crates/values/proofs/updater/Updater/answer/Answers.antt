@@ -1,10 +1,6 @@
-use Rattle.std.proofs.Common.{◌≡◌, Result, Ok, Err, IfOk, refl, subst}
-use Rattle.std.specs.Result.{ForOk}
+use Rattle.std.proofs.Common.{subst}
+use Rattle.values.proofs.Answered.{if_ok}
 use Rattle.values.proofs.updater.Updater.answer.Goals as goal
-
-if_ok : {T E : Type 0} (r : Result T E) (P : T → Type 0) → ForOk r P → IfOk r P
-if_ok (Ok x) P h = h x refl
-if_ok (Err e) P h = tt
 
 -- what is behind the box is the stored rule
 pub returns : goal.returns
