@@ -1,6 +1,7 @@
 pub mod Several
 pub mod KnownMaps
-pub mod Kept
 pub mod Ends
 pub mod Steps
 pub mod Creations
+pub mod Entering
+pub mod Presence

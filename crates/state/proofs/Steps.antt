@@ -81,6 +81,7 @@ module _ (rules : Rules) (d : Declarations) (old : State) (specs : List (Spec Va
       }
 
       pub step-paid : (before after : ℕ) → after ≤ before + step_calls rules old (entered_target d old.setup.config config) (transaction_of d old draft) → after ≤ before + calls_to rules d old specs new.setup
+      unfolding paid-found
       step-paid before after paid = subst (λ (setup : Setup). after ≤ before + calls_to rules d old specs setup) (sym new-setup) (paid-found before after paid).2
 
   some-back : {X : Type 0} {x y : X} → Some x ≡ Some y → x ≡ y

@@ -180,6 +180,7 @@ impl<M: Meanings> State<M> {
 }
 
 impl<M: Meanings> Lookup for State<M> {
+    ghost use Rattle.configuration.specs.declared.vertex.Vertex.TheVariants.{Facet, Field};
     ghost use Rattle.values.specs.Reading.{nothing};
 
     ghost rules = { M.rules };
@@ -188,9 +189,9 @@ impl<M: Meanings> Lookup for State<M> {
 
     ghost field_def = { λ s id. slice_get s.setup.defs.fields id };
 
-    ghost facet_value = { λ s id. unwrap_or ((plain s).values (Vertex.Facet id)) nothing };
+    ghost facet_value = { λ s id. unwrap_or ((plain s).values (Facet id)) nothing };
 
-    ghost field_value = { λ s id. (plain s).values (Vertex.Field id) };
+    ghost field_value = { λ s id. (plain s).values (Field id) };
 
     fn facet(&self, id: u32) -> &Val {
         self.slots.known();
