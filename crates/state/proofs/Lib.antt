@@ -5,3 +5,6 @@ pub mod Steps
 pub mod Creations
 pub mod Entering
 pub mod Presence
+pub mod Registered
+pub mod Drafts
+pub mod Views

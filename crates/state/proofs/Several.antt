@@ -28,7 +28,8 @@ use Rattle.facet_slots.specs.Setups.{PresentFacet, facet_at, input_node, inputs_
 use Rattle.facet_slots.specs.Stepping.{Enter, creation, empty_state, rule_of}
 use Rattle.facet_slots.proofs.Held.{settled-at}
 use Rattle.state.specs.declared.extensions.Extensions.{Extensions}
-use Rattle.state.specs.Cutting.{allows_several, config_allows_several, is_true_input, some_input_true}
+use Rattle.state.specs.Creating.{start_scene}
+use Rattle.state.specs.Cutting.{allows_several, config_allows_several, cut, is_true_input, some_input_true}
 use Rattle.state.specs.Reconfigured.{IsConfigOf}
 use Rattle.state.specs.PrivateStepping.{setup_in}
 
@@ -41,7 +42,7 @@ false-true : false ≡ true → ⊥
 false-true e = cc
 
 -- the definition of the facet
-abbrev several_def : FacetDef
+abbrev pub several_def : FacetDef
 several_def = combined_by 3 true
 
 module _ (rules : Rules) (d : Declarations) (lawful : IsLawful rules d) (known : slice_get d.facets 1 ≡ Some several_def) where
@@ -119,3 +120,12 @@ allows-config rules keeps d lawful known e config is ordered scene =
     ∙ ap (λ (o : Option FacetDef). option_map (facet_value rules scene values) (option_map (λ (def : FacetDef). record { def = def; inputs = inputs_at (setup_in d config) 1 }) o)) known)
     ∙ ap (λ (f : List Val → Val). is_true (f (joined (map (node_outputs rules scene values) (map (input_node d.node_defs) inputs))))) (keeps.combine.kept 3 third)
     ∙ some-true rules scene values d.node_defs inputs (config-given rules d lawful known e config is)
+
+-- so the selection that is cut by the configuration is the one that the first state is made over
+pub start-is : (rules : Rules) → KeepsShipped rules → (d : Declarations) → IsLawful rules d → slice_get d.facets 1 ≡ Some several_def → (e : Extensions) (config : ConfigView) → IsConfigOf d e config → IsOrdered (setup_in d config) → (scene : SceneView) (several : Bool) (node_defs : List (NodeDef Val))
+    → node_defs ≡ d.node_defs → several ≡ config_allows_several node_defs config → record { document = scene.document; selection = cut several scene.selection } ≡ start_scene rules (setup_in d config) scene
+start-is rules keeps d lawful known e config is ordered scene several node_defs defs same =
+    ap (cut_of scene) (same ∙ ap (λ (xs : List (NodeDef Val)). config_allows_several xs config) defs ∙ sym (allows-config rules keeps d lawful known e config is ordered scene))
+  where
+    abbrev cut_of : SceneView → Bool → SceneView
+    cut_of scene b = record { document = scene.document; selection = cut b scene.selection }

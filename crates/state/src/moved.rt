@@ -8,7 +8,7 @@ ghost use Rattle.registry.specs.declared.predeclared.TheConstants.{ALLOW_MULTIPL
 ghost use Rattle.facet_slots.specs.Found.{scene_of};
 ghost use Rattle.facet_slots.specs.Making.{IsMade};
 ghost use Rattle.facet_slots.specs.Slotted.{plain};
-ghost use Rattle.state.specs.Moving.{selection_after, shown_effects, transaction_of};
+ghost use Rattle.state.specs.Moving.{selection_after, shown_effect, shown_effects, transaction_of};
 ghost use Rattle.state.specs.PrivateEnds.{AreEnds, IsEnd, viewed};
 
 use crate::cutting::{allows_several, cut};
@@ -79,6 +79,16 @@ fn ends_of<M: Meanings>(draft: &Draft<Val>, slots: &Slots<M>) -> Result<Ends, Al
     Ok(Ends { start, end })
 }
 
+/// An effect as rules are shown it; none on the configuration is shown.
+fn shown_effect(effect: Effect<Val>) -> Option<ShownEffect>
+    ensures { result ≡ shown_effect effect }
+{
+    match effect {
+        Effect::Kind { id, value } => Some(ShownEffect { id, value }),
+        _ => None,
+    }
+}
+
 /// The effects as rules are shown them, without those on the configuration.
 fn shown_effects(
     alloc: Global,
@@ -88,8 +98,8 @@ fn shown_effects(
 {
     let mut shown = Listed::empty(alloc);
     for effect in effects.into_vec() {
-        if let Effect::Kind { id, value } = effect {
-            shown.push(ShownEffect { id, value })?;
+        if let Some(next) = shown_effect(effect) {
+            shown.push(next)?;
         }
     }
     Ok(shown)
