@@ -12,12 +12,12 @@ use Rattle.values.specs.Rules.{Rules}
 use Rattle.facet_slots.specs.Stepping.{State}
 use Rattle.state.specs.Drafting.{draft_of, draft_refusal, kinds_of}
 
+abbrev kinds_with : List (Option ℕ) → ℕ → EffectKinds
+kinds_with maps compartments = record { maps = maps; compartments = compartments }
+
 pub kinds-are : (kinds : EffectKinds) (d : Declarations) → kinds.maps ≡ d.maps → kinds.compartments ≡ d.compartments → kinds ≡ kinds_of d
 kinds-are kinds d maps compartments =
     ap (λ (ms : List (Option ℕ)). kinds_with ms kinds.compartments) maps ∙ ap (λ (n : ℕ). kinds_with d.maps n) compartments
-  where
-    abbrev kinds_with : List (Option ℕ) → ℕ → EffectKinds
-    kinds_with maps compartments = record { maps = maps; compartments = compartments }
 
 module _ (rules : Rules) (d : Declarations) (old : State) (specs : List (Spec Val)) (kinds : EffectKinds) (are : kinds ≡ kinds_of d) (len : ℕ) (is : len ≡ length old.scene.document) where
   pub draft-is : merged kinds rules.map_effect len specs ≡ draft_of rules d old specs

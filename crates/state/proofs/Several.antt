@@ -121,11 +121,11 @@ allows-config rules keeps d lawful known e config is ordered scene =
     ∙ ap (λ (f : List Val → Val). is_true (f (joined (map (node_outputs rules scene values) (map (input_node d.node_defs) inputs))))) (keeps.combine.kept 3 third)
     ∙ some-true rules scene values d.node_defs inputs (config-given rules d lawful known e config is)
 
+abbrev cut_of : SceneView → Bool → SceneView
+cut_of scene b = record { document = scene.document; selection = cut b scene.selection }
+
 -- so the selection that is cut by the configuration is the one that the first state is made over
 pub start-is : (rules : Rules) → KeepsShipped rules → (d : Declarations) → IsLawful rules d → slice_get d.facets 1 ≡ Some several_def → (e : Extensions) (config : ConfigView) → IsConfigOf d e config → IsOrdered (setup_in d config) → (scene : SceneView) (several : Bool) (node_defs : List (NodeDef Val))
     → node_defs ≡ d.node_defs → several ≡ config_allows_several node_defs config → record { document = scene.document; selection = cut several scene.selection } ≡ start_scene rules (setup_in d config) scene
 start-is rules keeps d lawful known e config is ordered scene several node_defs defs same =
     ap (cut_of scene) (same ∙ ap (λ (xs : List (NodeDef Val)). config_allows_several xs config) defs ∙ sym (allows-config rules keeps d lawful known e config is ordered scene))
-  where
-    abbrev cut_of : SceneView → Bool → SceneView
-    cut_of scene b = record { document = scene.document; selection = cut b scene.selection }
