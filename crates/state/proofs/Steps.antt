@@ -75,9 +75,9 @@ module _ (rules : Rules) (d : Declarations) (old : State) (specs : List (Spec Va
         accepted = accepted;
         setup = subst (IsSetupIn rules d old specs) (sym new-setup) (found-setup config found-there);
         state = made
-        ∙ ap (λ (x : Draft Val). step rules old (entered_target d old.setup.config config) (transaction_of d old x)) is
-        ∙ ap (λ (target : Target). step rules old target (transaction_of d old (draft_of rules d old specs))) (sym (found-target config found-there))
-        ∙ ap (stepped rules d old specs) (sym new-setup);
+            ∙ ap (λ (x : Draft Val). step rules old (entered_target d old.setup.config config) (transaction_of d old x)) is
+            ∙ ap (λ (target : Target). step rules old target (transaction_of d old (draft_of rules d old specs))) (sym (found-target config found-there))
+            ∙ ap (stepped rules d old specs) (sym new-setup);
       }
 
       pub step-paid : (before after : ℕ) → after ≤ before + step_calls rules old (entered_target d old.setup.config config) (transaction_of d old draft) → after ≤ before + calls_to rules d old specs new.setup

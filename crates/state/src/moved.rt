@@ -125,13 +125,7 @@ fn view_of(
         annotations: draft.annotations,
     };
     notes.known();
-    Ok(TrView::new(
-        draft.changes,
-        ends.start,
-        ends.end,
-        is_given,
-        notes,
-    ))
+    Ok(TrView::new(draft.changes, ends.start, ends.end, is_given, notes))
 }
 
 /// The transaction of a draft in a state, as rules are shown it. Texts are shared. `Err`: out of memory.

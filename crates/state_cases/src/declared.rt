@@ -30,22 +30,36 @@ pub(crate) const GROWN: u32 = 1;
 
 /// The compartment of the field, and two of which the one is in the other.
 pub(crate) const OF_FIELD: u32 = 0;
+
 pub(crate) const INNER: u32 = 1;
+
 pub(crate) const OUTER: u32 = 2;
 
 /// The nodes, by id.
 pub(crate) const LENGTH_INPUT: u32 = 1;
+
 pub(crate) const SUM_INPUT: u32 = 2;
+
 pub(crate) const LEFT_INPUT: u32 = 3;
+
 pub(crate) const RIGHT_INPUT: u32 = 4;
+
 pub(crate) const ONE: u32 = 5;
+
 pub(crate) const TWO: u32 = 6;
+
 pub(crate) const SEVERAL: u32 = 7;
+
 pub(crate) const GROWN_NODE: u32 = 8;
+
 pub(crate) const NOTHING: u32 = 9;
+
 pub(crate) const FIELD_SLOT: u32 = 10;
+
 pub(crate) const INNER_SLOT: u32 = 11;
+
 pub(crate) const OUTER_SLOT: u32 = 12;
+
 pub(crate) const INNER_AGAIN: u32 = 13;
 /// No node has this id.
 pub(crate) const UNKNOWN: u32 = 14;
@@ -151,11 +165,7 @@ fn computed(
     registry.input_compute(facet, rule, reads)
 }
 
-fn made(
-    alloc: Global,
-    registry: &mut Registry<Shipped>,
-    made: Made,
-) -> Result<u32, RegistryError>
+fn made(alloc: Global, registry: &mut Registry<Shipped>, made: Made) -> Result<u32, RegistryError>
     ensures { IsGrowth registry.old registry.new }
 {
     match made {

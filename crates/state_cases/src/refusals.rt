@@ -31,17 +31,29 @@ fn over<'a>(base: &'a [u32], ranges: &'a [(u32, u32)]) -> Case<'a> {
 /// Nodes of a base, and ranges over "abc".
 const CREATIONS: &[(&[u32], &[(u32, u32)], Refused<'static>)] = &[
     (&[UNKNOWN], &[(0, 4)], Refused::SelectionOutside(4, 3)),
-    (&[UNKNOWN, INNER_SLOT, INNER_AGAIN], &[(0, 0)], Refused::UnknownExt(UNKNOWN)),
     (
-        &[INNER_SLOT, INNER_AGAIN], &[(0, 0)],
+        &[UNKNOWN, INNER_SLOT, INNER_AGAIN],
+        &[(0, 0)],
+        Refused::UnknownExt(UNKNOWN),
+    ),
+    (
+        &[INNER_SLOT, INNER_AGAIN],
+        &[(0, 0)],
         Refused::Duplicate(INNER, INNER_SLOT, INNER_AGAIN),
     ),
-    (&[LEFT_INPUT, RIGHT_INPUT], &[(0, 0)], Refused::Cycle(&[LEFT, RIGHT])),
+    (
+        &[LEFT_INPUT, RIGHT_INPUT],
+        &[(0, 0)],
+        Refused::Cycle(&[LEFT, RIGHT]),
+    ),
 ];
 
 /// Updates of a state of a slot, one half of a circle, and a number, over "abc".
 const UPDATES: &[(&[Sent<'static>], Refused<'static>)] = &[
-    (&[Sent::Told(&[On::Append(RIGHT_INPUT)])], Refused::Cycle(&[LEFT, RIGHT])),
+    (
+        &[Sent::Told(&[On::Append(RIGHT_INPUT)])],
+        Refused::Cycle(&[LEFT, RIGHT]),
+    ),
     (
         &[Sent::Told(&[On::Reconfigure(OF_FIELD, FIELD_SLOT)])],
         Refused::Loop(&[FIELD_SLOT, FIELD_SLOT]),
@@ -50,10 +62,19 @@ const UPDATES: &[(&[Sent<'static>], Refused<'static>)] = &[
         &[Sent::Told(&[On::Append(OUTER_SLOT), On::Append(INNER_AGAIN)])],
         Refused::Duplicate(INNER, INNER_SLOT, INNER_AGAIN),
     ),
-    (&[Sent::Told(&[On::Append(UNKNOWN)])], Refused::UnknownExt(UNKNOWN)),
-    (&[Sent::Told(&[On::Reconfigure(3, NOTHING)])], Refused::UnknownCompartment(3)),
     (
-        &[Sent::Typed(&[(9, 9, "")]), Sent::Told(&[On::Told(7, 1), On::Reconfigure(3, NOTHING)])],
+        &[Sent::Told(&[On::Append(UNKNOWN)])],
+        Refused::UnknownExt(UNKNOWN),
+    ),
+    (
+        &[Sent::Told(&[On::Reconfigure(3, NOTHING)])],
+        Refused::UnknownCompartment(3),
+    ),
+    (
+        &[
+            Sent::Typed(&[(9, 9, "")]),
+            Sent::Told(&[On::Told(7, 1), On::Reconfigure(3, NOTHING)]),
+        ],
         Refused::UnknownEffect(7),
     ),
     (

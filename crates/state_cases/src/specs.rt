@@ -56,10 +56,7 @@ pub(crate) fn text(alloc: Global, characters: &str) -> Result<Text, AllocError> 
     Text::of(alloc, characters.chars())
 }
 
-fn changes(
-    alloc: Global,
-    all: &[(u32, u32, &str)],
-) -> Result<Listed<Change>, AllocError> {
+fn changes(alloc: Global, all: &[(u32, u32, &str)]) -> Result<Listed<Change>, AllocError> {
     let mut changes = Listed::empty(alloc);
     for (from, to, characters) in all {
         let insert = InsertedText::of(text(alloc, characters)?);

@@ -6,8 +6,8 @@ ghost use Rattle.facet_slots.specs.Agreement.{IsGrown};
 ghost use Rattle.facet_slots.specs.Lent.{definitions};
 
 use crate::declared::{
-    FIELD_SLOT, GROWN, GROWN_NODE, INNER, LEFT, LEFT_INPUT, LENGTH, LENGTH_INPUT, LIST, NOTHING,
-    OF_FIELD, ONE, OUTER, OUTER_SLOT, INNER_SLOT, SEVERAL, SUM, SUM_INPUT, TWO, declared,
+    FIELD_SLOT, GROWN, GROWN_NODE, INNER, INNER_SLOT, LEFT, LEFT_INPUT, LENGTH, LENGTH_INPUT, LIST,
+    NOTHING, OF_FIELD, ONE, OUTER, OUTER_SLOT, SEVERAL, SUM, SUM_INPUT, TWO, declared,
 };
 use crate::reading::{Has, Want, gives};
 use crate::running::Case;
@@ -21,8 +21,13 @@ use values::Kit;
 const CHAIN: &[u32] = &[LENGTH_INPUT, SUM_INPUT];
 
 const INSERTED: Sent<'static> = Sent::Typed(&[(2, 2, "c")]);
+
 const LEAVES: Sent<'static> = Sent::Told(&[On::Reconfigure(OF_FIELD, NOTHING)]);
-const COMES_BACK: Sent<'static> = Sent::Both(&[(3, 3, "de")], &[On::Reconfigure(OF_FIELD, GROWN_NODE)]);
+
+const COMES_BACK: Sent<'static> = Sent::Both(
+    &[(3, 3, "de")],
+    &[On::Reconfigure(OF_FIELD, GROWN_NODE)],
+);
 
 const VALUES: &[(&str, Case<'static>, &[Has<'static>])] = &[
     (
@@ -33,7 +38,10 @@ const VALUES: &[(&str, Case<'static>, &[Has<'static>])] = &[
             ranges: &[(0, 0)],
             updates: &[],
         },
-        &[Has::Facet(SUM, Want::Int(2)), Has::Facet(LIST, Want::Ints(&[]))],
+        &[
+            Has::Facet(SUM, Want::Int(2)),
+            Has::Facet(LIST, Want::Ints(&[])),
+        ],
     ),
     (
         "a facet of a facet, after an insertion",
@@ -43,7 +51,11 @@ const VALUES: &[(&str, Case<'static>, &[Has<'static>])] = &[
             ranges: &[(0, 0)],
             updates: &[&[INSERTED]],
         },
-        &[Has::Facet(SUM, Want::Int(3)), Has::Facet(LENGTH, Want::Int(3)), Has::Length(3)],
+        &[
+            Has::Facet(SUM, Want::Int(3)),
+            Has::Facet(LENGTH, Want::Int(3)),
+            Has::Length(3),
+        ],
     ),
     (
         "specs merged into one transaction",
@@ -53,7 +65,11 @@ const VALUES: &[(&str, Case<'static>, &[Has<'static>])] = &[
             ranges: &[(3, 3)],
             updates: &[&[Sent::Typed(&[(0, 0, "x")]), Sent::Typed(&[(1, 1, "y")])]],
         },
-        &[Has::Facet(LENGTH, Want::Int(5)), Has::Field(GROWN, Want::Int(4)), Has::Ranges(&[(5, 5)])],
+        &[
+            Has::Facet(LENGTH, Want::Int(5)),
+            Has::Field(GROWN, Want::Int(4)),
+            Has::Ranges(&[(5, 5)]),
+        ],
     ),
     (
         "a field in a slot",

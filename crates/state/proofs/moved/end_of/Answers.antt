@@ -14,8 +14,8 @@ returns g c =
     record {
       document = same;
       selection = c.in_ok-selection.ensures.selection
-      ∙ ap (λ (b : Bool). cut b c.in_ok-whole.whole) c.allows_several.ensures
-      ∙ ap (cut (allows_several (plain c.args.slots.now))) (c.in_ok-whole.ensures.selection ∙ ap (λ (s : SelectionView). selection_after s draft) c.selection.ensures);
+          ∙ ap (λ (b : Bool). cut b c.in_ok-whole.whole) c.allows_several.ensures
+          ∙ ap (cut (allows_several (plain c.args.slots.now))) (c.in_ok-whole.ensures.selection ∙ ap (λ (s : SelectionView). selection_after s draft) c.selection.ensures);
       inside = c.in_ok-selection.ensures.inside (length c.in_ok-document.document.characters)
-      (subst (λ n. LieIn n c.in_ok-whole.whole.ranges) (sym (ap length same ∙ length-apply draft.changes c.args.slots.now.scene.document c.requires.draft.starts)) c.in_ok-whole.ensures.inside);
+          (subst (λ n. LieIn n c.in_ok-whole.whole.ranges) (sym (ap length same ∙ length-apply draft.changes c.args.slots.now.scene.document c.requires.draft.starts)) c.in_ok-whole.ensures.inside);
     }
