@@ -1,0 +1,10 @@
+pub mod Several
+pub mod KnownMaps
+pub mod Ends
+pub mod Steps
+pub mod Creations
+pub mod Entering
+pub mod Presence
+pub mod Registered
+pub mod Drafts
+pub mod Views

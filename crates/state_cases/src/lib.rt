@@ -1,0 +1,16 @@
+//! Cases of states: values, configurations and selections through updates, and what is refused. The crate has no code of its
+//! own.
+#![tactic(auto)]
+
+#[cfg(test)]
+mod declared;
+#[cfg(test)]
+mod reading;
+#[cfg(test)]
+mod refusals;
+#[cfg(test)]
+mod running;
+#[cfg(test)]
+mod specs;
+#[cfg(test)]
+mod updates;
