@@ -1,5 +1,6 @@
 -- What inputs give fits the combiner.
-use Rattle.std.proofs.Common.{◌≤◌, length, ℕ, List, [], ◌∷◌, All, map, Bool, true, false, cond, eqb, Option, Some, None, IfSome, arith}
+use Rattle.std.proofs.Common.{◌≡◌, ◌∙◌, ◌≤◌, length, ℕ, List, [], ◌∷◌, All, map, Bool, true, false, cond, eqb, Option, Some, None, IfSome, ap, arith, subst, sym}
+use Rattle.std.specs.Option.{IsSomeAnd, option_map}
 use Rattle.std.specs.List.{AllByRecursion}
 use Rattle.std.proofs.lemmas.List.Elements.{All-nil, All-cons, All-append}
 use Rattle.line_tree.specs.Text.{max_len}
@@ -15,10 +16,11 @@ use Rattle.values.specs.Views.{AreDeps, IsInside, IsShort}
 use Rattle.values.specs.declared.val.Val.{Val}
 use Rattle.values.specs.Rules.{Rules, AreLawful}
 use Rattle.values.specs.Vals.{IsOf}
-use Rattle.facet_slots.specs.Setups.{InputNode}
+use Rattle.configuration.specs.declared.vertex.Vertex.TheVariants.{Facet}
+use Rattle.facet_slots.specs.Setups.{InputNode, PresentFacet, Setup, facet_at}
 use Rattle.facet_slots.specs.Scenes.{SceneView, IsScene, IsEachInRange, Values, reads_document, reads_selection, shown, vertices_of}
-use Rattle.facet_slots.specs.FacetValues.{outputs, node_outputs, joined}
-use Rattle.facet_slots.specs.Lawful.{FitsCombiner, FitsIn}
+use Rattle.facet_slots.specs.FacetValues.{facet_value, outputs, node_outputs, joined}
+use Rattle.facet_slots.specs.Lawful.{FacetsFit, FitsCombiner, FitsIn, IsLawful}
 use Rattle.facet_slots.specs.declared.scene_flags.SceneFlags.{SceneFlags}
 use Rattle.facet_slots.specs.Flags.{Flags, any_flagged}
 use Rattle.facet_slots.specs.Nexts.{kept_outputs, next_from, next_outputs}
@@ -98,3 +100,11 @@ module _ (rules : Rules) (lawful : AreLawful rules) (n : ℕ) (scene : SceneView
   next_fits was kept k (i ∷ is) h =
       All-append (IsOf (rules.combine_input n)) (next_outputs rules scene moved flags values was kept i) (joined (map (next_outputs rules scene moved flags values was kept) is))
       (from_fits i (kept_outputs i.node was kept) h.0 (found_fits i.node was kept k)) (next_fits was kept k is h.1)
+
+-- each facet's value is of its combiner's output shape
+pub facets-fit : (rules : Rules) → AreLawful rules → (setup : Setup) (scene : SceneView) (values : Values) → IsLawful rules setup → IsScene scene → IsEachInRange values
+    → ((f : ℕ) → values (Facet f) ≡ option_map (facet_value rules scene values) (facet_at setup f)) → FacetsFit rules setup values
+facets-fit rules law setup scene values lawful fine each combined f facet at =
+    subst (λ (o : Option Val). IsSomeAnd o (IsOf (rules.combine_output facet.def.combine)))
+    (sym (combined f ∙ ap (option_map (facet_value rules scene values)) at))
+    (law.combine_fits facet.def.combine (joined (map (node_outputs rules scene values) facet.inputs)) (lawful.facets f facet at).combine (joined_fit rules law facet.def.combine scene fine values each facet.inputs (lawful.facets f facet at).inputs))

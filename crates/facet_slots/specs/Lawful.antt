@@ -5,7 +5,7 @@ use Rattle.cm_plain.specs.Form.{Form}
 use Rattle.configuration.specs.declared.node_def.NodeDef.{NodeDef}
 use Rattle.configuration.specs.declared.node_def.NodeDef.TheVariants.{Of, Compute, ComputeN, From}
 use Rattle.configuration.specs.declared.vertex.Vertex.{Vertex}
-use Rattle.configuration.specs.declared.vertex.Vertex.TheVariants.{Field}
+use Rattle.configuration.specs.declared.vertex.Vertex.TheVariants.{Facet, Field}
 use Rattle.transaction.specs.Numbers.{IsNumber}
 use Rattle.values.specs.declared.val.Val.{Val}
 use Rattle.values.specs.Rules.{Rules}
@@ -50,3 +50,7 @@ pub record IsLawful (rules : Rules) (setup : Setup) : Type 0 where
 -- each present field has a value of its updater's shape
 abbrev pub FieldsFit : Rules → Setup → Values → Type 0
 FieldsFit rules setup values = (f : ℕ) (field : PresentField) → field_at setup f ≡ Some field → IsSomeAnd (values (Field f)) (IsOf (rules.update_shape field.def.update))
+
+-- each facet has a value of its combiner's output shape
+abbrev pub FacetsFit : Rules → Setup → Values → Type 0
+FacetsFit rules setup values = (f : ℕ) (facet : PresentFacet) → facet_at setup f ≡ Some facet → IsSomeAnd (values (Facet f)) (IsOf (rules.combine_output facet.def.combine))

@@ -73,7 +73,7 @@ impl<M: Meanings> Slots<M> {
     ghost use Rattle.facet_slots.specs.Making.{IsMade};
     ghost use Rattle.facet_slots.specs.Agreement.{IsGrown};
     ghost use Rattle.facet_slots.specs.Resolving.{IsResolved};
-    ghost use Rattle.facet_slots.specs.Lawful.{FieldsFit, IsLawful};
+    ghost use Rattle.facet_slots.specs.Lawful.{FacetsFit, FieldsFit, IsLawful};
     ghost use Rattle.facet_slots.specs.Due.{transition_calls};
     ghost use Rattle.facet_slots.specs.Lent.{defs_of};
     ghost use Rattle.facet_slots.specs.Slotted.{plain};
@@ -95,6 +95,7 @@ impl<M: Meanings> Slots<M> {
         ensures cost { calls.new ≤ calls.old + transition_calls M.rules Enter (empty_state (scene_of scene)) (record { defs = defs_of defs.value; config = config.value }) }
     {
         let kept = first_kept(alloc, kit, &lent(&defs, &config), scene, calls)?;
+        kept.shelf.known();
         Ok(Slots {
             defs,
             config,
@@ -132,6 +133,7 @@ impl<M: Meanings> Slots<M> {
             scene,
             calls,
         )?;
+        kept.shelf.known();
         Ok(Slots {
             defs,
             config,
@@ -169,6 +171,7 @@ impl<M: Meanings> Slots<M> {
             scene,
             calls,
         )?;
+        kept.shelf.known();
         Ok(Slots {
             defs,
             config,
@@ -213,6 +216,7 @@ impl<M: Meanings> Slots<M> {
         ensures is_scene { IsScene self.now.scene }
         ensures combined { (f : ℕ) → (plain self.now).values (Vertex.Facet f) ≡ option_map (facet_value M.rules self.now.scene (plain self.now).values) (facet_at self.now.setup f) }
         ensures fields { FieldsFit M.rules self.now.setup (plain self.now).values }
+        ensures facets { FacetsFit M.rules self.now.setup (plain self.now).values }
         ensures absent { (f : ℕ) → field_at self.now.setup f ≡ None → (plain self.now).values (Vertex.Field f) ≡ None }
     {
         let _ = &self.kept;

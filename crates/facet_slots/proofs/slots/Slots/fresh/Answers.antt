@@ -19,7 +19,7 @@ first_kept-requires-clause-lawful g c = subst (IsLawful g.M.Meanings.rules) (sym
 
 pub invariant_of-result : goal.invariant_of-result
 invariant_of-result g c =
-    record { resolved = c.requires.resolved; lawful = c.requires.lawful; is_scene = subst IsScene (sym c.in_ok-kept.ensures.scene) c.requires.is_scene; kept = subst (λ (s : Setup). IsKept g.M.Meanings.rules s (scene_in c.in_ok-kept.kept) c.in_ok-kept.kept.shelf.facets.items c.in_ok-kept.kept.shelf.fields.items c.in_ok-kept.kept.inputs.items) c.lent.ensures c.in_ok-kept.ensures.kept }
+    record { resolved = c.requires.resolved; lawful = c.requires.lawful; is_scene = subst IsScene (sym c.in_ok-kept.ensures.scene) c.requires.is_scene; kept = subst (λ (s : Setup). IsKept g.M.Meanings.rules s (scene_in c.in_ok-kept.kept) c.in_ok-kept.kept.shelf.facets.items c.in_ok-kept.kept.shelf.fields.items c.in_ok-kept.kept.inputs.items) c.lent.ensures c.in_ok-kept.ensures.kept; in_range = c.known.ensures }
 
 pub returns-clause-state : goal.returns-clause-state
 returns-clause-state g c =

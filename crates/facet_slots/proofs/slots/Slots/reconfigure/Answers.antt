@@ -57,7 +57,7 @@ kept_after-requires-clause-kept g c =
 pub invariant_of-result : goal.invariant_of-result
 invariant_of-result g c =
     let grown : IsGrown (defs_of c.self.inside.defs.value) (defs_of c.args.defs.value) = subst (λ (v : Slotted). IsGrown v.setup.defs (defs_of c.args.defs.value)) (sym c.self.view_is) c.requires.grown in
-    record { resolved = c.requires.resolved; lawful = c.requires.lawful; is_scene = subst IsScene (sym (c.in_ok-kept.ensures.scene ∙ c.in_ok-scene.ensures)) c.self.invariant.is_scene; kept = subst (λ (s : Setup). IsKept g.M.Meanings.rules s (scene_in c.in_ok-kept.kept) c.in_ok-kept.kept.shelf.facets.items c.in_ok-kept.kept.shelf.fields.items c.in_ok-kept.kept.inputs.items) c.lent-2.ensures c.in_ok-kept.ensures.kept }
+    record { resolved = c.requires.resolved; lawful = c.requires.lawful; is_scene = subst IsScene (sym (c.in_ok-kept.ensures.scene ∙ c.in_ok-scene.ensures)) c.self.invariant.is_scene; kept = subst (λ (s : Setup). IsKept g.M.Meanings.rules s (scene_in c.in_ok-kept.kept) c.in_ok-kept.kept.shelf.facets.items c.in_ok-kept.kept.shelf.fields.items c.in_ok-kept.kept.inputs.items) c.lent-2.ensures c.in_ok-kept.ensures.kept; in_range = c.known.ensures }
 
 pub returns-clause-state : goal.returns-clause-state
 returns-clause-state g c =

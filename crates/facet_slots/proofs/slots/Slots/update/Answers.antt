@@ -62,7 +62,7 @@ pub invariant_of-result : goal.invariant_of-result
 invariant_of-result g c =
     let grown : IsGrown (defs_of c.self.inside.defs.value) (defs_of c.args.defs.value) = subst (λ (v : Slotted). IsGrown v.setup.defs (defs_of c.args.defs.value)) (sym c.self.view_is) c.requires.grown in
     subst (λ (k : ConfigView). AreSlots g.M.Meanings.rules (record_setup (defs_of c.args.defs.value) k) (scene_in c.in_ok-kept.kept) c.in_ok-kept.kept.shelf.facets.items c.in_ok-kept.kept.shelf.fields.items c.in_ok-kept.kept.inputs.items) (sym c.in_ok-config.ensures)
-    (record { resolved = (resolved-grown (record { defs = (defs_of c.self.inside.defs.value); config = c.self.inside.config.value }) (defs_of c.args.defs.value) c.self.invariant.resolved grown); lawful = (subst (λ (v : Slotted). IsLawful g.M.Meanings.rules (record { defs = (defs_of c.args.defs.value); config = v.setup.config })) (sym c.self.view_is) c.requires.lawful); is_scene = subst IsScene (sym (c.in_ok-kept.ensures.scene ∙ c.in_ok-scene.ensures)) (scene-is (scene_in c.self.inside.kept) c.self.invariant.is_scene c.args.transaction.now (subst (λ (v : Slotted). IsMade v.scene c.args.transaction.now) (sym c.self.view_is) c.requires.made) (subst (λ (v : Slotted). IsMade v.scene c.args.transaction.now) (sym c.self.view_is) c.requires.made).is.is_selection); kept = subst (λ (s : Setup). IsKept g.M.Meanings.rules s (scene_in c.in_ok-kept.kept) c.in_ok-kept.kept.shelf.facets.items c.in_ok-kept.kept.shelf.fields.items c.in_ok-kept.kept.inputs.items) (c.lent-2.ensures ∙ ap (λ (k : ConfigView). record_setup (defs_of c.args.defs.value) k) c.in_ok-config.ensures) c.in_ok-kept.ensures.kept })
+    (record { resolved = (resolved-grown (record { defs = (defs_of c.self.inside.defs.value); config = c.self.inside.config.value }) (defs_of c.args.defs.value) c.self.invariant.resolved grown); lawful = (subst (λ (v : Slotted). IsLawful g.M.Meanings.rules (record { defs = (defs_of c.args.defs.value); config = v.setup.config })) (sym c.self.view_is) c.requires.lawful); is_scene = subst IsScene (sym (c.in_ok-kept.ensures.scene ∙ c.in_ok-scene.ensures)) (scene-is (scene_in c.self.inside.kept) c.self.invariant.is_scene c.args.transaction.now (subst (λ (v : Slotted). IsMade v.scene c.args.transaction.now) (sym c.self.view_is) c.requires.made) (subst (λ (v : Slotted). IsMade v.scene c.args.transaction.now) (sym c.self.view_is) c.requires.made).is.is_selection); kept = subst (λ (s : Setup). IsKept g.M.Meanings.rules s (scene_in c.in_ok-kept.kept) c.in_ok-kept.kept.shelf.facets.items c.in_ok-kept.kept.shelf.fields.items c.in_ok-kept.kept.inputs.items) (c.lent-2.ensures ∙ ap (λ (k : ConfigView). record_setup (defs_of c.args.defs.value) k) c.in_ok-config.ensures) c.in_ok-kept.ensures.kept; in_range = c.known.ensures })
 
 pub returns-clause-state : goal.returns-clause-state
 returns-clause-state g c =
