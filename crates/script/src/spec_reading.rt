@@ -3,8 +3,9 @@ ghost use Rattle.script.specs.Reading.{Gives};
 ghost use Rattle.script.specs.Command.{notes_of, flags_of, spec_of, update_of};
 
 use crate::command::Command;
-use crate::fields::{flag_or, members, only_fields, text_if_there};
-use crate::item::{Item, list, list_or_empty};
+use crate::fields::{members, only_fields};
+use crate::item::{Item, list};
+use crate::member::{defaulted, text_if_there};
 use crate::refusal::LineError;
 use crate::selection_reading::given_selection;
 use cm_plain::{Plain, Str};
@@ -13,21 +14,26 @@ use serde_json::Value;
 use std::alloc::Global;
 use transaction::{Annotation, Spec};
 
+/// What a spec says beside its changes, its selection and its effects: its annotations, and its user event, if it has one.
 #[tactic(auto, unfolding(crate::specs::Command::notes_of))]
-fn read_notes(alloc: Global, value: &Value) -> Result<(Listed<Annotation>, Option<Str>), LineError>
+pub fn read_notes(
+    alloc: Global,
+    value: &Value,
+) -> Result<(Listed<Annotation>, Option<Str>), LineError>
     ensures { Gives (λ x. x) result (notes_of (view value.now)) }
 {
-    let annotations = list_or_empty(alloc, "annotations", value)?;
+    let annotations = defaulted(alloc, "annotations", value, Listed::empty(alloc))?;
     let event = text_if_there(alloc, "userEvent", value)?;
     Ok((annotations, event))
 }
 
+/// How a spec is taken: whether it is sequential, and whether filters are asked.
 #[tactic(auto, unfolding(crate::specs::Command::flags_of))]
-fn read_flags(alloc: Global, value: &Value) -> Result<(bool, bool), LineError>
+pub fn read_flags(alloc: Global, value: &Value) -> Result<(bool, bool), LineError>
     ensures { Gives (λ x. x) result (flags_of (view value.now)) }
 {
-    let sequential = flag_or(alloc, "sequential", value, false)?;
-    let filter = flag_or(alloc, "filter", value, true)?;
+    let sequential = defaulted(alloc, "sequential", value, false)?;
+    let filter = defaulted(alloc, "filter", value, true)?;
     Ok((sequential, filter))
 }
 
@@ -48,7 +54,7 @@ impl Item for Spec<Plain> {
     #[tactic(auto, unfolding(crate::specs::Command::spec_of))]
     fn read(alloc: Global, name: &str, value: &Value) -> Result<Spec<Plain>, LineError> {
         let members = members(alloc, name, value)?;
-        let changes = list_or_empty(alloc, "changes", value)?;
+        let changes = defaulted(alloc, "changes", value, Listed::empty(alloc))?;
         let selection = given_selection(alloc, value)?;
         let (annotations, user_event) = read_notes(alloc, value)?;
         let (sequential, filter) = read_flags(alloc, value)?;
