@@ -8,6 +8,8 @@
 mod annotation_reading;
 mod changes_reading;
 mod command;
+mod declaration_refusal;
+mod declaration_reply;
 mod fields;
 mod item;
 mod lines;
@@ -25,6 +27,7 @@ mod texts;
 mod value_reading;
 
 pub use command::{Command, Commands};
+pub use declaration_refusal::DeclarationRefusal;
 pub use fields::{members, only_fields, refused, required_member};
 pub use item::{Item, list};
 pub use lines::{command_of, line_command};

@@ -1,0 +1,5 @@
+pub mod Names
+pub mod Sets
+pub mod RegistryRefusals
+pub mod Declaring
+pub mod Predeclared

@@ -1,0 +1,24 @@
+//! The names of what a script declares, and the commands that declare.
+//!
+//! The layer above may rely on this: names stand in one name space, in order of declaration, and `declare` makes of a registry
+//! and its names what its definition says, or gives the first refusal: an unknown name, a name that is taken, what a written
+//! value is refused as, and then what the registry refuses, with names in place of ids. After a refusal, or out of memory,
+//! both are as before.
+#![tactic(auto)]
+
+mod declare;
+mod declare_computed;
+mod declare_field;
+mod declare_kinds;
+mod declare_nodes;
+mod finding;
+mod named;
+mod names;
+mod predeclared;
+mod refusing;
+mod sets;
+
+pub use declare::declare;
+pub use finding::{Compartments, Effects, Facets, Fields, Nodes, Reads, Sought, all_found, found};
+pub use named::Named;
+pub use names::Names;
