@@ -1,7 +1,8 @@
 -- What each declaring command makes of the registry and the names, or the first refusal: a name that is not declared or of
 -- another sort, in the order of the fields; a name that is taken; what a written value is refused as; what the registry refuses,
 -- with ids as the names that the command has for them.
-use Rattle.std.specs.Prelude.{ℕ, ◌+◌, List, [], ◌∷◌, length, Bool, true, false, ◌&&◌, ◌==◌, Option, Some, None, Result, Ok, Err, if◌then◌else◌, option_and_then}
+use Rattle.std.specs.Prelude.{ℕ, ◌+◌, List, [], ◌∷◌, length, Bool, true, false, ◌&&◌, ◌==◌, Option, Some, None, Result, Ok, Err, if◌then◌else◌, option_and_then, slice_get, position}
+use Rattle.std.specs.Option.{option_map_or}
 use Rattle.cm_plain.specs.Form.{fits}
 use Rattle.configuration.specs.declared.dependency.Dependency.{Dependency}
 use Rattle.configuration.specs.declared.facet_def.FacetDef.{FacetDef}
@@ -31,7 +32,7 @@ use Rattle.requests.specs.declared.field_declaration.ProvidedDeclaration.{Provid
 use Rattle.requests.specs.declared.field_declaration.FieldDeclaration.{FieldDeclaration}
 use Rattle.requests.specs.declared.value_declarations.InitDeclaration.{InitDeclaration}
 use Rattle.requests.specs.declared.value_declarations.InputDeclaration.{InputDeclaration}
-use Rattle.names.specs.Names.{NameList, with_name, as_effect, as_compartment, as_facet, as_field, as_node, as_read, found, all_found, is_free}
+use Rattle.names.specs.Names.{NameList, with_name, as_effect, as_compartment, as_facet, as_field, as_node, as_read, found, all_found, each_of, is_free}
 use Rattle.names.specs.Sets.{value_of}
 use Rattle.names.specs.declared.named.Named.{Named}
 use Rattle.names.specs.declared.named.Named.TheVariants.{Compartment, Effect, Facet, Field, Node}
@@ -83,19 +84,19 @@ facet_in rules w f = do
   free ← is_free w.names f.name
   with_thing w f.name (Facet (length w.declared.facets)) (λ id. f.name) (facet_refusals rules w.declared f.def enables) (with_facet w.declared f.def enables)
 
+-- an input that a field provides
+abbrev pub provided_in : NameList → ProvidedDeclaration → Result Provided Refusal
+provided_in names p = do
+  facet ← found as_facet names p.facet
+  Ok (record { facet = facet; rule = p.rule })
+
 -- what a field provides
 abbrev pub all_provided : NameList → List ProvidedDeclaration → Result (List Provided) Refusal
-all_provided names [] = Ok []
-all_provided names (p ∷ ps) = do
-  facet ← found as_facet names p.facet
-  others ← all_provided names ps
-  Ok (record { facet = facet; rule = p.rule } ∷ others)
+all_provided names ps = each_of (provided_in names) ps
 
 -- the name of a facet among those that a field provides inputs of, and else the field's own
 abbrev pub provided_name : List ℕ → List ProvidedDeclaration → List Provided → ℕ → List ℕ
-provided_name own [] qs id = own
-provided_name own (p ∷ ps) [] id = own
-provided_name own (p ∷ ps) (q ∷ qs) id = if q.facet == id then p.facet else provided_name own ps qs id
+provided_name own ps qs id = option_map_or (λ (p : ProvidedDeclaration). p.facet) (option_and_then (slice_get ps) (position (λ (q : Provided). q.facet == id) qs)) own
 
 abbrev pub field_def : FieldDeclaration → List Dependency → List ℕ → FieldDef
 field_def f rs listens = record { create = f.rules.create; update = f.rules.update; compare = f.rules.compare; reads = rs; listens = listens }

@@ -64,13 +64,17 @@ or_unknown name (Some x) = Ok x
 abbrev pub found : {A : Type 0} → (Named → Option A) → NameList → List ℕ → Result A Refusal
 found as_sort names name = or_unknown name (option_and_then as_sort (meaning_of name names))
 
+-- the items one after the other, up to the first that is refused
+abbrev pub each_of : {X A : Type 0} → (X → Result A Refusal) → List X → Result (List A) Refusal
+each_of read [] = Ok []
+each_of read (x ∷ xs) = do
+  first ← read x
+  others ← each_of read xs
+  Ok (first ∷ others)
+
 -- what some names stand for, in order; the first one that is refused is
 abbrev pub all_found : {A : Type 0} → (Named → Option A) → NameList → List (List ℕ) → Result (List A) Refusal
-all_found as_sort names [] = Ok []
-all_found as_sort names (name ∷ rest) = do
-  first ← found as_sort names name
-  others ← all_found as_sort names rest
-  Ok (first ∷ others)
+all_found as_sort names wanted = each_of (found as_sort names) wanted
 
 -- a name that is to be declared is not taken
 abbrev pub is_free : NameList → List ℕ → Result ⊤ Refusal

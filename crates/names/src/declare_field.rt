@@ -4,7 +4,7 @@ ghost use Rattle.script.specs.Reading.{Gives};
 ghost use Rattle.registry.specs.Refusals.{is_rule};
 ghost use Rattle.values.specs.Growth.{IsGrowth};
 ghost use Rattle.names.specs.declared.named.Named.TheVariants.{Field};
-ghost use Rattle.names.specs.Declaring.{all_provided, creator_fits, field_in, field_things, field_with, name_among, provided_name, world};
+ghost use Rattle.names.specs.Declaring.{all_provided, creator_fits, field_in, field_things, field_with, name_among, provided_in, provided_name, world};
 ghost use Rattle.names.specs.Names.{meaning_of, with_name};
 
 use crate::finding::{Effects, Facets, Reads, all_found, found};
@@ -39,12 +39,13 @@ fn provided_name<'a>(
 ) -> &'a Str
     ensures { result.now ≡ provided_name own.now provides.now provided.now id }
 {
-    for (declared, made) in provides.iter().zip(provided) {
-        if made.facet == id {
-            return &declared.facet;
-        }
+    match provided.iter().position(|made| made.facet == id) {
+        None => own,
+        Some(place) => match provides.get(place) {
+            None => own,
+            Some(declared) => &declared.facet,
+        },
     }
-    own
 }
 
 impl<'a> IdNames for FieldIdNames<'a> {
@@ -78,6 +79,17 @@ fn creator_fits<M: Meanings>(alloc: Global, create: u32, update: u32) -> Result<
     Ok(output.fits(&input))
 }
 
+/// An input that a field provides.
+fn provided_in(names: &Names, declared: &ProvidedDeclaration) -> Result<Provided, LineError>
+    ensures { Gives (λ x. x) result (provided_in names.now declared.now) }
+{
+    let facet = found::<Facets>(names, &declared.facet)?;
+    Ok(Provided {
+        facet,
+        rule: declared.rule,
+    })
+}
+
 /// What a field provides.
 fn all_provided(
     alloc: Global,
@@ -88,11 +100,7 @@ fn all_provided(
 {
     let mut provided = Vec::with_capacity(alloc, provides.len())?;
     for declared in provides {
-        let facet = found::<Facets>(names, &declared.facet)?;
-        provided.push(Provided {
-            facet,
-            rule: declared.rule,
-        })?;
+        provided.push(provided_in(names, declared)?)?;
     }
     Ok(provided)
 }

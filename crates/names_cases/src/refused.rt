@@ -37,6 +37,14 @@ fn unknown_names_are_refused_in_the_order_of_fields(rt: HostRuntime) -> Result<(
             "{\"field\":{\"name\":\"n\",\"create\":99,\"update\":99,\"provides\":[{\"facet\":\"tabSize\"},{\"facet\":\"q\"}]}}",
             "{\"no\":{\"code\":\"UnknownName\",\"name\":\"q\"}}\n",
         ),
+    ];
+    assert!(rt; first_wrong(rt.alloc(), &cases)? == cases.len());
+    Ok(())
+}
+
+#[test]
+fn unknown_names_of_nodes_are_refused_in_the_order_of_fields(rt: HostRuntime) -> Result<(), Fail> {
+    let cases = [
         (
             "{\"compute\":{\"name\":\"k\",\"facet\":\"q\",\"rule\":99,\"deps\":[\"r\"]}}",
             "{\"no\":{\"code\":\"UnknownName\",\"name\":\"q\"}}\n",

@@ -12,7 +12,7 @@ use Rattle.requests.specs.declared.new_state.NewState.{NewState}
 use Rattle.requests.specs.declared.spec_request.SpecRequest.{SpecRequest}
 use Rattle.requests.specs.declared.request.Request.{Request}
 use Rattle.requests.specs.declared.request.Request.TheVariants.{Declare, Start, Update, Text, Selection, Get, Map}
-use Rattle.requests.specs.Declared.{effect_of, inverse_of, facet_of, field_of, compartment_of, input_of, compute_of, from_of, init_of, group_of, prec_of, slot_of}
+use Rattle.requests.specs.Declarations.{effect_of, inverse_of, facet_of, field_of, compartment_of, input_of, compute_of, from_of, init_of, group_of, prec_of, slot_of}
 use Rattle.requests.specs.Effects.{named_effect_of}
 
 -- an item of a list of specs: {changes (default []), selection, main, effects (default []), annotations, userEvent, sequential,

@@ -1,4 +1,4 @@
-ghost use Rattle.requests.specs.Declared.{compute_of, from_of};
+ghost use Rattle.requests.specs.Declarations.{compute_of, from_of};
 
 use cm_plain::Str;
 use listed::Listed;
@@ -35,7 +35,7 @@ pub struct FromDeclaration {
 impl Item for ComputeDeclaration {
     ghost item_of = { compute_of };
 
-    #[tactic(auto, unfolding(crate::specs::Declared::compute_of))]
+    #[tactic(auto, unfolding(crate::specs::Declarations::compute_of))]
     fn read(alloc: Global, command: &str, value: &Value) -> Result<ComputeDeclaration, LineError> {
         let members = members(alloc, command, value)?;
         let name = text_member(alloc, "name", value)?;
@@ -57,7 +57,7 @@ impl Item for ComputeDeclaration {
 impl Item for FromDeclaration {
     ghost item_of = { from_of };
 
-    #[tactic(auto, unfolding(crate::specs::Declared::from_of))]
+    #[tactic(auto, unfolding(crate::specs::Declarations::from_of))]
     fn read(alloc: Global, command: &str, value: &Value) -> Result<FromDeclaration, LineError> {
         let members = members(alloc, command, value)?;
         let name = text_member(alloc, "name", value)?;

@@ -1,4 +1,4 @@
-ghost use Rattle.requests.specs.Declared.{effect_of, inverse_of};
+ghost use Rattle.requests.specs.Declarations.{effect_of, inverse_of};
 
 use cm_plain::Str;
 use script::{Item, LineError, members, only_fields, optional, text_member};
@@ -23,7 +23,7 @@ pub struct InverseDeclaration {
 impl Item for EffectDeclaration {
     ghost item_of = { effect_of };
 
-    #[tactic(auto, unfolding(crate::specs::Declared::effect_of))]
+    #[tactic(auto, unfolding(crate::specs::Declarations::effect_of))]
     fn read(alloc: Global, command: &str, value: &Value) -> Result<EffectDeclaration, LineError> {
         let members = members(alloc, command, value)?;
         let name = text_member(alloc, "name", value)?;
@@ -36,7 +36,7 @@ impl Item for EffectDeclaration {
 impl Item for InverseDeclaration {
     ghost item_of = { inverse_of };
 
-    #[tactic(auto, unfolding(crate::specs::Declared::inverse_of))]
+    #[tactic(auto, unfolding(crate::specs::Declarations::inverse_of))]
     fn read(alloc: Global, command: &str, value: &Value) -> Result<InverseDeclaration, LineError> {
         let members = members(alloc, command, value)?;
         let effect = text_member(alloc, "effect", value)?;

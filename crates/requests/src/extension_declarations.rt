@@ -1,4 +1,4 @@
-ghost use Rattle.requests.specs.Declared.{compartment_of, group_of, prec_of, slot_of};
+ghost use Rattle.requests.specs.Declarations.{compartment_of, group_of, prec_of, slot_of};
 
 use crate::words::precedence_member;
 use cm_plain::Str;
@@ -44,7 +44,7 @@ pub struct SlotDeclaration {
 impl Item for CompartmentDeclaration {
     ghost item_of = { compartment_of };
 
-    #[tactic(auto, unfolding(crate::specs::Declared::compartment_of))]
+    #[tactic(auto, unfolding(crate::specs::Declarations::compartment_of))]
     fn read(
         alloc: Global,
         command: &str,
@@ -60,7 +60,7 @@ impl Item for CompartmentDeclaration {
 impl Item for GroupDeclaration {
     ghost item_of = { group_of };
 
-    #[tactic(auto, unfolding(crate::specs::Declared::group_of))]
+    #[tactic(auto, unfolding(crate::specs::Declarations::group_of))]
     fn read(alloc: Global, command: &str, value: &Value) -> Result<GroupDeclaration, LineError> {
         let members = members(alloc, command, value)?;
         let name = text_member(alloc, "name", value)?;
@@ -73,7 +73,7 @@ impl Item for GroupDeclaration {
 impl Item for PrecDeclaration {
     ghost item_of = { prec_of };
 
-    #[tactic(auto, unfolding(crate::specs::Declared::prec_of))]
+    #[tactic(auto, unfolding(crate::specs::Declarations::prec_of))]
     fn read(alloc: Global, command: &str, value: &Value) -> Result<PrecDeclaration, LineError> {
         let members = members(alloc, command, value)?;
         let name = text_member(alloc, "name", value)?;
@@ -87,7 +87,7 @@ impl Item for PrecDeclaration {
 impl Item for SlotDeclaration {
     ghost item_of = { slot_of };
 
-    #[tactic(auto, unfolding(crate::specs::Declared::slot_of))]
+    #[tactic(auto, unfolding(crate::specs::Declarations::slot_of))]
     fn read(alloc: Global, command: &str, value: &Value) -> Result<SlotDeclaration, LineError> {
         let members = members(alloc, command, value)?;
         let name = text_member(alloc, "name", value)?;

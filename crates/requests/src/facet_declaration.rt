@@ -1,6 +1,6 @@
 ghost use Rattle.serde_json.specs.View.{view};
 ghost use Rattle.script.specs.Reading.{Gives};
-ghost use Rattle.requests.specs.Declared.{facet_of, facet_rules_of};
+ghost use Rattle.requests.specs.Declarations.{facet_of, facet_rules_of};
 
 use cm_plain::Str;
 use configuration::FacetDef;
@@ -19,7 +19,7 @@ pub struct FacetDeclaration {
     pub enables: Listed<Str>,
 }
 
-#[tactic(auto, unfolding(crate::specs::Declared::facet_rules_of))]
+#[tactic(auto, unfolding(crate::specs::Declarations::facet_rules_of))]
 fn read_rules(alloc: Global, value: &Value) -> Result<FacetDef, LineError>
     ensures { Gives (λ x. x) result (facet_rules_of (view value.now)) }
 {
@@ -48,7 +48,7 @@ const FACET_FIELDS: [&str; 6] = [
 impl Item for FacetDeclaration {
     ghost item_of = { facet_of };
 
-    #[tactic(auto, unfolding(crate::specs::Declared::facet_of))]
+    #[tactic(auto, unfolding(crate::specs::Declarations::facet_of))]
     fn read(alloc: Global, command: &str, value: &Value) -> Result<FacetDeclaration, LineError> {
         let members = members(alloc, command, value)?;
         let name = text_member(alloc, "name", value)?;

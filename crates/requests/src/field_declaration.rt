@@ -1,6 +1,6 @@
 ghost use Rattle.serde_json.specs.View.{view};
 ghost use Rattle.script.specs.Reading.{Gives};
-ghost use Rattle.requests.specs.Declared.{field_of, field_names_of, field_rules_of, provided_of};
+ghost use Rattle.requests.specs.Declarations.{field_of, field_names_of, field_rules_of, provided_of};
 
 use cm_plain::Str;
 use listed::Listed;
@@ -46,7 +46,7 @@ pub struct FieldDeclaration {
 impl Item for ProvidedDeclaration {
     ghost item_of = { provided_of };
 
-    #[tactic(auto, unfolding(crate::specs::Declared::provided_of))]
+    #[tactic(auto, unfolding(crate::specs::Declarations::provided_of))]
     fn read(alloc: Global, name: &str, value: &Value) -> Result<ProvidedDeclaration, LineError> {
         let members = members(alloc, name, value)?;
         let facet = text_member(alloc, "facet", value)?;
@@ -56,7 +56,7 @@ impl Item for ProvidedDeclaration {
     }
 }
 
-#[tactic(auto, unfolding(crate::specs::Declared::field_rules_of))]
+#[tactic(auto, unfolding(crate::specs::Declarations::field_rules_of))]
 fn read_rules(alloc: Global, value: &Value) -> Result<FieldRules, LineError>
     ensures { Gives (λ x. x) result (field_rules_of (view value.now)) }
 {
@@ -70,7 +70,7 @@ fn read_rules(alloc: Global, value: &Value) -> Result<FieldRules, LineError>
     })
 }
 
-#[tactic(auto, unfolding(crate::specs::Declared::field_names_of))]
+#[tactic(auto, unfolding(crate::specs::Declarations::field_names_of))]
 fn read_names(alloc: Global, value: &Value) -> Result<FieldNames, LineError>
     ensures { Gives (λ x. x) result (field_names_of (view value.now)) }
 {
@@ -92,7 +92,7 @@ const FIELD_FIELDS: [&str; 7] = [
 impl Item for FieldDeclaration {
     ghost item_of = { field_of };
 
-    #[tactic(auto, unfolding(crate::specs::Declared::field_of))]
+    #[tactic(auto, unfolding(crate::specs::Declarations::field_of))]
     fn read(alloc: Global, command: &str, value: &Value) -> Result<FieldDeclaration, LineError> {
         let members = members(alloc, command, value)?;
         let name = text_member(alloc, "name", value)?;

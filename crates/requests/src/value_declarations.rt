@@ -1,4 +1,4 @@
-ghost use Rattle.requests.specs.Declared.{init_of, input_of};
+ghost use Rattle.requests.specs.Declarations.{init_of, input_of};
 
 use crate::written::Written;
 use cm_plain::Str;
@@ -27,7 +27,7 @@ pub struct InitDeclaration {
 impl Item for InputDeclaration {
     ghost item_of = { input_of };
 
-    #[tactic(auto, unfolding(crate::specs::Declared::input_of))]
+    #[tactic(auto, unfolding(crate::specs::Declarations::input_of))]
     fn read(alloc: Global, command: &str, object: &Value) -> Result<InputDeclaration, LineError> {
         let members = members(alloc, command, object)?;
         let name = text_member(alloc, "name", object)?;
@@ -41,7 +41,7 @@ impl Item for InputDeclaration {
 impl Item for InitDeclaration {
     ghost item_of = { init_of };
 
-    #[tactic(auto, unfolding(crate::specs::Declared::init_of))]
+    #[tactic(auto, unfolding(crate::specs::Declarations::init_of))]
     fn read(alloc: Global, command: &str, object: &Value) -> Result<InitDeclaration, LineError> {
         let members = members(alloc, command, object)?;
         let name = text_member(alloc, "name", object)?;
