@@ -1,2 +1,4 @@
 pub mod Each
 pub mod Prefixes
+pub mod Settling
+pub mod Entries

@@ -6,11 +6,11 @@
 //! both are as before.
 #![tactic(auto)]
 
-mod declare;
 mod declare_computed;
 mod declare_field;
 mod declare_kinds;
 mod declare_nodes;
+mod declaring;
 mod finding;
 mod named;
 mod names;
@@ -18,7 +18,7 @@ mod predeclared;
 mod refusing;
 mod sets;
 
-pub use declare::declare;
+pub use declaring::declare;
 pub use finding::{Compartments, Effects, Facets, Fields, Nodes, Reads, Sought, all_found, found};
 pub use named::Named;
 pub use names::Names;
