@@ -1,10 +1,15 @@
 -- What is declared by name, in order of declaration. All names stand in one name space.
-use Rattle.std.specs.Prelude.{◌≡◌, ℕ, List, [], ◌∷◌, ◌++◌, ⊤, is_none, Option, Some, None, Result, Ok, Err, if◌then◌else◌, option_and_then}
+use Rattle.std.specs.Prelude.{ℕ, List, [], ◌∷◌, ◌++◌, ⊤, Bool, false, ◌==◌, is_none, Option, Some, None, Result, Ok, Err, if◌then◌else◌, option_and_then}
+use Rattle.std.specs.Option.{option_map_or}
 use Rattle.std.specs.Str.{bytes_eq}
 use Rattle.configuration.specs.declared.dependency.Dependency.{Dependency}
 use Rattle.configuration.specs.declared.dependency.Dependency.TheVariants as reads
+use Rattle.registry.specs.declared.id_sort.IdSort.{IdSort}
+use Rattle.registry.specs.declared.id_sort.IdSort.TheVariants as sorts
 use Rattle.names.specs.declared.named.Named.{Named}
 use Rattle.names.specs.declared.named.Named.TheVariants.{Doc, Selection, Compartment, Effect, Facet, Field, Node}
+use Rattle.names.specs.declared.valued.Valued.{Valued}
+use Rattle.names.specs.declared.valued.Valued.TheVariants as valued
 use Rattle.script.specs.declared.refusal.Refusal.{Refusal}
 use Rattle.script.specs.declared.refusal.Refusal.TheVariants.{UnknownName, NameTaken}
 use Rattle.script.specs.Reading.{◌>>=◌}
@@ -48,6 +53,22 @@ as_node (Field field node) = Some node
 as_node (Node node) = Some node
 as_node thing = None
 
+-- by what a thing is known among those of a sort, if it is of that sort
+abbrev pub id_of : IdSort → Named → Option ℕ
+id_of sorts.Compartment thing = as_compartment thing
+id_of sorts.Effect thing = as_effect thing
+id_of sorts.Facet thing = as_facet thing
+id_of sorts.Field thing = as_field thing
+id_of sorts.Node thing = as_node thing
+
+abbrev pub has_id : IdSort → ℕ → Named → Bool
+has_id sort id thing = option_map_or (λ n. n == id) (id_of sort thing) false
+
+-- the first name of what is known by this id among the things of a sort
+abbrev pub name_of : IdSort → ℕ → NameList → Option (List ℕ)
+name_of sort id [] = None
+name_of sort id (e ∷ es) = if has_id sort id e.1 then Some e.0 else name_of sort id es
+
 -- what a rule may read: the document, the selection, a facet, or a field
 abbrev pub as_read : Named → Option Dependency
 as_read Doc = Some reads.Doc
@@ -55,6 +76,12 @@ as_read Selection = Some reads.Selection
 as_read (Facet id) = Some (reads.Facet id)
 as_read (Field field node) = Some (reads.Field field)
 as_read thing = None
+
+-- what has a value: a facet, or a field
+abbrev pub as_value : Named → Option Valued
+as_value (Facet id) = Some (valued.Facet id)
+as_value (Field field node) = Some (valued.Field field)
+as_value thing = None
 
 abbrev pub or_unknown : {A : Type 0} → List ℕ → Option A → Result A Refusal
 or_unknown name None = Err (UnknownName name)

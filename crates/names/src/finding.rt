@@ -3,10 +3,11 @@ ghost use Rattle.std.specs.Prelude.{◌≡◌, ℕ, Option};
 ghost use Rattle.configuration.specs.declared.dependency.Dependency.{Dependency as DependencyData};
 ghost use Rattle.script.specs.Reading.{Gives};
 ghost use Rattle.names.specs.declared.named.Named.{Named as NamedData};
-ghost use Rattle.names.specs.Names.{all_found, as_compartment, as_effect, as_facet, as_field, as_node, as_read, found};
+ghost use Rattle.names.specs.Names.{all_found, as_compartment, as_effect, as_facet, as_field, as_node, as_read, as_value, found};
 
 use crate::named::Named;
 use crate::names::Names;
+use crate::valued::Valued;
 use cm_plain::Str;
 use configuration::Dependency;
 use script::{LineError, Refusal};
@@ -42,6 +43,9 @@ pub struct Nodes;
 
 /// What a rule may read.
 pub struct Reads;
+
+/// What has a value: facets and fields.
+pub struct Values;
 
 impl Sought for Compartments {
     type Id = u32;
@@ -120,6 +124,20 @@ impl Sought for Reads {
             Named::Selection => Some(Dependency::Selection),
             Named::Facet(id) => Some(Dependency::Facet(id)),
             Named::Field { field, node: _ } => Some(Dependency::Field(field)),
+            _ => None,
+        }
+    }
+}
+
+impl Sought for Values {
+    type Id = Valued;
+
+    ghost as_sort = { as_value };
+
+    fn of(thing: Named) -> Option<Valued> {
+        match thing {
+            Named::Facet(id) => Some(Valued::Facet(id)),
+            Named::Field { field, node: _ } => Some(Valued::Field(field)),
             _ => None,
         }
     }

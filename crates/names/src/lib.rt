@@ -17,8 +17,12 @@ mod names;
 mod predeclared;
 mod refusing;
 mod sets;
+mod valued;
 
 pub use declaring::declare;
-pub use finding::{Compartments, Effects, Facets, Fields, Nodes, Reads, Sought, all_found, found};
+pub use finding::{
+    Compartments, Effects, Facets, Fields, Nodes, Reads, Sought, Values, all_found, found,
+};
 pub use named::Named;
 pub use names::Names;
+pub use valued::Valued;

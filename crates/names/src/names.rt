@@ -1,11 +1,12 @@
 // The names.
-ghost use Rattle.std.specs.Prelude.{◌≡◌, ◌↔◌, IfOk, IsSome, IsTrue, None, OnErr, OnOk, length, take};
-ghost use Rattle.names.specs.Names.{is_free, meaning_of, with_name};
+ghost use Rattle.std.specs.Prelude.{◌≡◌, ◌↔◌, IfOk, IsSome, IsTrue, None, OnErr, OnOk, length, option_map, take};
+ghost use Rattle.names.specs.Names.{has_id, is_free, meaning_of, name_of, with_name};
 ghost use Rattle.script.specs.Reading.{Gives};
 
 use crate::named::Named;
 use cm_plain::Str;
 use indexmap::IndexMap;
+use registry::IdSort;
 use script::{LineError, Refusal};
 use std::alloc::{AllocError, Global};
 use std::marker::Model;
@@ -49,6 +50,20 @@ impl Names {
         self.entries.get(name.chars()).copied()
     }
 
+    /// The first name of what is known by this id among the things of a sort. It looks at the names one after the other. Takes no
+    /// memory.
+    pub fn name_of(&self, sort: IdSort, id: u32) -> Option<&[char]>
+        ensures { option_map (λ name. name.now) result ≡ name_of sort id self.now }
+    {
+        for place in 0..self.entries.len() {
+            match self.entries.get_index(place) {
+                Some((name, thing)) if has_id(sort, id, *thing) => return Some(name.as_slice()),
+                _ => {}
+            }
+        }
+        None
+    }
+
     /// A name that is to be declared is not taken. `Err`: it is; or out of memory.
     pub(crate) fn free(&self, name: &Str) -> Result<(), LineError>
         ensures answer { Gives (λ x. x) result (is_free self.now name.now) }
@@ -78,5 +93,20 @@ impl Names {
         ensures { self.new ≡ take count self.old }
     {
         self.entries.truncate(count);
+    }
+}
+
+/// Whether a thing is known by this id among those of a sort.
+fn has_id(sort: IdSort, id: u32, thing: Named) -> bool
+    ensures { result ≡ has_id sort id thing }
+{
+    match (sort, thing) {
+        (IdSort::Compartment, Named::Compartment(known)) => known == id,
+        (IdSort::Effect, Named::Effect(known)) => known == id,
+        (IdSort::Facet, Named::Facet(known)) => known == id,
+        (IdSort::Field, Named::Field { field, node: _ }) => field == id,
+        (IdSort::Node, Named::Field { field: _, node }) => node == id,
+        (IdSort::Node, Named::Node(node)) => node == id,
+        _ => false,
     }
 }

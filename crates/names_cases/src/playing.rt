@@ -1,6 +1,5 @@
 // Lines that declare, one after the other.
-use cm_plain::Str;
-use names::{Facets, Fields, Names, Nodes, declare, found};
+use names::{Names, declare};
 use registry::Registry;
 use requests::Request;
 use script::{LineError, Reply, line_command, reply_text};
@@ -52,12 +51,12 @@ pub(crate) fn first_wrong(alloc: Global, lines: &[(&str, &str)]) -> Result<usize
     Ok(lines.len())
 }
 
-/// How many names there are after these lines, of which some may be refused.
-pub(crate) fn names_after(alloc: Global, lines: &[&str]) -> Result<usize, AllocError> {
+/// The names after some lines, of which some may be refused.
+pub(crate) fn named(alloc: Global, lines: &[&str]) -> Result<Names, AllocError> {
     let mut registry = Registry::new(alloc)?;
     let mut names = Names::new(alloc)?;
     for line in lines {
         fault(alloc, &mut registry, &mut names, line);
     }
-    Ok(names.len())
+    Ok(names)
 }

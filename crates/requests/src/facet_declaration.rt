@@ -5,7 +5,9 @@ ghost use Rattle.requests.specs.Declarations.{facet_of, facet_rules_of};
 use cm_plain::Str;
 use configuration::FacetDef;
 use listed::Listed;
-use script::{Item, LineError, defaulted, members, number_member, only_fields, text_member};
+use script::{
+    Item, LineError, defaulted, list_or_empty, members, number_member, only_fields, text_member,
+};
 use serde_json::Value;
 use std::alloc::Global;
 
@@ -53,7 +55,7 @@ impl Item for FacetDeclaration {
         let members = members(alloc, command, value)?;
         let name = text_member(alloc, "name", value)?;
         let def = read_rules(alloc, value)?;
-        let enables = defaulted(alloc, "enables", value, Listed::empty(alloc))?;
+        let enables = list_or_empty(alloc, "enables", value)?;
         only_fields(alloc, &FACET_FIELDS, members)?;
         Ok(FacetDeclaration { name, def, enables })
     }

@@ -4,7 +4,9 @@ ghost use Rattle.requests.specs.Declarations.{field_of, field_names_of, field_ru
 
 use cm_plain::Str;
 use listed::Listed;
-use script::{Item, LineError, defaulted, members, number_member, only_fields, text_member};
+use script::{
+    Item, LineError, defaulted, list_or_empty, members, number_member, only_fields, text_member,
+};
 use serde_json::Value;
 use std::alloc::Global;
 
@@ -74,9 +76,9 @@ fn read_rules(alloc: Global, value: &Value) -> Result<FieldRules, LineError>
 fn read_names(alloc: Global, value: &Value) -> Result<FieldNames, LineError>
     ensures { Gives (λ x. x) result (field_names_of (view value.now)) }
 {
-    let reads = defaulted(alloc, "reads", value, Listed::empty(alloc))?;
-    let listens = defaulted(alloc, "listens", value, Listed::empty(alloc))?;
-    let provides = defaulted(alloc, "provides", value, Listed::empty(alloc))?;
+    let reads = list_or_empty(alloc, "reads", value)?;
+    let listens = list_or_empty(alloc, "listens", value)?;
+    let provides = list_or_empty(alloc, "provides", value)?;
     Ok(FieldNames {
         reads,
         listens,

@@ -2,7 +2,9 @@ ghost use Rattle.requests.specs.Requests.{new_state_of};
 
 use cm_plain::Str;
 use listed::Listed;
-use script::{Item, LineError, defaulted, first_selection, members, only_fields, text_or_empty};
+use script::{
+    Item, LineError, first_selection, list_or_empty, members, only_fields, text_or_empty,
+};
 use serde_json::Value;
 use std::alloc::Global;
 use transaction::SelectionSpec;
@@ -26,7 +28,7 @@ impl Item for NewState {
         let members = members(alloc, command, value)?;
         let doc = text_or_empty(alloc, "doc", value)?;
         let selection = first_selection(alloc, value)?;
-        let extensions = defaulted(alloc, "extensions", value, Listed::empty(alloc))?;
+        let extensions = list_or_empty(alloc, "extensions", value)?;
         only_fields(alloc, &["doc", "selection", "main", "extensions"], members)?;
         Ok(NewState {
             doc,

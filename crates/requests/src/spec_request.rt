@@ -5,7 +5,7 @@ use change_set::Change;
 use cm_plain::Str;
 use listed::Listed;
 use script::{
-    Item, LineError, defaulted, given_selection, members, only_fields, read_flags, read_notes,
+    Item, LineError, given_selection, list_or_empty, members, only_fields, read_flags, read_notes,
 };
 use serde_json::Value;
 use std::alloc::Global;
@@ -46,9 +46,9 @@ impl Item for SpecRequest {
     #[tactic(auto, unfolding(crate::specs::Requests::spec_of))]
     fn read(alloc: Global, name: &str, value: &Value) -> Result<SpecRequest, LineError> {
         let members = members(alloc, name, value)?;
-        let changes = defaulted(alloc, "changes", value, Listed::empty(alloc))?;
+        let changes = list_or_empty(alloc, "changes", value)?;
         let selection = given_selection(alloc, value)?;
-        let effects = defaulted(alloc, "effects", value, Listed::empty(alloc))?;
+        let effects = list_or_empty(alloc, "effects", value)?;
         let (annotations, user_event) = read_notes(alloc, value)?;
         let (sequential, filter) = read_flags(alloc, value)?;
         only_fields(alloc, &SPEC_FIELDS, members)?;

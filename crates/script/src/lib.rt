@@ -35,7 +35,8 @@ pub use map_reading::read_map_request;
 pub use map_request::{MapOp, MapParts, MapPlace, MapRequest, MapSets};
 pub use mapped::{Mapped, MappedParts, MappedPlace};
 pub use member::{
-    defaulted, number_member, optional, required, text_if_there, text_member, text_or_empty,
+    defaulted, list_or_empty, number_member, optional, required, text_if_there, text_member,
+    text_or_empty,
 };
 pub use reading::no_fields;
 pub use refusal::{LineError, Refusal};

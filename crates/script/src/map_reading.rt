@@ -8,7 +8,7 @@ use crate::command::Command;
 use crate::fields::{members, only_fields, refused};
 use crate::item::Item;
 use crate::map_request::{MapOp, MapParts, MapPlace, MapRequest, MapSets};
-use crate::member::{defaulted, optional, required, text_member};
+use crate::member::{defaulted, list_or_empty, optional, required, text_member};
 use crate::refusal::LineError;
 use change_desc::MapMode;
 use listed::Listed;
@@ -81,7 +81,7 @@ fn read_sets(alloc: Global, value: &Value) -> Result<MapSets, LineError>
 {
     let doc = text_member(alloc, "doc", value)?;
     let a = required(alloc, "a", value)?;
-    let b = defaulted(alloc, "b", value, Listed::empty(alloc))?;
+    let b = list_or_empty(alloc, "b", value)?;
     Ok(MapSets { doc, a, b })
 }
 
@@ -100,7 +100,7 @@ fn read_op(alloc: Global, value: &Value) -> Result<(MapOp, Listed<(u32, u32)>), 
     ensures { Gives (λ x. x) result (map_op_of (view value.now)) }
 {
     let op = required(alloc, "op", value)?;
-    let protect = defaulted(alloc, "protect", value, Listed::empty(alloc))?;
+    let protect = list_or_empty(alloc, "protect", value)?;
     Ok((op, protect))
 }
 

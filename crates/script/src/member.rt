@@ -1,11 +1,12 @@
 ghost use Rattle.std.specs.Prelude.{[]};
 ghost use Rattle.serde_json.specs.View.{view};
-ghost use Rattle.script.specs.Reading.{Gives, defaulted, number_member, optional, required_as, text_at, text_member};
+ghost use Rattle.script.specs.Reading.{Gives, defaulted, list_of, number_member, optional, required_as, text_at, text_member};
 
 use crate::fields::required_member;
 use crate::item::Item;
 use crate::refusal::LineError;
 use cm_plain::Str;
+use listed::Listed;
 use serde_json::Value;
 use std::alloc::Global;
 
@@ -41,6 +42,18 @@ pub fn optional<T: Item>(alloc: Global, name: &str, value: &Value) -> Result<Opt
         Some(member) => Ok(Some(T::read(alloc, name, member)?)),
         None => Ok(None),
     }
+}
+
+/// The list that the member of this name is, or the empty one where there is no such member. `Err`: it is none, or the first
+/// item that is none; or out of memory.
+pub fn list_or_empty<T: Item>(
+    alloc: Global,
+    name: &str,
+    value: &Value,
+) -> Result<Listed<T>, LineError>
+    ensures { Gives (λ x. x) result (defaulted name.now (list_of T.item_of) [] (view value.now)) }
+{
+    defaulted(alloc, name, value, Listed::empty(alloc))
 }
 
 /// The text that the member of this name is, which has to be there. `Err`: it is missing or no text, or out of memory.

@@ -5,7 +5,7 @@ ghost use Rattle.script.specs.Command.{notes_of, flags_of, spec_of, update_of};
 use crate::command::Command;
 use crate::fields::{members, only_fields};
 use crate::item::{Item, list};
-use crate::member::{defaulted, text_if_there};
+use crate::member::{defaulted, list_or_empty, text_if_there};
 use crate::refusal::LineError;
 use crate::selection_reading::given_selection;
 use cm_plain::{Plain, Str};
@@ -22,7 +22,7 @@ pub fn read_notes(
 ) -> Result<(Listed<Annotation>, Option<Str>), LineError>
     ensures { Gives (λ x. x) result (notes_of (view value.now)) }
 {
-    let annotations = defaulted(alloc, "annotations", value, Listed::empty(alloc))?;
+    let annotations = list_or_empty(alloc, "annotations", value)?;
     let event = text_if_there(alloc, "userEvent", value)?;
     Ok((annotations, event))
 }
@@ -54,7 +54,7 @@ impl Item for Spec<Plain> {
     #[tactic(auto, unfolding(crate::specs::Command::spec_of))]
     fn read(alloc: Global, name: &str, value: &Value) -> Result<Spec<Plain>, LineError> {
         let members = members(alloc, name, value)?;
-        let changes = defaulted(alloc, "changes", value, Listed::empty(alloc))?;
+        let changes = list_or_empty(alloc, "changes", value)?;
         let selection = given_selection(alloc, value)?;
         let (annotations, user_event) = read_notes(alloc, value)?;
         let (sequential, filter) = read_flags(alloc, value)?;
