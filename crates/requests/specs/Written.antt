@@ -45,5 +45,5 @@ ranges_of name d = do
 -- a value: an object is a set of decorations, anything else plain data
 unfoldable pub written_of : List ℕ → Data → Result Written Refusal
 written_of name d =
-    if is_some (as_object d) then ranges_of name d >>= λ ranges. Ok (Ranges ranges)
+    if is_some (as_object d) then ranges_of name d >>= (λ ranges. Ok (Ranges ranges))
     else (value_at name d >>= λ plain. Ok (Plain plain))

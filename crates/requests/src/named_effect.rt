@@ -57,9 +57,12 @@ fn read_reconfigure(alloc: Global, name: &str, value: &Value) -> Result<NamedEff
     ensures { Gives (λ x. x) result (reconfigure_of name.now (view value.now)) }
 {
     let members = members(alloc, name, value)?;
-    let NewContent { compartment, to } = required(alloc, "reconfigure", value)?;
+    let content: NewContent = required(alloc, "reconfigure", value)?;
     only_fields(alloc, &["reconfigure"], members)?;
-    Ok(NamedEffect::Reconfigure { compartment, to })
+    Ok(NamedEffect::Reconfigure {
+        compartment: content.compartment,
+        to: content.to,
+    })
 }
 
 #[tactic(auto, unfolding(crate::specs::Effects::root_of))]
