@@ -1,4 +1,0 @@
-pub mod Each
-pub mod Prefixes
-pub mod Settling
-pub mod Entries

@@ -1,5 +1,0 @@
-pub mod Names
-pub mod Sets
-pub mod RegistryRefusals
-pub mod Declaring
-pub mod Predeclared
