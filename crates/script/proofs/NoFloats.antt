@@ -3,19 +3,21 @@ use Rattle.std.proofs.Common.{◌≡◌, ℕ, List, [], ◌∷◌, false, ◌||�
 use Rattle.serde_json.specs.Data.{object, array, string, member, no_members}
 use Rattle.serde_json.specs.View.{items_of}
 use Rattle.serde_json.specs.Written.{has_float, items_have_float}
-use Rattle.std.specs.Prelude.{codes}
+use Rattle.std.specs.Prelude.{codes, pos, negsuc}
 use Rattle.change_desc.specs.declared.section.Section.{Section}
 use Rattle.change_desc.specs.declared.section.Section.TheVariants.{Keep, Replace}
 use Rattle.selection.specs.declared.range.Range.{Range}
 use Rattle.script.specs.declared.mapped.MappedPlace.{MappedPlace}
 use Rattle.script.specs.declared.mapped.MappedPlace.TheVariants.{NotAsked, Deleted, At}
+use Rattle.script.specs.declared.declaration_refusal.DeclarationRefusal.{DeclarationRefusal}
+use Rattle.script.specs.declared.declaration_refusal.DeclarationRefusal.TheVariants.{Reversed, NotSorted, EmptyMark, NotEmpty, BadReplace, BadSide, NotLineStart, UnknownRule, StaticFacet, WrongShape, BadInverse, InverseTaken, TooMany}
 use Rattle.script.specs.declared.refusal.Refusal.{Refusal}
-use Rattle.script.specs.declared.refusal.Refusal.TheVariants.{LineTooLong, NotUtf8, NotJson, NotCommand, BadValue, UnknownName, NameTaken, NoSession, BadRange, LengthMismatch, TooLong, NoRanges, BadMain, SelectionOutside, UnknownEffect, UnknownCompartment, Stale, Ahead}
+use Rattle.script.specs.declared.refusal.Refusal.TheVariants.{LineTooLong, NotUtf8, NotJson, NotCommand, BadValue, UnknownName, NameTaken, NoSession, BadRange, LengthMismatch, TooLong, NoRanges, BadMain, SelectionOutside, UnknownEffect, UnknownCompartment, Declaration, Stale, Ahead}
 use Rattle.script.specs.declared.reply.Answer.{Answer}
 use Rattle.script.specs.declared.reply.Answer.TheVariants.{Length, Text, Selection, Mapped, Version, Message, Client, Authority}
 use Rattle.script.specs.declared.reply.Reply.{Reply}
 use Rattle.script.specs.declared.reply.Reply.TheVariants.{Ok, No}
-use Rattle.script.specs.Replies.{section_data, range_data, with_place, refusal_data, answer_data, reply_data}
+use Rattle.script.specs.Replies.{section_data, range_data, with_place, declaration_data, refusal_data, answer_data, reply_data}
 
 sections_have_none : (sections : List (Section (List ℕ))) → items_have_float (items_of (map section_data sections)) ≡ false
 sections_have_none [] = refl
@@ -31,6 +33,22 @@ mapped_has_none : (place : MappedPlace) (sections : List (Section (List ℕ))) (
 mapped_has_none NotAsked sections text = ap (λ b. b || false) (sections_have_none sections)
 mapped_has_none Deleted sections text = ap (λ b. b || false) (sections_have_none sections)
 mapped_has_none (At n) sections text = ap (λ b. b || false) (sections_have_none sections)
+
+declaration_has_none : (refusal : DeclarationRefusal) → has_float (declaration_data refusal) ≡ false
+declaration_has_none (Reversed index) = refl
+declaration_has_none (NotSorted index) = refl
+declaration_has_none EmptyMark = refl
+declaration_has_none NotEmpty = refl
+declaration_has_none BadReplace = refl
+declaration_has_none (BadSide (pos n)) = refl
+declaration_has_none (BadSide (negsuc n)) = refl
+declaration_has_none (NotLineStart place) = refl
+declaration_has_none (UnknownRule sort n) = refl
+declaration_has_none (StaticFacet facet) = refl
+declaration_has_none (WrongShape id) = refl
+declaration_has_none (BadInverse effect back) = refl
+declaration_has_none (InverseTaken effect) = refl
+declaration_has_none (TooMany kind) = refl
 
 refusal_has_none : (refusal : Refusal) → has_float (refusal_data refusal) ≡ false
 refusal_has_none LineTooLong = refl
@@ -49,6 +67,7 @@ refusal_has_none (BadMain main count) = refl
 refusal_has_none (SelectionOutside at len) = refl
 refusal_has_none (UnknownEffect id) = refl
 refusal_has_none (UnknownCompartment id) = refl
+refusal_has_none (Declaration refusal) = declaration_has_none refusal
 refusal_has_none (Stale version) = refl
 refusal_has_none (Ahead from version) = refl
 

@@ -1,5 +1,5 @@
 -- The commands of `replay`, each of a name and an argument.
-use Rattle.std.specs.Prelude.{ℕ, List, [], ◌∷◌, Option, Result, Ok, Err, Bool, true, false, if◌then◌else◌, codes, pos, option_map}
+use Rattle.std.specs.Prelude.{ℕ, List, [], ◌∷◌, Option, Result, Ok, Err, Bool, true, false, if◌then◌else◌, codes, pos, option_map, ⊤}
 use Rattle.std.specs.Str.{chars, bytes_eq}
 use Rattle.serde_json.specs.Data.{Data}
 use Rattle.cm_plain.specs.declared.plain.Plain.{Plain}
@@ -15,11 +15,12 @@ use Rattle.script.specs.declared.refusal.Refusal.{Refusal}
 use Rattle.script.specs.declared.refusal.Refusal.TheVariants.{NotCommand}
 use Rattle.script.specs.declared.map_request.MapSets.{MapSets}
 use Rattle.script.specs.declared.map_request.MapPlace.{MapPlace}
+use Rattle.script.specs.declared.map_request.MapParts.{MapParts}
 use Rattle.script.specs.declared.map_request.MapOp.{MapOp}
 use Rattle.script.specs.declared.command.Command.{Command}
 use Rattle.script.specs.declared.command.Command.TheVariants.{Start, Update, Text, Selection, Map}
-use Rattle.script.specs.Reading.{◌>>=◌, required, defaulted, optional, text_at, number_at, side_at, flag_at, item_at, no_item_at, members_at, only, list_of, number_member, text_member}
-use Rattle.script.specs.Values.{value_member}
+use Rattle.script.specs.Reading.{◌>>=◌, required_as, defaulted, optional, text_at, number_at, side_at, flag_at, item_at, no_item_at, members_at, only, list_of, number_member, text_member}
+use Rattle.script.specs.Values.{value_at}
 use Rattle.script.specs.Words.{op_at, mode_at}
 
 -- an item of a list of changes, {from, to (default from), insert (default "")}, whose text is cut at its line breaks
@@ -72,7 +73,7 @@ unfoldable pub annotation_of : List ℕ → Data → Result Annotation Refusal
 annotation_of name d = do
   members ← members_at name d
   kind ← text_member (codes "type") d
-  value ← value_member (codes "value") d
+  value ← required_as (codes "value") value_at d
   known ← only (codes "type" ∷ codes "value" ∷ []) members
   Ok (record { kind = kind; value = value })
 
@@ -114,27 +115,23 @@ start_of d = do
   known ← only (codes "doc" ∷ codes "selection" ∷ codes "main" ∷ []) members
   Ok (Start (record { doc = doc; selection = selection }))
 
+-- the argument of a command of this name that has no field: {}
+unfoldable pub no_fields_of : List ℕ → Data → Result ⊤ Refusal
+no_fields_of name d = members_at name d >>= only []
+
 -- `text`: {}
 unfoldable pub text_of : Data → Result Command Refusal
-text_of d = do
-  members ← members_at (codes "text") d
-  known ← only [] members
-  Ok Text
+text_of d = no_fields_of (codes "text") d >>= λ known. Ok Text
 
 -- `selection`: {}
 unfoldable pub selection_of : Data → Result Command Refusal
-selection_of d = do
-  members ← members_at (codes "selection") d
-  known ← only [] members
-  Ok Selection
+selection_of d = no_fields_of (codes "selection") d >>= λ known. Ok Selection
 
 -- the first fields of `map`: {doc, a, b (default [])}
 unfoldable pub map_sets_of : Data → Result MapSets Refusal
 map_sets_of d = do
-  text ← required (codes "doc") d
-  doc ← text_at (codes "doc") text
-  list ← required (codes "a") d
-  a ← list_of change_of (codes "a") list
+  doc ← text_member (codes "doc") d
+  a ← required_as (codes "a") (list_of change_of) d
   b ← defaulted (codes "b") (list_of change_of) [] d
   Ok (record { doc = doc; a = a; b = b })
 
@@ -149,20 +146,23 @@ map_place_of d = do
 -- the fields of `map` between these: {op, protect (default [])}
 unfoldable pub map_op_of : Data → Result (MapOp × List (ℕ × ℕ)) Refusal
 map_op_of d = do
-  word ← required (codes "op") d
-  op ← op_at (codes "op") word
+  op ← required_as (codes "op") op_at d
   protect ← defaulted (codes "protect") (list_of range_of) [] d
   Ok (op, protect)
 
--- `map`: {doc, a, b, op, protect, pos, side, mode}
-unfoldable pub map_of : Data → Result Command Refusal
-map_of d = do
+-- what `map` asks for: {doc, a, b, op, protect, pos, side, mode}
+unfoldable pub map_request_of : Data → Result MapParts Refusal
+map_request_of d = do
   members ← members_at (codes "map") d
   sets ← map_sets_of d
   how ← map_op_of d
   place ← map_place_of d
   known ← only (codes "doc" ∷ codes "a" ∷ codes "b" ∷ codes "op" ∷ codes "protect" ∷ codes "pos" ∷ codes "side" ∷ codes "mode" ∷ []) members
-  Ok (Map (record { sets = sets; op = how.0; protect = how.1; place = place }))
+  Ok (record { sets = sets; op = how.0; protect = how.1; place = place })
+
+-- `map`
+unfoldable pub map_of : Data → Result Command Refusal
+map_of d = map_request_of d >>= λ parts. Ok (Map parts)
 
 -- the command of this name with this argument
 unfoldable pub command_named : List ℕ → Data → Result Command Refusal

@@ -40,6 +40,10 @@ or_bad name (Some x) = Ok x
 unfoldable pub required : List ℕ → Data → Result Data Refusal
 required name d = or_bad name (get name d)
 
+-- a member that has to be there, as `read` reads it
+abbrev pub required_as : {A : Type 0} → List ℕ → (List ℕ → Data → Result A Refusal) → Data → Result A Refusal
+required_as name read d = required name d >>= read name
+
 -- what is there, as `read` reads it, or the default
 abbrev pub read_or : {A : Type 0} → (Data → Result A Refusal) → A → Option Data → Result A Refusal
 read_or read otherwise None = Ok otherwise
@@ -69,11 +73,11 @@ fits_i32 n = if int_le (negsuc 2147483647) n && int_le n (pos 2147483647) then S
 
 -- a member that has to be there and a text
 unfoldable pub text_member : List ℕ → Data → Result (List ℕ) Refusal
-text_member name d = required name d >>= text_at name
+text_member name d = required_as name text_at d
 
 -- a member that has to be there and a whole number that fits 32 bits
 unfoldable pub number_member : List ℕ → Data → Result ℕ Refusal
-number_member name d = required name d >>= number_at name
+number_member name d = required_as name number_at d
 
 -- a whole number with a sign that fits 32 bits
 unfoldable pub side_at : List ℕ → Data → Result ℤ Refusal

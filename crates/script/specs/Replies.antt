@@ -1,6 +1,7 @@
 -- What is written in reply to a line: {"ok": the answer} or {"no": the refusal}, as compact JSON and a line feed.
 use Rattle.std.specs.Prelude.{ℕ, List, [], ◌∷◌, ◌++◌, map, codes, encode_utf8_all}
 use Rattle.serde_json.specs.Data.{Data, null, number, unsigned, string, array, object, Items, no_items, item, Members, no_members, member}
+use Rattle.serde_json.specs.Find.{of_integer}
 use Rattle.serde_json.specs.View.{items_of}
 use Rattle.serde_json.specs.Written.{compact_text}
 use Rattle.change_desc.specs.declared.section.Section.{Section}
@@ -10,8 +11,10 @@ use Rattle.selection.specs.declared.range.Range.{Range}
 use Rattle.script.specs.declared.mapped.MappedPlace.{MappedPlace}
 use Rattle.script.specs.declared.mapped.MappedPlace.TheVariants.{NotAsked, Deleted, At}
 use Rattle.script.specs.declared.mapped.MappedParts.{MappedParts}
+use Rattle.script.specs.declared.declaration_refusal.DeclarationRefusal.{DeclarationRefusal}
+use Rattle.script.specs.declared.declaration_refusal.DeclarationRefusal.TheVariants.{Reversed, NotSorted, EmptyMark, NotEmpty, BadReplace, BadSide, NotLineStart, UnknownRule, StaticFacet, WrongShape, BadInverse, InverseTaken, TooMany}
 use Rattle.script.specs.declared.refusal.Refusal.{Refusal}
-use Rattle.script.specs.declared.refusal.Refusal.TheVariants.{LineTooLong, NotUtf8, NotJson, NotCommand, BadValue, UnknownName, NameTaken, NoSession, BadRange, LengthMismatch, TooLong, NoRanges, BadMain, SelectionOutside, UnknownEffect, UnknownCompartment, Stale, Ahead}
+use Rattle.script.specs.declared.refusal.Refusal.TheVariants.{LineTooLong, NotUtf8, NotJson, NotCommand, BadValue, UnknownName, NameTaken, NoSession, BadRange, LengthMismatch, TooLong, NoRanges, BadMain, SelectionOutside, UnknownEffect, UnknownCompartment, Declaration, Stale, Ahead}
 use Rattle.script.specs.declared.reply.Answer.{Answer}
 use Rattle.script.specs.declared.reply.Answer.TheVariants.{Length, Text, Selection, Mapped, Version, Message, Client, Authority}
 use Rattle.script.specs.declared.reply.Reply.{Reply}
@@ -28,6 +31,26 @@ single name d = object (member name d no_members)
 -- an object of the code and these members
 abbrev pub coded : List ℕ → Members → Data
 coded code ms = object (member (codes "code") (string code) ms)
+
+-- a member that is a text
+abbrev pub written : List ℕ → List ℕ → Members → Members
+written name text ms = member name (string (encode_utf8_all text)) ms
+
+-- a refusal of a declaration: its code and its values by name, in byte order of the names
+abbrev pub declaration_data : DeclarationRefusal → Data
+declaration_data (Reversed index) = coded (codes "Reversed") (member (codes "index") (whole index) no_members)
+declaration_data (NotSorted index) = coded (codes "NotSorted") (member (codes "index") (whole index) no_members)
+declaration_data EmptyMark = coded (codes "EmptyMark") no_members
+declaration_data NotEmpty = coded (codes "NotEmpty") no_members
+declaration_data BadReplace = coded (codes "BadReplace") no_members
+declaration_data (BadSide side) = coded (codes "BadSide") (member (codes "side") (number (of_integer side)) no_members)
+declaration_data (NotLineStart place) = coded (codes "NotLineStart") (member (codes "pos") (whole place) no_members)
+declaration_data (UnknownRule sort n) = coded (codes "UnknownRule") (member (codes "number") (whole n) (written (codes "sort") sort no_members))
+declaration_data (StaticFacet facet) = coded (codes "StaticFacet") (written (codes "facet") facet no_members)
+declaration_data (WrongShape id) = coded (codes "WrongShape") (written (codes "id") id no_members)
+declaration_data (BadInverse effect back) = object (written (codes "back") back (member (codes "code") (string (codes "BadInverse")) (written (codes "effect") effect no_members)))
+declaration_data (InverseTaken effect) = coded (codes "InverseTaken") (written (codes "effect") effect no_members)
+declaration_data (TooMany kind) = coded (codes "TooMany") (written (codes "kind") kind no_members)
 
 -- a refusal: its code and its values by name, in byte order of the names
 abbrev pub refusal_data : Refusal → Data
@@ -48,6 +71,7 @@ refusal_data (BadMain main count) = coded (codes "BadMain") (member (codes "coun
 refusal_data (SelectionOutside at len) = coded (codes "SelectionOutside") (member (codes "len") (whole len) (member (codes "pos") (whole at) no_members))
 refusal_data (UnknownEffect id) = coded (codes "UnknownEffect") (member (codes "id") (whole id) no_members)
 refusal_data (UnknownCompartment id) = coded (codes "UnknownCompartment") (member (codes "id") (whole id) no_members)
+refusal_data (Declaration refusal) = declaration_data refusal
 refusal_data (Stale version) = coded (codes "Stale") (member (codes "version") (whole version) no_members)
 refusal_data (Ahead from version) = coded (codes "Ahead") (member (codes "from") (whole from) (member (codes "version") (whole version) no_members))
 

@@ -8,7 +8,7 @@ use Rattle.cm_plain.specs.Datum as plain
 use Rattle.cm_plain.specs.declared.plain.Plain.{Plain}
 use Rattle.cm_plain.specs.declared.plain.Plain.TheVariants.{Unit as Nothing, Bool as Truth, Int, Text, List as Values}
 use Rattle.script.specs.declared.refusal.Refusal.{Refusal}
-use Rattle.script.specs.Reading.{or_bad, required, ◌>>=◌}
+use Rattle.script.specs.Reading.{or_bad}
 
 -- a list, unless it is deeper than a value may be
 abbrev pub unless_deep : plain.Data → Option plain.Datum
@@ -45,7 +45,3 @@ plain_of (plain.list ds) = Values (plain.items_of ds)
 -- a value
 unfoldable pub value_at : List ℕ → Data → Result Plain Refusal
 value_at name d = or_bad name (option_map plain_of (value_of d))
-
--- a member that has to be there and such a value
-unfoldable pub value_member : List ℕ → Data → Result Plain Refusal
-value_member name d = required name d >>= value_at name

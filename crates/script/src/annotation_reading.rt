@@ -1,9 +1,9 @@
 ghost use Rattle.script.specs.Command.{annotation_of};
 
-use crate::fields::{members, only_fields, text_member};
+use crate::fields::{members, only_fields};
 use crate::item::Item;
+use crate::member::{required, text_member};
 use crate::refusal::LineError;
-use crate::value_reading::value_member;
 use serde_json::Value;
 use std::alloc::Global;
 use transaction::Annotation;
@@ -15,7 +15,7 @@ impl Item for Annotation {
     fn read(alloc: Global, name: &str, object: &Value) -> Result<Annotation, LineError> {
         let members = members(alloc, name, object)?;
         let kind = text_member(alloc, "type", object)?;
-        let value = value_member(alloc, "value", object)?;
+        let value = required(alloc, "value", object)?;
         only_fields(alloc, &["type", "value"], members)?;
         Ok(Annotation { kind, value })
     }

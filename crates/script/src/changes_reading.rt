@@ -1,11 +1,9 @@
 ghost use Rattle.serde_json.specs.View.{view};
 ghost use Rattle.script.specs.Command.{change_of, range_of};
 
-use crate::fields::{
-    members, no_item, number_member, only_fields, position, position_or, required_item,
-    text_or_empty,
-};
+use crate::fields::{members, no_item, only_fields, position, required_item};
 use crate::item::Item;
+use crate::member::{defaulted, number_member, text_or_empty};
 use crate::refusal::LineError;
 use crate::texts::inserted_text;
 use change_set::Change;
@@ -19,7 +17,7 @@ impl Item for Change {
     fn read(alloc: Global, name: &str, value: &Value) -> Result<Change, LineError> {
         let members = members(alloc, name, value)?;
         let from = number_member(alloc, "from", value)?;
-        let to = position_or(alloc, "to", value, from)?;
+        let to = defaulted(alloc, "to", value, from)?;
         let insert = text_or_empty(alloc, "insert", value)?;
         only_fields(alloc, &["from", "to", "insert"], members)?;
         Ok(Change::Span {

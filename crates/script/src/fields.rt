@@ -1,8 +1,8 @@
-ghost use Rattle.std.specs.Prelude.{◌≡◌, [], map};
+ghost use Rattle.std.specs.Prelude.{◌≡◌, map};
 ghost use Rattle.std.specs.List.{list_any};
 ghost use Rattle.std.specs.Str.{bytes_eq};
 ghost use Rattle.serde_json.specs.View.{view, items_view, members_view};
-ghost use Rattle.script.specs.Reading.{Gives, bad, number_member, text_member, required, optional, text_at, number_at, side_at, items_at, item_at, no_item_at, members_at, only, defaulted, flag_at};
+ghost use Rattle.script.specs.Reading.{Gives, bad, required, text_at, number_at, side_at, items_at, item_at, no_item_at, members_at, only, flag_at};
 
 use crate::refusal::{LineError, Refusal};
 use cm_plain::Str;
@@ -51,25 +51,6 @@ pub(crate) fn position(alloc: Global, name: &str, value: &Value) -> Result<u32, 
         Some(n) if n < 1 << 32 => Ok(n as u32),
         _ => refused(alloc, name),
     }
-}
-
-/// The text that the member of this name is, which has to be there. `Err`: it is missing or no text, or out of memory.
-#[tactic(auto, unfolding(crate::specs::Reading::text_member))]
-pub fn text_member(alloc: Global, name: &str, value: &Value) -> Result<Str, LineError>
-    ensures { Gives (λ x. x) result (text_member name.now (view value.now)) }
-{
-    let member = required_member(alloc, name, value)?;
-    text(alloc, name, member)
-}
-
-/// The whole number from 0 that the member of this name is, which has to be there. `Err`: it is missing, or no number that fits
-/// 32 bits, or out of memory.
-#[tactic(auto, unfolding(crate::specs::Reading::number_member))]
-pub fn number_member(alloc: Global, name: &str, value: &Value) -> Result<u32, LineError>
-    ensures { Gives (λ x. x) result (number_member name.now (view value.now)) }
-{
-    let member = required_member(alloc, name, value)?;
-    position(alloc, name, member)
 }
 
 #[tactic(auto, unfolding(crate::specs::Reading::items_at))]
@@ -130,31 +111,6 @@ pub(crate) fn is_among(name: &str, names: &[&str]) -> bool
     false
 }
 
-pub(crate) fn position_or(
-    alloc: Global,
-    name: &str,
-    value: &Value,
-    otherwise: u32,
-) -> Result<u32, LineError>
-    ensures { Gives (λ x. x) result (defaulted name.now number_at otherwise (view value.now)) }
-{
-    match value.get(name) {
-        Some(member) => position(alloc, name, member),
-        None => Ok(otherwise),
-    }
-}
-
-/// The text that the member of this name is, or the empty one where there is no such member. `Err`: it is no text, or out of
-/// memory.
-pub fn text_or_empty(alloc: Global, name: &str, value: &Value) -> Result<Str, LineError>
-    ensures { Gives (λ x. x) result (defaulted name.now text_at [] (view value.now)) }
-{
-    match value.get(name) {
-        Some(member) => text(alloc, name, member),
-        None => Ok(Str::empty(alloc)),
-    }
-}
-
 /// The item of a list at this place.
 #[tactic(auto, unfolding(crate::specs::Reading::item_at))]
 pub(crate) fn required_item<'v>(
@@ -197,43 +153,6 @@ pub(crate) fn side(alloc: Global, name: &str, value: &Value) -> Result<i32, Line
     }
 }
 
-pub(crate) fn side_or(
-    alloc: Global,
-    name: &str,
-    value: &Value,
-    otherwise: i32,
-) -> Result<i32, LineError>
-    ensures { Gives (λ x. x) result (defaulted name.now side_at otherwise (view value.now)) }
-{
-    match value.get(name) {
-        Some(member) => side(alloc, name, member),
-        None => Ok(otherwise),
-    }
-}
-
-pub(crate) fn position_if_there(
-    alloc: Global,
-    name: &str,
-    value: &Value,
-) -> Result<Option<u32>, LineError>
-    ensures { Gives (λ x. x) result (optional name.now number_at (view value.now)) }
-{
-    match value.get(name) {
-        Some(member) => Ok(Some(position(alloc, name, member)?)),
-        None => Ok(None),
-    }
-}
-
-/// The text that the member of this name is, if there is such a member. `Err`: it is no text, or out of memory.
-pub fn text_if_there(alloc: Global, name: &str, value: &Value) -> Result<Option<Str>, LineError>
-    ensures { Gives (λ x. x) result (optional name.now text_at (view value.now)) }
-{
-    match value.get(name) {
-        Some(member) => Ok(Some(text(alloc, name, member)?)),
-        None => Ok(None),
-    }
-}
-
 #[tactic(auto, unfolding(crate::specs::Reading::flag_at))]
 pub(crate) fn flag(alloc: Global, name: &str, value: &Value) -> Result<bool, LineError>
     ensures { Gives (λ x. x) result (flag_at name.now (view value.now)) }
@@ -241,19 +160,5 @@ pub(crate) fn flag(alloc: Global, name: &str, value: &Value) -> Result<bool, Lin
     match value.as_bool() {
         Some(flag) => Ok(flag),
         None => refused(alloc, name),
-    }
-}
-
-pub(crate) fn flag_or(
-    alloc: Global,
-    name: &str,
-    value: &Value,
-    otherwise: bool,
-) -> Result<bool, LineError>
-    ensures { Gives (λ x. x) result (defaulted name.now flag_at otherwise (view value.now)) }
-{
-    match value.get(name) {
-        Some(member) => flag(alloc, name, member),
-        None => Ok(otherwise),
     }
 }

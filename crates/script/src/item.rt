@@ -1,24 +1,50 @@
-ghost use Rattle.std.specs.Prelude.{ℕ, List, [], Result};
+ghost use Rattle.std.specs.Prelude.{ℕ, List, Result};
 ghost use Rattle.serde_json.specs.Data.{Data};
 ghost use Rattle.serde_json.specs.View.{view, items_view};
 ghost use Rattle.script.specs.declared.refusal.Refusal.{Refusal};
-ghost use Rattle.script.specs.Reading.{Gives, each, list_of, defaulted, optional, text_at};
+ghost use Rattle.script.specs.Reading.{Gives, each, flag_at, list_of, number_at, side_at, text_at};
 
-use crate::fields::{items, text};
+use crate::fields::{flag, items, position, side, text};
 use crate::refusal::LineError;
 use cm_plain::Str;
 use listed::Listed;
 use serde_json::Value;
 use std::alloc::Global;
 
-/// What the items of a list are read as.
+/// What a member of an object, or an item of a list, is read as.
 pub trait Item: Drop {
-    /// What is read from a value, where the member that has the list is of this name.
+    /// What is read from a value, where the member that it is, or that has the list, is of this name.
     ghost item_of: { List ℕ → Data → Result Self Refusal };
 
     /// The item that a value is. `Err`: it is none, or out of memory.
     fn read(alloc: Global, name: &str, value: &Value) -> Result<Self, LineError>
         ensures { Gives (λ x. x) result (item_of name.now (view value.now)) };
+}
+
+/// A whole number from 0 that fits 32 bits.
+impl Item for u32 {
+    ghost item_of = { number_at };
+
+    fn read(alloc: Global, name: &str, value: &Value) -> Result<u32, LineError> {
+        position(alloc, name, value)
+    }
+}
+
+/// A whole number with a sign that fits 32 bits.
+impl Item for i32 {
+    ghost item_of = { side_at };
+
+    fn read(alloc: Global, name: &str, value: &Value) -> Result<i32, LineError> {
+        side(alloc, name, value)
+    }
+}
+
+impl Item for bool {
+    ghost item_of = { flag_at };
+
+    fn read(alloc: Global, name: &str, value: &Value) -> Result<bool, LineError> {
+        flag(alloc, name, value)
+    }
 }
 
 impl Item for Str {
@@ -49,30 +75,10 @@ pub fn list<T: Item>(alloc: Global, name: &str, value: &Value) -> Result<Listed<
     Ok(Listed::new(list))
 }
 
-/// The list that the member of this name is, or the empty one where there is no such member.
-pub(crate) fn list_or_empty<T: Item>(
-    alloc: Global,
-    name: &str,
-    value: &Value,
-) -> Result<Listed<T>, LineError>
-    ensures { Gives (λ x. x) result (defaulted name.now (list_of T.item_of) [] (view value.now)) }
-{
-    match value.get(name) {
-        Some(member) => list(alloc, name, member),
-        None => Ok(Listed::empty(alloc)),
-    }
-}
+impl<T: Item> Item for Listed<T> {
+    ghost item_of = { list_of T.item_of };
 
-/// The list that the member of this name is, if there is such a member.
-pub(crate) fn list_if_there<T: Item>(
-    alloc: Global,
-    name: &str,
-    value: &Value,
-) -> Result<Option<Listed<T>>, LineError>
-    ensures { Gives (λ x. x) result (optional name.now (list_of T.item_of) (view value.now)) }
-{
-    match value.get(name) {
-        Some(member) => Ok(Some(list(alloc, name, member)?)),
-        None => Ok(None),
+    fn read(alloc: Global, name: &str, value: &Value) -> Result<Listed<T>, LineError> {
+        list(alloc, name, value)
     }
 }

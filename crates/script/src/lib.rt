@@ -8,12 +8,15 @@
 mod annotation_reading;
 mod changes_reading;
 mod command;
+mod declaration_refusal;
+mod declaration_reply;
 mod fields;
 mod item;
 mod lines;
 mod map_reading;
 mod map_request;
 mod mapped;
+mod member;
 mod reading;
 mod refusal;
 mod reply;
@@ -24,15 +27,21 @@ mod texts;
 mod value_reading;
 
 pub use command::{Command, Commands};
-pub use fields::{
-    members, number_member, only_fields, refused, required_member, text_if_there, text_member,
-    text_or_empty,
-};
+pub use declaration_refusal::DeclarationRefusal;
+pub use fields::{members, only_fields, refused, required_member};
 pub use item::{Item, list};
 pub use lines::{command_of, line_command};
+pub use map_reading::read_map_request;
 pub use map_request::{MapOp, MapParts, MapPlace, MapRequest, MapSets};
 pub use mapped::{Mapped, MappedParts, MappedPlace};
+pub use member::{
+    defaulted, list_or_empty, number_member, optional, required, text_if_there, text_member,
+    text_or_empty,
+};
+pub use reading::no_fields;
 pub use refusal::{LineError, Refusal};
 pub use reply::{Answer, Reply, reply_text};
+pub use selection_reading::{first_selection, given_selection};
+pub use spec_reading::{read_flags, read_notes};
 pub use start_request::StartRequest;
 pub use texts::cut_text;

@@ -1,16 +1,14 @@
 ghost use Rattle.std.specs.Prelude.{◌≡◌};
 ghost use Rattle.serde_json.specs.View.{view};
-ghost use Rattle.change_desc.specs.declared.map_mode.MapMode.TheVariants.{Simple};
-ghost use Rattle.script.specs.Reading.{Gives, defaulted};
+ghost use Rattle.script.specs.Reading.{Gives};
 ghost use Rattle.script.specs.Words.{op_named, mode_named, op_at, mode_at};
-ghost use Rattle.script.specs.Command.{map_sets_of, map_op_of, map_place_of, map_of};
+ghost use Rattle.script.specs.Command.{map_sets_of, map_op_of, map_place_of, map_request_of, map_of};
 
 use crate::command::Command;
-use crate::fields::{
-    members, only_fields, position_if_there, refused, required_member, side_or, text,
-};
-use crate::item::{list, list_or_empty};
+use crate::fields::{members, only_fields, refused};
+use crate::item::Item;
 use crate::map_request::{MapOp, MapParts, MapPlace, MapRequest, MapSets};
+use crate::member::{defaulted, list_or_empty, optional, required, text_member};
 use crate::refusal::LineError;
 use change_desc::MapMode;
 use listed::Listed;
@@ -53,32 +51,27 @@ fn mode_named(word: &str) -> Option<MapMode>
     }
 }
 
-#[tactic(auto, unfolding(crate::specs::Words::op_at))]
-fn op(alloc: Global, name: &str, value: &Value) -> Result<MapOp, LineError>
-    ensures { Gives (λ x. x) result (op_at name.now (view value.now)) }
-{
-    match value.as_str().and_then(op_named) {
-        Some(op) => Ok(op),
-        None => refused(alloc, name),
+impl Item for MapOp {
+    ghost item_of = { op_at };
+
+    #[tactic(auto, unfolding(crate::specs::Words::op_at))]
+    fn read(alloc: Global, name: &str, value: &Value) -> Result<MapOp, LineError> {
+        match value.as_str().and_then(op_named) {
+            Some(op) => Ok(op),
+            None => refused(alloc, name),
+        }
     }
 }
 
-#[tactic(auto, unfolding(crate::specs::Words::mode_at))]
-fn mode(alloc: Global, name: &str, value: &Value) -> Result<MapMode, LineError>
-    ensures { Gives (λ x. x) result (mode_at name.now (view value.now)) }
-{
-    match value.as_str().and_then(mode_named) {
-        Some(mode) => Ok(mode),
-        None => refused(alloc, name),
-    }
-}
+impl Item for MapMode {
+    ghost item_of = { mode_at };
 
-fn mode_or_simple(alloc: Global, name: &str, value: &Value) -> Result<MapMode, LineError>
-    ensures { Gives (λ x. x) result (defaulted name.now mode_at Simple (view value.now)) }
-{
-    match value.get(name) {
-        Some(member) => mode(alloc, name, member),
-        None => Ok(MapMode::Simple),
+    #[tactic(auto, unfolding(crate::specs::Words::mode_at))]
+    fn read(alloc: Global, name: &str, value: &Value) -> Result<MapMode, LineError> {
+        match value.as_str().and_then(mode_named) {
+            Some(mode) => Ok(mode),
+            None => refused(alloc, name),
+        }
     }
 }
 
@@ -86,8 +79,8 @@ fn mode_or_simple(alloc: Global, name: &str, value: &Value) -> Result<MapMode, L
 fn read_sets(alloc: Global, value: &Value) -> Result<MapSets, LineError>
     ensures { Gives (λ x. x) result (map_sets_of (view value.now)) }
 {
-    let doc = text(alloc, "doc", required_member(alloc, "doc", value)?)?;
-    let a = list(alloc, "a", required_member(alloc, "a", value)?)?;
+    let doc = text_member(alloc, "doc", value)?;
+    let a = required(alloc, "a", value)?;
     let b = list_or_empty(alloc, "b", value)?;
     Ok(MapSets { doc, a, b })
 }
@@ -96,9 +89,9 @@ fn read_sets(alloc: Global, value: &Value) -> Result<MapSets, LineError>
 fn read_place(alloc: Global, value: &Value) -> Result<MapPlace, LineError>
     ensures { Gives (λ x. x) result (map_place_of (view value.now)) }
 {
-    let pos = position_if_there(alloc, "pos", value)?;
-    let side = side_or(alloc, "side", value, 1)?;
-    let mode = mode_or_simple(alloc, "mode", value)?;
+    let pos = optional(alloc, "pos", value)?;
+    let side = defaulted(alloc, "side", value, 1)?;
+    let mode = defaulted(alloc, "mode", value, MapMode::Simple)?;
     Ok(MapPlace { pos, side, mode })
 }
 
@@ -106,15 +99,15 @@ fn read_place(alloc: Global, value: &Value) -> Result<MapPlace, LineError>
 fn read_op(alloc: Global, value: &Value) -> Result<(MapOp, Listed<(u32, u32)>), LineError>
     ensures { Gives (λ x. x) result (map_op_of (view value.now)) }
 {
-    let op = op(alloc, "op", required_member(alloc, "op", value)?)?;
+    let op = required(alloc, "op", value)?;
     let protect = list_or_empty(alloc, "protect", value)?;
     Ok((op, protect))
 }
 
-/// The command `map` with this argument.
-#[tactic(auto, unfolding(crate::specs::Command::map_of))]
-pub(crate) fn read_map(alloc: Global, value: &Value) -> Result<Command, LineError>
-    ensures { Gives (λ x. x) result (map_of (view value.now)) }
+/// What the command `map` with this argument asks for.
+#[tactic(auto, unfolding(crate::specs::Command::map_request_of))]
+pub fn read_map_request(alloc: Global, value: &Value) -> Result<MapRequest, LineError>
+    ensures { Gives (λ x. x) result (map_request_of (view value.now)) }
 {
     let members = members(alloc, "map", value)?;
     let sets = read_sets(alloc, value)?;
@@ -131,5 +124,14 @@ pub(crate) fn read_map(alloc: Global, value: &Value) -> Result<Command, LineErro
         protect,
         place,
     };
-    Ok(Command::Map(MapRequest::new(alloc, parts)?))
+    Ok(MapRequest::new(alloc, parts)?)
+}
+
+/// The command `map` with this argument.
+#[tactic(auto, unfolding(crate::specs::Command::map_of))]
+pub(crate) fn read_map(alloc: Global, value: &Value) -> Result<Command, LineError>
+    ensures { Gives (λ x. x) result (map_of (view value.now)) }
+{
+    let request = read_map_request(alloc, value)?;
+    Ok(Command::Map(request))
 }

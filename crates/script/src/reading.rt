@@ -1,10 +1,11 @@
 ghost use Rattle.serde_json.specs.View.{view};
 ghost use Rattle.script.specs.Reading.{Gives};
-ghost use Rattle.script.specs.Command.{start_of, text_of, selection_of, command_named};
+ghost use Rattle.script.specs.Command.{no_fields_of, start_of, text_of, selection_of, command_named};
 
 use crate::command::{Command, Commands};
-use crate::fields::{members, only_fields, text_or_empty};
+use crate::fields::{members, only_fields};
 use crate::map_reading::read_map;
+use crate::member::text_or_empty;
 use crate::refusal::{LineError, Refusal};
 use crate::selection_reading::first_selection;
 use crate::spec_reading::read_update;
@@ -24,12 +25,21 @@ fn read_start(alloc: Global, value: &Value) -> Result<Command, LineError>
     Ok(Command::Start(StartRequest { doc, selection }))
 }
 
+/// The argument of the command of this name has no member. `Err`: it is no object, or its first member is refused; or out of
+/// memory.
+#[tactic(auto, unfolding(crate::specs::Command::no_fields_of))]
+pub fn no_fields(alloc: Global, name: &str, value: &Value) -> Result<(), LineError>
+    ensures { Gives (λ x. x) result (no_fields_of name.now (view value.now)) }
+{
+    let members = members(alloc, name, value)?;
+    only_fields(alloc, &[], members)
+}
+
 #[tactic(auto, unfolding(crate::specs::Command::text_of))]
 fn read_text(alloc: Global, value: &Value) -> Result<Command, LineError>
     ensures { Gives (λ x. x) result (text_of (view value.now)) }
 {
-    let members = members(alloc, "text", value)?;
-    only_fields(alloc, &[], members)?;
+    no_fields(alloc, "text", value)?;
     Ok(Command::Text)
 }
 
@@ -37,8 +47,7 @@ fn read_text(alloc: Global, value: &Value) -> Result<Command, LineError>
 fn read_selection(alloc: Global, value: &Value) -> Result<Command, LineError>
     ensures { Gives (λ x. x) result (selection_of (view value.now)) }
 {
-    let members = members(alloc, "selection", value)?;
-    only_fields(alloc, &[], members)?;
+    no_fields(alloc, "selection", value)?;
     Ok(Command::Selection)
 }
 

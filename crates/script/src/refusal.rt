@@ -1,6 +1,7 @@
 ghost use Rattle.std.specs.Prelude.{◌≡◌};
 ghost use Rattle.script.specs.declared.refusal.LineError.TheVariants.{NoMemory};
 
+use crate::declaration_refusal::DeclarationRefusal;
 use change_set::ChangesError;
 use cm_plain::Str;
 use selection::SelectionError;
@@ -76,6 +77,8 @@ pub enum Refusal {
     UnknownCompartment {
         id: u32,
     },
+    /// A declaration whose names are as they should be is refused.
+    Declaration(DeclarationRefusal),
     /// A client's updates were sent at another version than the authority's, which is given.
     Stale {
         version: u32,

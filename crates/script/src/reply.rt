@@ -4,6 +4,7 @@ ghost use Rattle.serde_json.specs.View.{view};
 ghost use Rattle.script.specs.declared.refusal.Refusal.TheVariants.{BadRange, LengthMismatch, TooLong, BadMain, SelectionOutside, Stale, Ahead};
 ghost use Rattle.script.specs.Replies.{client_data, authority_data, coded, whole, refusal_data, section_data, range_data, selection_data, mapped_data, answer_data, reply_data, reply_text};
 
+use crate::declaration_reply::declaration_value;
 use crate::mapped::{Mapped, MappedParts, MappedPlace};
 use crate::refusal::Refusal;
 use change_desc::Section;
@@ -51,7 +52,7 @@ pub enum Reply {
     No(Refusal),
 }
 
-fn code_value(alloc: Global, code: &str) -> Result<Value, AllocError>
+pub(crate) fn code_value(alloc: Global, code: &str) -> Result<Value, AllocError>
     ensures { IfOk result (λ v. view v ≡ coded code.now no_members) }
 {
     json!(in alloc; {"code": code})
@@ -150,6 +151,7 @@ fn refusal_value(alloc: Global, refusal: &Refusal) -> Result<Value, AllocError>
         Refusal::SelectionOutside { pos, len } => outside_value(alloc, *pos, *len),
         Refusal::UnknownEffect { id } => unknown_value(alloc, "UnknownEffect", *id),
         Refusal::UnknownCompartment { id } => unknown_value(alloc, "UnknownCompartment", *id),
+        Refusal::Declaration(refusal) => declaration_value(alloc, refusal),
         Refusal::Stale { version } => stale_value(alloc, *version),
         Refusal::Ahead { from, version } => ahead_value(alloc, *from, *version),
     }

@@ -3,8 +3,8 @@ ghost use Rattle.serde_json.specs.View.{view};
 ghost use Rattle.script.specs.Reading.{Gives, defaulted, list_of};
 ghost use Rattle.script.specs.Command.{selected_of, main_of, first_selection_of, given_selection_of};
 
-use crate::fields::position_or;
-use crate::item::{Item, list, list_if_there};
+use crate::item::{Item, list};
+use crate::member::{defaulted, optional};
 use crate::refusal::LineError;
 use listed::Listed;
 use selection::Range;
@@ -39,13 +39,13 @@ fn selected_or_start(alloc: Global, name: &str, value: &Value) -> Result<Listed<
 fn main_range(alloc: Global, value: &Value) -> Result<usize, LineError>
     ensures { Gives (λ x. x) result (main_of (view value.now)) }
 {
-    let main = position_or(alloc, "main", value, 0)?;
+    let main: u32 = defaulted(alloc, "main", value, 0)?;
     Ok(main as usize)
 }
 
 /// The selection of a new document.
 #[tactic(auto, unfolding(crate::specs::Command::first_selection_of))]
-pub(crate) fn first_selection(alloc: Global, value: &Value) -> Result<SelectionSpec, LineError>
+pub fn first_selection(alloc: Global, value: &Value) -> Result<SelectionSpec, LineError>
     ensures { Gives (λ x. x) result (first_selection_of (view value.now)) }
 {
     let ranges = selected_or_start(alloc, "selection", value)?;
@@ -55,13 +55,10 @@ pub(crate) fn first_selection(alloc: Global, value: &Value) -> Result<SelectionS
 
 /// The selection of a spec, if it has one. The main range is looked at also where there is no selection.
 #[tactic(auto, unfolding(crate::specs::Command::given_selection_of))]
-pub(crate) fn given_selection(
-    alloc: Global,
-    value: &Value,
-) -> Result<Option<SelectionSpec>, LineError>
+pub fn given_selection(alloc: Global, value: &Value) -> Result<Option<SelectionSpec>, LineError>
     ensures { Gives (λ x. x) result (given_selection_of (view value.now)) }
 {
-    let ranges = list_if_there(alloc, "selection", value)?;
+    let ranges = optional(alloc, "selection", value)?;
     let main = main_range(alloc, value)?;
     match ranges {
         Some(ranges) => Ok(Some(SelectionSpec { ranges, main })),

@@ -3,8 +3,9 @@ ghost use Rattle.script.specs.Reading.{Gives};
 ghost use Rattle.script.specs.Command.{notes_of, flags_of, spec_of, update_of};
 
 use crate::command::Command;
-use crate::fields::{flag_or, members, only_fields, text_if_there};
-use crate::item::{Item, list, list_or_empty};
+use crate::fields::{members, only_fields};
+use crate::item::{Item, list};
+use crate::member::{defaulted, list_or_empty, text_if_there};
 use crate::refusal::LineError;
 use crate::selection_reading::given_selection;
 use cm_plain::{Plain, Str};
@@ -13,8 +14,12 @@ use serde_json::Value;
 use std::alloc::Global;
 use transaction::{Annotation, Spec};
 
+/// What a spec says beside its changes, its selection and its effects: its annotations, and its user event, if it has one.
 #[tactic(auto, unfolding(crate::specs::Command::notes_of))]
-fn read_notes(alloc: Global, value: &Value) -> Result<(Listed<Annotation>, Option<Str>), LineError>
+pub fn read_notes(
+    alloc: Global,
+    value: &Value,
+) -> Result<(Listed<Annotation>, Option<Str>), LineError>
     ensures { Gives (λ x. x) result (notes_of (view value.now)) }
 {
     let annotations = list_or_empty(alloc, "annotations", value)?;
@@ -22,12 +27,13 @@ fn read_notes(alloc: Global, value: &Value) -> Result<(Listed<Annotation>, Optio
     Ok((annotations, event))
 }
 
+/// How a spec is taken: whether it is sequential, and whether filters are asked.
 #[tactic(auto, unfolding(crate::specs::Command::flags_of))]
-fn read_flags(alloc: Global, value: &Value) -> Result<(bool, bool), LineError>
+pub fn read_flags(alloc: Global, value: &Value) -> Result<(bool, bool), LineError>
     ensures { Gives (λ x. x) result (flags_of (view value.now)) }
 {
-    let sequential = flag_or(alloc, "sequential", value, false)?;
-    let filter = flag_or(alloc, "filter", value, true)?;
+    let sequential = defaulted(alloc, "sequential", value, false)?;
+    let filter = defaulted(alloc, "filter", value, true)?;
     Ok((sequential, filter))
 }
 

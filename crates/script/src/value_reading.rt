@@ -2,9 +2,10 @@ ghost use Rattle.std.specs.Prelude.{◌≡◌, IfOk, option_map, option_and_then
 ghost use Rattle.serde_json.specs.View.{view, items_view};
 ghost use Rattle.cm_plain.specs.Plain.{datum_of};
 ghost use Rattle.script.specs.Reading.{Gives};
-ghost use Rattle.script.specs.Values.{value_of, values_of, unless_deep, value_at, value_member};
+ghost use Rattle.script.specs.Values.{value_of, values_of, unless_deep, value_at};
 
-use crate::fields::{refused, required_member};
+use crate::fields::refused;
+use crate::item::Item;
 use crate::refusal::LineError;
 use cm_plain::{Plain, Str};
 use serde_json::Value;
@@ -40,9 +41,9 @@ fn list_of(alloc: Global, items: &[Value]) -> Result<Option<Plain>, AllocError>
     Ok(Plain::list(values).ok())
 }
 
-/// The value that the member of this name is.
+/// The plain data that the member of this name is.
 #[tactic(auto, unfolding(crate::specs::Values::value_at))]
-pub(crate) fn value(alloc: Global, name: &str, value: &Value) -> Result<Plain, LineError>
+fn plain(alloc: Global, name: &str, value: &Value) -> Result<Plain, LineError>
     ensures { Gives (λ x. x) result (value_at name.now (view value.now)) }
 {
     match value_of(alloc, value)? {
@@ -51,11 +52,11 @@ pub(crate) fn value(alloc: Global, name: &str, value: &Value) -> Result<Plain, L
     }
 }
 
-/// The value that the member of this name is, which has to be there.
-#[tactic(auto, unfolding(crate::specs::Values::value_member))]
-pub(crate) fn value_member(alloc: Global, name: &str, object: &Value) -> Result<Plain, LineError>
-    ensures { Gives (λ x. x) result (value_member name.now (view object.now)) }
-{
-    let member = required_member(alloc, name, object)?;
-    value(alloc, name, member)
+/// Plain data: nothing, a truth value, a whole number, a text or a list of plain data.
+impl Item for Plain {
+    ghost item_of = { value_at };
+
+    fn read(alloc: Global, name: &str, value: &Value) -> Result<Plain, LineError> {
+        plain(alloc, name, value)
+    }
 }

@@ -3,7 +3,7 @@ use Rattle.cm_plain.specs.Plain.{datum_of}
 use Rattle.script.specs.Reading.{or_bad}
 use Rattle.script.specs.Values.{plain_of, value_at}
 use Rattle.script.proofs.Plains.{plain_again}
-use Rattle.script.proofs.value_reading.value.Goals as goal
+use Rattle.script.proofs.value_reading.plain.Goals as goal
 
 pub returns-in-Some : goal.returns-in-Some
 unfolding value_at

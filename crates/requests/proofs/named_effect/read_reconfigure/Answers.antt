@@ -1,0 +1,15 @@
+use Rattle.std.proofs.Common.{refl}
+use Rattle.std.proofs.lemmas.Result.{err_from_is_err_and}
+use Rattle.requests.specs.Effects.{reconfigure_of}
+use Rattle.script.proofs.Bind.{fails_through}
+use Rattle.requests.proofs.named_effect.read_reconfigure.Goals as goal
+
+pub returns-in_err-only_fields : goal.returns-in_err-only_fields
+unfolding reconfigure_of
+returns-in_err-only_fields c =
+    let p = err_from_is_err_and c.from_residual-in_err-only_fields.result c.from_residual-in_err-only_fields.ensures.1 in
+    rw (p.1, p.2, c.in_ok-members.ensures, c.in_ok-content.ensures) (fails_through c.in_err-only_fields.field-0.0 _ _ c.in_err-only_fields.ensures)
+
+pub returns : goal.returns
+unfolding reconfigure_of
+returns c = rw (c.in_ok-members.ensures, c.in_ok-content.ensures, c.in_ok-only_fields.ensures) refl

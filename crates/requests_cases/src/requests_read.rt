@@ -1,0 +1,260 @@
+// Lines that are read.
+use crate::reading::{are, declaration, is, request};
+use ext_tree::Precedence;
+use requests::{Declaration, NamedEffect, Request, Written};
+use std::alloc::{AllocError, Global};
+use std::test::Fail;
+
+/// The command of a line that is read.
+fn command_of(alloc: Global, line: &str) -> &'static str {
+    match request(alloc, line) {
+        None => "none",
+        Some(Request::Declare(declaration)) => declaring(&declaration),
+        Some(Request::Start(_)) => "start",
+        Some(Request::Update(_)) => "update",
+        Some(Request::Text) => "text",
+        Some(Request::Selection) => "selection",
+        Some(Request::Get(_)) => "get",
+        Some(Request::Map(_)) => "map",
+    }
+}
+
+/// The command of a declaration.
+fn declaring(declaration: &Declaration) -> &'static str {
+    match declaration {
+        Declaration::Effect(_) => "effect",
+        Declaration::Inverse(_) => "inverse",
+        Declaration::Facet(_) => "facet",
+        Declaration::Field(_) => "field",
+        Declaration::Compartment(_) => "compartment",
+        Declaration::Input(_) => "input",
+        Declaration::Compute(_) => "compute",
+        Declaration::From(_) => "from",
+        Declaration::Init(_) => "init",
+        Declaration::Group(_) => "group",
+        Declaration::Prec(_) => "prec",
+        Declaration::Slot(_) => "slot",
+    }
+}
+
+#[test]
+fn each_command_is_read(rt: HostRuntime) {
+    let cases = [
+        ("{\"effect\":{\"name\":\"e\"}}", "effect"),
+        ("{\"inverse\":{\"effect\":\"a\",\"back\":\"b\"}}", "inverse"),
+        ("{\"facet\":{\"name\":\"f\",\"combine\":1}}", "facet"),
+        (
+            "{\"field\":{\"name\":\"n\",\"create\":3,\"update\":2,\"reads\":[\"doc\"]}}",
+            "field",
+        ),
+        ("{\"compartment\":{\"name\":\"c\"}}", "compartment"),
+        (
+            "{\"input\":{\"name\":\"i\",\"facet\":\"f\",\"value\":null}}",
+            "input",
+        ),
+        (
+            "{\"compute\":{\"name\":\"i\",\"facet\":\"f\",\"rule\":1,\"deps\":[]}}",
+            "compute",
+        ),
+        (
+            "{\"from\":{\"name\":\"i\",\"facet\":\"f\",\"field\":\"n\"}}",
+            "from",
+        ),
+        (
+            "{\"init\":{\"name\":\"i\",\"field\":\"n\",\"value\":{\"ranges\":[]}}}",
+            "init",
+        ),
+        ("{\"group\":{\"name\":\"g\",\"of\":[\"i\",\"i\"]}}", "group"),
+        (
+            "{\"prec\":{\"name\":\"p\",\"at\":\"highest\",\"of\":\"i\"}}",
+            "prec",
+        ),
+        (
+            "{\"slot\":{\"name\":\"s\",\"compartment\":\"c\",\"of\":\"i\"}}",
+            "slot",
+        ),
+        ("{\"start\":{}}", "start"),
+        ("{\"update\":[]}", "update"),
+        ("{\"text\":{}}", "text"),
+        ("{\"selection\":{}}", "selection"),
+        ("{\"get\":{\"name\":\"f\"}}", "get"),
+        ("{\"map\":{\"doc\":\"\",\"a\":[],\"op\":\"of\"}}", "map"),
+    ];
+    for (line, command) in cases {
+        assert!(rt; command_of(rt.alloc(), line) == command, "{line}");
+    }
+}
+
+/// Whether a line declares a facet f of combiner 5 with these comparers, that is static or not, with so many nodes.
+fn is_facet(
+    alloc: Global,
+    line: &str,
+    compare_input: u32,
+    compare: u32,
+    is_static: bool,
+    enables: &[&str],
+) -> Result<bool, AllocError> {
+    match declaration(alloc, line) {
+        Some(Declaration::Facet(facet)) => Ok(
+            is(&facet.name, "f")?
+                && facet.def.combine == 5
+                && facet.def.compare_input == compare_input
+                && facet.def.compare == compare
+                && facet.def.is_static == is_static
+                && are(facet.enables.as_slice(), enables)?,
+        ),
+        _ => Ok(false),
+    }
+}
+
+#[test]
+fn facets_have_defaults(rt: HostRuntime) -> Result<(), Fail> {
+    let bare = "{\"facet\":{\"name\":\"f\",\"combine\":5}}";
+    assert!(rt; is_facet(rt.alloc(), bare, 1, 1, false, &[])?);
+    let whole =
+        "{\"facet\":{\"enables\":[\"a\",\"b\"],\"static\":true,\"compare\":3,\"compareInput\":2,\"combine\":5,\"name\":\"f\"}}";
+    assert!(rt; is_facet(rt.alloc(), whole, 2, 3, true, &["a", "b"])?);
+    Ok(())
+}
+
+/// Whether a line declares a field n of creator 3 and updater 2 with this comparer, these reads and effects, and one input of
+/// facet f by this rule, if there is one.
+fn is_field(
+    alloc: Global,
+    line: &str,
+    compare: u32,
+    reads: &[&str],
+    listens: &[&str],
+    rule: Option<u32>,
+) -> Result<bool, AllocError> {
+    let Some(Declaration::Field(field)) = declaration(alloc, line) else {
+        return Ok(false);
+    };
+    let provides = match (field.names.provides.as_slice(), rule) {
+        ([], None) => true,
+        ([provided], Some(rule)) => provided.rule == rule && is(&provided.facet, "f")?,
+        _ => false,
+    };
+    let rules = field.rules;
+    Ok(
+        provides
+            && rules.create == 3
+            && rules.update == 2
+            && rules.compare == compare
+            && are(field.names.reads.as_slice(), reads)?
+            && are(field.names.listens.as_slice(), listens)?,
+    )
+}
+
+#[test]
+fn fields_have_defaults(rt: HostRuntime) -> Result<(), Fail> {
+    let bare = "{\"field\":{\"name\":\"n\",\"create\":3,\"update\":2}}";
+    assert!(rt; is_field(rt.alloc(), bare, 1, &[], &[], None)?);
+    let whole =
+        "{\"field\":{\"name\":\"n\",\"create\":3,\"update\":2,\"compare\":3,\"reads\":[\"doc\"],\"listens\":[\"e\"],\"provides\":[{\"facet\":\"f\"}]}}";
+    assert!(rt; is_field(rt.alloc(), whole, 3, &["doc"], &["e"], Some(4))?);
+    let ruled =
+        "{\"field\":{\"name\":\"n\",\"create\":3,\"update\":2,\"provides\":[{\"facet\":\"f\",\"rule\":6}]}}";
+    assert!(rt; is_field(rt.alloc(), ruled, 1, &[], &[], Some(6))?);
+    Ok(())
+}
+
+/// The precedence of a wrapper p of a that a line declares, from 0 for the highest.
+fn level_of(alloc: Global, at: &str) -> Result<Option<usize>, AllocError> {
+    let line = format!(in alloc; "{{\"prec\":{{\"name\":\"p\",\"at\":\"{at}\",\"of\":\"a\"}}}}")?;
+    match declaration(alloc, line.as_str()) {
+        Some(Declaration::Prec(prec)) if is(&prec.of, "a")? => Ok(Some(prec.at.level())),
+        _ => Ok(None),
+    }
+}
+
+#[test]
+fn precedences_are_read(rt: HostRuntime) -> Result<(), Fail> {
+    let cases = ["highest", "high", "default", "low", "lowest"];
+    for level in 0..cases.len() {
+        assert!(rt; level_of(rt.alloc(), cases[level])? == Some(level));
+    }
+    assert!(rt; Precedence::Lowest.level() == 4);
+    Ok(())
+}
+
+/// The form of the only effect of an update, and the names that stand in it.
+fn is_effect(alloc: Global, effect: &str, form: &str, names: &[&str]) -> Result<bool, AllocError> {
+    let line = format!(in alloc; "{{\"update\":[{{\"effects\":[{effect}]}}]}}")?;
+    let Some(Request::Update(specs)) = request(alloc, line.as_str()) else {
+        return Ok(false);
+    };
+    match specs.as_slice() {
+        [spec] => match spec.effects.as_slice() {
+            [effect] => has_form(effect, form, names),
+            _ => Ok(false),
+        },
+        _ => Ok(false),
+    }
+}
+
+/// Whether an effect is of this form and has these names.
+fn has_form(effect: &NamedEffect, form: &str, names: &[&str]) -> Result<bool, AllocError> {
+    match (effect, names) {
+        (NamedEffect::Kind { effect, value }, [kind]) => {
+            Ok(form == "effect" && is(effect, kind)? && value.depth() == 1)
+        }
+        (NamedEffect::Reconfigure { compartment, to }, [first, second]) => {
+            Ok(form == "reconfigure" && is(compartment, first)? && is(to, second)?)
+        }
+        (NamedEffect::Root(nodes), _) => Ok(form == "root" && are(nodes.as_slice(), names)?),
+        (NamedEffect::Append(node), [first]) => Ok(form == "append" && is(node, first)?),
+        _ => Ok(false),
+    }
+}
+
+#[test]
+fn effects_of_all_forms_are_read(rt: HostRuntime) -> Result<(), Fail> {
+    let kind = "{\"effect\":\"e\",\"value\":1}";
+    assert!(rt; is_effect(rt.alloc(), kind, "effect", &["e"])?);
+    let reconfigure = "{\"reconfigure\":{\"compartment\":\"c\",\"to\":\"n\"}}";
+    assert!(rt; is_effect(rt.alloc(), reconfigure, "reconfigure", &["c", "n"])?);
+    let root = "{\"root\":[\"a\",\"b\",\"a\"]}";
+    assert!(rt; is_effect(rt.alloc(), root, "root", &["a", "b", "a"])?);
+    assert!(rt; is_effect(rt.alloc(), "{\"append\":\"n\"}", "append", &["n"])?);
+    Ok(())
+}
+
+/// Whether `start` with these extensions reads them.
+fn starts_with(alloc: Global, line: &str, extensions: &[&str]) -> Result<bool, AllocError> {
+    match request(alloc, line) {
+        Some(Request::Start(state)) => are(state.extensions.as_slice(), extensions),
+        _ => Ok(false),
+    }
+}
+
+#[test]
+fn extensions_are_read(rt: HostRuntime) -> Result<(), Fail> {
+    assert!(rt; starts_with(rt.alloc(), "{\"start\":{\"doc\":\"a\"}}", &[])?);
+    let line = "{\"start\":{\"doc\":\"ab\",\"selection\":[[1,2]],\"extensions\":[\"b\",\"a\"]}}";
+    assert!(rt; starts_with(rt.alloc(), line, &["b", "a"])?);
+    Ok(())
+}
+
+/// How deep the plain value is that a line gives an input, and none where it gives ranges.
+fn depth_of(alloc: Global, value: &str) -> Result<Option<u64>, AllocError> {
+    let line = format!(in alloc;
+        "{{\"input\":{{\"name\":\"n\",\"facet\":\"f\",\"value\":{value}}}}}"
+    )?;
+    match declaration(alloc, line.as_str()) {
+        Some(Declaration::Input(input)) => match &input.value {
+            Written::Plain(plain) => Ok(Some(plain.depth() as u64)),
+            Written::Ranges(_) => Ok(None),
+        },
+        _ => Ok(None),
+    }
+}
+
+#[test]
+fn plain_values_are_read(rt: HostRuntime) -> Result<(), Fail> {
+    assert!(rt; depth_of(rt.alloc(), "null")? == Some(1));
+    assert!(rt; depth_of(rt.alloc(), "[[0],2]")? == Some(3));
+    assert!(rt; depth_of(rt.alloc(), "[[[[[[[[[[[[[[[[]]]]]]]]]]]]]]]]")? == Some(16));
+    assert!(rt; depth_of(rt.alloc(), "{\"ranges\":[]}")? == None);
+    Ok(())
+}
