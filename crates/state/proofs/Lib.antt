@@ -1,4 +1,5 @@
 pub mod Several
+pub mod Shapes
 pub mod KnownMaps
 pub mod Ends
 pub mod Steps

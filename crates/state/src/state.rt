@@ -1,9 +1,10 @@
 // The state of an editor.
-ghost use Rattle.std.specs.Prelude.{◌≡◌, ◌≢◌, ◌<◌, ◌≤◌, ◌+◌, IfErr, IfOk, Some, is_some, length, option_copied};
+ghost use Rattle.std.specs.Prelude.{◌≡◌, ◌≢◌, ◌<◌, ◌≤◌, ◌+◌, IfErr, IfOk, Some, is_some, length, option_copied, slice_get};
+ghost use Rattle.std.specs.Option.{unwrap_or};
 ghost use Rattle.values.specs.Whole.{IsWhole};
 ghost use Rattle.registry.specs.Predeclared.{predeclared};
 ghost use Rattle.facet_slots.specs.Agreement.{IsGrown};
-ghost use Rattle.facet_slots.specs.Lawful.{FieldsFit, IsLawful};
+ghost use Rattle.facet_slots.specs.Lawful.{FacetsFit, FieldsFit, IsLawful};
 ghost use Rattle.facet_slots.specs.Resolving.{IsResolved};
 ghost use Rattle.facet_slots.specs.Scenes.{IsScene};
 ghost use Rattle.facet_slots.specs.Setups.{field_at};
@@ -18,7 +19,7 @@ use configuration::{Config, Vertex};
 use ext_tree::ExtId;
 use facet_slots::Slots;
 use line_tree::Text;
-use registry::Registry;
+use registry::{Lookup, Registry};
 use selection::Selection;
 use std::alloc::Global;
 use std::marker::Model;
@@ -173,7 +174,33 @@ impl<M: Meanings> State<M> {
         ensures predeclared { IsGrown (definitions predeclared) self.now.setup.defs }
         ensures is_scene { IsScene self.now.scene }
         ensures fields { FieldsFit M.rules self.now.setup (plain self.now).values }
+        ensures facets { FacetsFit M.rules self.now.setup (plain self.now).values }
     {
         self.slots.known();
+    }
+}
+
+impl<M: Meanings> Lookup for State<M> {
+    ghost use Rattle.configuration.specs.declared.vertex.Vertex.TheVariants.{Facet, Field};
+    ghost use Rattle.values.specs.Reading.{nothing};
+
+    ghost rules = { M.rules };
+
+    ghost facet_def = { λ s id. slice_get s.setup.defs.facets id };
+
+    ghost field_def = { λ s id. slice_get s.setup.defs.fields id };
+
+    ghost facet_value = { λ s id. unwrap_or ((plain s).values (Facet id)) nothing };
+
+    ghost field_value = { λ s id. (plain s).values (Field id) };
+
+    fn facet(&self, id: u32) -> &Val {
+        self.slots.known();
+        self.slots.value(id)
+    }
+
+    fn field(&self, id: u32) -> Option<&Val> {
+        self.slots.known();
+        self.slots.field(id)
     }
 }
