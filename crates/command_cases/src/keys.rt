@@ -1,3 +1,9 @@
+// Keys of facets and fields, and what they get.
+ghost use Rattle.std.specs.Prelude.{IfOk, Some, false};
+ghost use Rattle.registry.specs.Predeclared.{combined_by, history_def};
+ghost use Rattle.typed_keys.specs.Keys.{KnowsFacet, KnowsField};
+ghost use Rattle.values.specs.Shipped.{shipped};
+
 use crate::shelf::Shelf;
 use cm_plain::{Plain, Str};
 use decoration::{DecoSet, Layers};
@@ -53,35 +59,50 @@ fn has_field_key<T: Carried>(
     }
 }
 
+/// Whether a facet that is declared from the start has a key of these types.
+fn is_facet<I: Carried, O: Carried>(alloc: Global, facet: u32) -> Result<bool, AllocError> {
+    let registry = Registry::<Shipped>::new(alloc)?;
+    Ok(has_key::<I, O>(alloc, &registry, facet)? == Some(true))
+}
+
+/// Whether a facet that is declared from the start is refused as of another shape than these types.
+fn is_no_facet<I: Carried, O: Carried>(alloc: Global, facet: u32) -> Result<bool, AllocError> {
+    let registry = Registry::<Shipped>::new(alloc)?;
+    Ok(has_key::<I, O>(alloc, &registry, facet)? == Some(false))
+}
+
 #[test]
 fn a_facet_has_a_key_of_types_that_fit(rt: HostRuntime) -> Result<(), Fail> {
     let alloc = rt.alloc();
-    let registry = Registry::<Shipped>::new(alloc)?;
-    assert!(rt; has_key::<bool, bool>(alloc, &registry, READ_ONLY)? == Some(true));
-    assert!(rt; has_key::<bool, Plain>(alloc, &registry, READ_ONLY)? == Some(true));
-    assert!(rt; has_key::<Str, Plain>(alloc, &registry, FILTER_DATA)? == Some(true));
-    assert!(rt; has_key::<DecoSet, Layers>(alloc, &registry, DECORATIONS)? == Some(true));
+    assert!(rt; is_facet::<bool, bool>(alloc, READ_ONLY)?);
+    assert!(rt; is_facet::<bool, Plain>(alloc, READ_ONLY)?);
+    assert!(rt; is_facet::<Str, Plain>(alloc, FILTER_DATA)?);
+    assert!(rt; is_facet::<DecoSet, Layers>(alloc, DECORATIONS)?);
     Ok(())
 }
 
 #[test]
 fn a_facet_has_no_key_of_other_types(rt: HostRuntime) -> Result<(), Fail> {
     let alloc = rt.alloc();
-    let registry = Registry::<Shipped>::new(alloc)?;
-    assert!(rt; has_key::<Plain, bool>(alloc, &registry, READ_ONLY)? == Some(false));
-    assert!(rt; has_key::<bool, i64>(alloc, &registry, READ_ONLY)? == Some(false));
-    assert!(rt; has_key::<i64, i64>(alloc, &registry, TAB_SIZE)? == Some(false));
-    assert!(rt; has_key::<Str, Plain>(alloc, &registry, SAVE_SEPARATOR)? == Some(false));
+    assert!(rt; is_no_facet::<Plain, bool>(alloc, READ_ONLY)?);
+    assert!(rt; is_no_facet::<bool, i64>(alloc, READ_ONLY)?);
+    assert!(rt; is_no_facet::<i64, i64>(alloc, TAB_SIZE)?);
+    assert!(rt; is_no_facet::<Str, Plain>(alloc, SAVE_SEPARATOR)?);
     Ok(())
+}
+
+/// Whether the field of the history has a key of a type.
+fn is_history<T: Carried>(alloc: Global) -> Result<Option<bool>, AllocError> {
+    let registry = Registry::<Shipped>::new(alloc)?;
+    has_field_key::<T>(alloc, &registry, HISTORY)
 }
 
 #[test]
 fn a_field_has_a_key_of_a_type_that_fits(rt: HostRuntime) -> Result<(), Fail> {
     let alloc = rt.alloc();
-    let registry = Registry::<Shipped>::new(alloc)?;
-    assert!(rt; has_field_key::<History>(alloc, &registry, HISTORY)? == Some(true));
-    assert!(rt; has_field_key::<Plain>(alloc, &registry, HISTORY)? == Some(false));
-    assert!(rt; has_field_key::<Layers>(alloc, &registry, HISTORY)? == Some(false));
+    assert!(rt; is_history::<History>(alloc)? == Some(true));
+    assert!(rt; is_history::<Plain>(alloc)? == Some(false));
+    assert!(rt; is_history::<Layers>(alloc)? == Some(false));
     Ok(())
 }
 
@@ -130,37 +151,80 @@ fn what_is_carried_comes_back(rt: HostRuntime) -> Result<(), Fail> {
     Ok(())
 }
 
-/// The value of the facet `readOnly`, as a truth value.
-fn flag_in(alloc: Global, flag: bool) -> Result<bool, Fail> {
+/// The key of the facet `readOnly`.
+fn flag_key(alloc: Global) -> Result<FacetKey<bool, bool>, KeyError>
+    ensures { IfOk result (λ key. KnowsFacet shipped (Some (combined_by 13 false)) key) }
+{
     let registry = Registry::<Shipped>::new(alloc)?;
     let key = FacetKey::<bool, bool>::new(alloc, &registry, READ_ONLY)?;
+    Ok(key)
+}
+
+/// What that key gets.
+fn flag_by(alloc: Global, key: &FacetKey<bool, bool>, flag: bool) -> Result<bool, AllocError>
+    requires { KnowsFacet shipped (Some (combined_by 13 false)) key.now }
+{
     let shelf = Shelf {
         flag: Val::Plain(Plain::Bool(flag)),
         kept: None,
     };
-    Ok(key.get(alloc, &shelf)?)
+    key.get(alloc, &shelf)
 }
 
-/// Whether the field `history` is there.
-fn has_history(alloc: Global, kept: Option<History>) -> Result<bool, Fail> {
+/// The value of the facet `readOnly`, as a truth value.
+fn flag_in(alloc: Global, flag: bool) -> Result<bool, Fail> {
+    let key = flag_key(alloc)?;
+    Ok(flag_by(alloc, &key, flag)?)
+}
+
+/// The key of the field `history`.
+fn history_key(alloc: Global) -> Result<FieldKey<History>, KeyError>
+    ensures { IfOk result (λ key. KnowsField shipped (Some history_def) key) }
+{
     let registry = Registry::<Shipped>::new(alloc)?;
     let key = FieldKey::<History>::new(alloc, &registry, HISTORY)?;
-    let shelf = Shelf {
+    Ok(key)
+}
+
+/// A shelf with a history, or without one.
+fn shelf_with(kept: Option<History>) -> Shelf {
+    Shelf {
         flag: Val::Plain(Plain::Bool(false)),
         kept: match kept {
             Some(history) => Some(Val::History(history)),
             None => None,
         },
-    };
+    }
+}
+
+/// Whether that key gets a history.
+fn gets_history(
+    alloc: Global,
+    key: &FieldKey<History>,
+    kept: Option<History>,
+) -> Result<bool, AllocError>
+    requires { KnowsField shipped (Some history_def) key.now }
+{
+    let shelf = shelf_with(kept);
     let found = key.get(alloc, &shelf)?;
     Ok(found.is_some())
+}
+
+/// Whether the field `history` is there.
+fn has_history(alloc: Global, is_kept: bool) -> Result<bool, Fail> {
+    let key = history_key(alloc)?;
+    let kept = if is_kept {
+        Some(History::empty(alloc))
+    } else {
+        None
+    };
+    Ok(gets_history(alloc, &key, kept)?)
 }
 
 #[test]
 fn a_key_gets_the_value_that_is_there(rt: HostRuntime) -> Result<(), Fail> {
     let alloc = rt.alloc();
     assert!(rt; flag_in(alloc, true)? && !flag_in(alloc, false)?);
-    assert!(rt; has_history(alloc, Some(History::empty(alloc)))?);
-    assert!(rt; !has_history(alloc, None)?);
+    assert!(rt; has_history(alloc, true)? && !has_history(alloc, false)?);
     Ok(())
 }

@@ -2,13 +2,13 @@
 #![tactic(auto)]
 
 #[cfg(test)]
-mod commands;
-#[cfg(test)]
 mod keys;
 #[cfg(test)]
 mod moves;
 #[cfg(test)]
 mod player;
+#[cfg(test)]
+mod playing;
 #[cfg(test)]
 mod shelf;
 #[cfg(test)]

@@ -200,6 +200,32 @@ fn given(alloc: Global, spec: &Spec<Val>) -> Result<Option<Selection>, Fail> {
     }
 }
 
+/// A step of a history that a spec's changes make, without what the spec gives.
+fn changed(
+    alloc: Global,
+    player: &Player,
+    spec: &Spec<Val>,
+    changes: &ChangeSet,
+) -> Result<StepInput, AllocError> {
+    let changes = changes.try_copy()?;
+    let document = player.document.try_copy()?;
+    let selection = player.selection.try_copy()?;
+    Ok(StepInput {
+        changes,
+        effects: Listed::empty(alloc),
+        document,
+        selection,
+        given: None,
+        min_depth: 100,
+        delay: 500,
+        time: number(note(spec, "time")),
+        user_event: None,
+        add_to_history: truth(note(spec, "addToHistory")),
+        isolate: None,
+        from_history: number(note(spec, "fromHistory")),
+    })
+}
+
 /// The step of a history that a spec's changes and selection make.
 fn step_input(
     alloc: Global,
@@ -207,20 +233,10 @@ fn step_input(
     spec: &Spec<Val>,
     changes: &ChangeSet,
 ) -> Result<StepInput, Fail> {
-    Ok(StepInput {
-        changes: changes.try_copy()?,
-        effects: Listed::empty(alloc),
-        document: player.document.try_copy()?,
-        selection: player.selection.try_copy()?,
-        given: given(alloc, spec)?,
-        min_depth: 100,
-        delay: 500,
-        time: number(note(spec, "time")),
-        user_event: event_of(spec)?,
-        add_to_history: truth(note(spec, "addToHistory")),
-        isolate: None,
-        from_history: number(note(spec, "fromHistory")),
-    })
+    let mut input = changed(alloc, player, spec, changes)?;
+    input.given = given(alloc, spec)?;
+    input.user_event = event_of(spec)?;
+    Ok(input)
 }
 
 /// The selection after a spec.
@@ -252,6 +268,17 @@ fn history_after(history: &History, input: &StepInput) -> Result<History, Fail> 
     Ok(history.step(input)?)
 }
 
+/// The history after a spec.
+fn stepped(
+    alloc: Global,
+    player: &Player,
+    spec: &Spec<Val>,
+    changes: &ChangeSet,
+) -> Result<History, Fail> {
+    let input = step_input(alloc, player, spec, changes)?;
+    history_after(&player.history, &input)
+}
+
 fn applied(changes: &ChangeSet, document: &Text) -> Result<Text, Fail> {
     if changes.len() != document.len() {
         return Err("changes of the document".into());
@@ -259,16 +286,28 @@ fn applied(changes: &ChangeSet, document: &Text) -> Result<Text, Fail> {
     Ok(changes.apply(document)?)
 }
 
+/// The player after a spec and its changes.
+fn changed_by(
+    alloc: Global,
+    player: &Player,
+    spec: &Spec<Val>,
+    changes: &ChangeSet,
+) -> Result<Player, Fail> {
+    let history = stepped(alloc, player, spec, changes)?;
+    let selection = selection_after(alloc, player, spec, changes)?;
+    let document = applied(changes, &player.document)?;
+    Ok(Player {
+        document,
+        selection,
+        history,
+    })
+}
+
 /// The player after a spec.
 fn done(alloc: Global, player: &Player, spec: &Spec<Val>) -> Result<Player, Fail> {
     let len = player.document.len();
     let changes = ChangeSet::of(alloc, spec.changes.as_slice(), len, MAX_LEN)?;
-    let input = step_input(alloc, player, spec, &changes)?;
-    Ok(Player {
-        document: applied(&changes, &player.document)?,
-        selection: selection_after(alloc, player, spec, &changes)?,
-        history: history_after(&player.history, &input)?,
-    })
+    changed_by(alloc, player, spec, &changes)
 }
 
 /// The player after an act, if that does anything.

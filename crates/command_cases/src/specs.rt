@@ -50,29 +50,44 @@ fn specs_have_events_and_times(rt: HostRuntime) -> Result<(), Fail> {
     Ok(())
 }
 
-/// The ranges that an insertion leaves of a selection of two ranges in a document that may be shorter than they say.
+/// An empty document with a selection that may say more than it has.
+fn selecting(alloc: Global, ranges: &[Range]) -> Result<Player, Fail> {
+    let mut player = started(alloc, &[], (0, 0))?;
+    player.selection = Selection::create(alloc, ranges, 0)?;
+    Ok(player)
+}
+
+/// A document and a selection alone.
+fn bare(player: &Player) -> EditScene<'_> {
+    EditScene {
+        doc: &player.document,
+        selection: &player.selection,
+        read_only: false,
+        history: None,
+        time: None,
+    }
+}
+
+/// The head of the first of two ranges of a spec, and the anchor of the second.
+fn two_ranges(spec: &Spec<Val>) -> Option<(u32, u32)> {
+    match &spec.selection {
+        Some(given) => match given.ranges.as_slice() {
+            [first, second] => Some((first.head, second.anchor)),
+            _ => None,
+        },
+        None => None,
+    }
+}
+
+/// The ranges that an insertion leaves of a selection of two ranges in an empty document.
 fn left(
     alloc: Global,
     ranges: &[Range],
     characters: &'static [char],
 ) -> Result<Option<(u32, u32)>, Fail> {
-    let player = started(alloc, &[], (0, 0))?;
-    let selection = Selection::create(alloc, ranges, 0)?;
-    let scene = EditScene {
-        doc: &player.document,
-        selection: &selection,
-        read_only: false,
-        history: None,
-        time: None,
-    };
-    let Some(spec) = sent(alloc, &scene, Act::Insert(characters))? else {
-        return Ok(None);
-    };
-    match &spec.selection {
-        Some(given) => match given.ranges.as_slice() {
-            [first, second] => Ok(Some((first.head, second.anchor))),
-            _ => Ok(None),
-        },
+    let player = selecting(alloc, ranges)?;
+    match sent(alloc, &bare(&player), Act::Insert(characters))? {
+        Some(spec) => Ok(two_ranges(&spec)),
         None => Ok(None),
     }
 }

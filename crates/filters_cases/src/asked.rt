@@ -1,9 +1,15 @@
+// What filters and extenders of a kit of the shipped rules make of a draft.
+ghost use Rattle.std.specs.Prelude.{IfOk};
+ghost use Rattle.values.specs.Shipped.{shipped};
+ghost use Rattle.values.specs.Whole.{IsWhole};
+
 use crate::drafts::{Done, Edit};
 use crate::states::{Case, Rules, Want, comes};
 use line_tree::MAX_LEN;
-use shipped_rules::shipped_lists;
+use shipped_rules::{Shipped, shipped_lists};
+use std::alloc::Global;
 use std::test::*;
-use values::Kit;
+use values::{Gap, Kit};
 
 /// Rule numbers of change guards, transaction filters and extenders, with no `filterData`.
 fn rules(guards: &'static [i64], filters: &'static [i64], extenders: &'static [i64]) -> Rules {
@@ -153,10 +159,22 @@ const CD_AS_ZZ: &[Edit] = &[
     },
 ];
 
-/// A whole kit is asked each case.
-#[test]
-fn change_filters_decide_what_stays(rt: HostRuntime) -> Result<(), Fail> {
-    let kit = Kit::new(shipped_lists!(rt.alloc()))?;
+/// Whether what is wanted comes of each case.
+fn all_come(alloc: Global, kit: &Kit<Shipped>, cases: &[(Case, Want)]) -> Result<bool, Fail>
+    requires { IsWhole shipped kit.now }
+{
+    for (case, want) in cases {
+        if !comes(alloc, kit, *case, *want)? {
+            return Ok(false);
+        }
+    }
+    Ok(true)
+}
+
+/// Whether change filters decide what stays.
+fn change_filters_decide(alloc: Global, kit: &Kit<Shipped>) -> Result<bool, Fail>
+    requires { IsWhole shipped kit.now }
+{
     let cases = [
         // a deletion of which the first character is protected
         (
@@ -202,15 +220,13 @@ fn change_filters_decide_what_stays(rt: HostRuntime) -> Result<(), Fail> {
             noted("abc", &[(1, 2), (1, 99)]),
         ),
     ];
-    for (case, want) in cases {
-        assert!(rt; comes(rt.alloc(), &kit, case, want)?);
-    }
-    Ok(())
+    all_come(alloc, kit, &cases)
 }
 
-#[test]
-fn transaction_filters_are_asked_from_the_lowest_precedence(rt: HostRuntime) -> Result<(), Fail> {
-    let kit = Kit::new(shipped_lists!(rt.alloc()))?;
+/// Whether transaction filters are asked from the lowest precedence.
+fn filters_are_asked_in_order(alloc: Global, kit: &Kit<Shipped>) -> Result<bool, Fail>
+    requires { IsWhole shipped kit.now }
+{
     let cases = [
         (
             case("", edits(A), rules(&[], &[3], &[3])),
@@ -237,15 +253,13 @@ fn transaction_filters_are_asked_from_the_lowest_precedence(rt: HostRuntime) -> 
             noted("abc", &[(0, 3), (0, 3)]),
         ),
     ];
-    for (case, want) in cases {
-        assert!(rt; comes(rt.alloc(), &kit, case, want)?);
-    }
-    Ok(())
+    all_come(alloc, kit, &cases)
 }
 
-#[test]
-fn what_rules_answer_is_refused(rt: HostRuntime) -> Result<(), Fail> {
-    let kit = Kit::new(shipped_lists!(rt.alloc()))?;
+/// Whether what rules answer is refused where it is too long or names an unknown effect.
+fn answers_are_refused(alloc: Global, kit: &Kit<Shipped>) -> Result<bool, Fail>
+    requires { IsWhole shipped kit.now }
+{
     let cases = [
         // what stays of the changes leads to a longer document
         (
@@ -280,8 +294,26 @@ fn what_rules_answer_is_refused(rt: HostRuntime) -> Result<(), Fail> {
             Want::UnknownEffect(0),
         ),
     ];
-    for (case, want) in cases {
-        assert!(rt; comes(rt.alloc(), &kit, case, want)?);
+    all_come(alloc, kit, &cases)
+}
+
+/// Whether the kit is whole, and each table of cases comes of it.
+fn is_asked(alloc: Global, kit: Result<Kit<Shipped>, Gap>) -> Result<bool, Fail>
+    requires { IfOk kit (λ kit. IsWhole shipped kit) }
+{
+    match kit {
+        Ok(kit) => Ok(
+            change_filters_decide(alloc, &kit)?
+                && filters_are_asked_in_order(alloc, &kit)?
+                && answers_are_refused(alloc, &kit)?,
+        ),
+        Err(_) => Ok(false),
     }
+}
+
+#[test]
+fn a_whole_kit_is_asked(rt: HostRuntime) -> Result<(), Fail> {
+    let kit = Kit::new(shipped_lists!(rt.alloc()));
+    assert!(rt; is_asked(rt.alloc(), kit)?);
     Ok(())
 }

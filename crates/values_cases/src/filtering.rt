@@ -4,7 +4,7 @@ use crate::views::{IDLE, Note, TYPED, Typed, shown};
 use change_set::Change;
 use cm_plain::Plain;
 use shipped_rules::{extend, filter, guard};
-use std::alloc::Global;
+use std::alloc::{AllocError, Global};
 use std::test::*;
 use transaction::{Annotation, Effect, Spec};
 use values::{Extension, Filtering, Guarding, TrView, Val};
@@ -26,11 +26,23 @@ fn is_guarded(answer: &Guarding, want: Guarded<'_>) -> bool {
     }
 }
 
+/// Whether a guard answers this of a transaction.
+fn guards_by(
+    alloc: Global,
+    number: u32,
+    transaction: &TrView,
+    data: &Val,
+    want: Guarded<'_>,
+) -> Result<bool, AllocError> {
+    let answer = guard(alloc, number, transaction, data)?;
+    Ok(is_guarded(&answer, want))
+}
+
 /// Whether a guard answers this of a typed character.
 fn guards(alloc: Global, number: u32, data: Made<'_>, want: Guarded<'_>) -> Result<bool, Fail> {
     let transaction = shown(alloc, TYPED, Of(&[]), Note::None)?;
     let data = value_of(alloc, data)?;
-    Ok(is_guarded(&guard(alloc, number, &transaction, &data)?, want))
+    Ok(guards_by(alloc, number, &transaction, &data, want)?)
 }
 
 #[test]
@@ -104,10 +116,21 @@ fn seen(answer: &Filtering) -> Filtered {
     }
 }
 
+/// What a filter answers of a transaction.
+fn filters_by(
+    alloc: Global,
+    number: u32,
+    transaction: &TrView,
+    data: &Val,
+) -> Result<Filtered, AllocError> {
+    let answer = filter(alloc, number, transaction, data)?;
+    Ok(seen(&answer))
+}
+
 fn filters(alloc: Global, number: u32, typed: Typed<'_>, data: Made<'_>) -> Result<Filtered, Fail> {
     let transaction = shown(alloc, typed, Of(&[]), Note::None)?;
     let data = value_of(alloc, data)?;
-    Ok(seen(&filter(alloc, number, &transaction, &data)?))
+    Ok(filters_by(alloc, number, &transaction, &data)?)
 }
 
 #[test]

@@ -44,6 +44,11 @@ fn computers_of_values_answer_by_number(rt: HostRuntime) -> Result<(), Fail> {
     assert!(rt; computes_of(rt.alloc(), 4, &numbers, Made::Unit)?);
     assert!(rt; computes_of(rt.alloc(), 5, &numbers, Made::Int(5))?);
     assert!(rt; computes_of(rt.alloc(), 6, &numbers, Made::Ranges(&[]))?);
+    Ok(())
+}
+
+#[test]
+fn computers_of_a_set_answer_by_number(rt: HostRuntime) -> Result<(), Fail> {
     let set = [Some(Made::Ranges(&[(0, 1)]))];
     assert!(rt; computes_of(rt.alloc(), 4, &set, Made::Unit)?);
     assert!(rt; computes_of(rt.alloc(), 6, &set, Made::Ranges(&[(0, 1)]))?);

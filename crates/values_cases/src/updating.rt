@@ -18,6 +18,18 @@ fn view_of(
     Ok(UpdateView { transaction, deps })
 }
 
+/// Whether an updater makes this of an old value over what it is shown.
+fn updates_by(
+    alloc: Global,
+    number: u32,
+    old: &Val,
+    view: &UpdateView,
+    want: Made<'_>,
+) -> Result<bool, Fail> {
+    let new = update(alloc, number, old, view)?;
+    is(alloc, &new, want)
+}
+
 /// Whether an updater makes this of an old value over what is typed, effects and reads.
 fn updates(
     alloc: Global,
@@ -30,7 +42,7 @@ fn updates(
 ) -> Result<bool, Fail> {
     let view = view_of(alloc, typed, effects, Note::None, read)?;
     let old = value_of(alloc, old)?;
-    is(alloc, &update(alloc, number, &old, &view)?, want)
+    updates_by(alloc, number, &old, &view, want)
 }
 
 /// No reads.
@@ -200,24 +212,29 @@ const MORE: Typed<'static> = Typed {
     insert: "d",
 };
 
+/// The history after what is typed at a time, in milliseconds.
+fn timed(
+    alloc: Global,
+    old: &Val,
+    typed: Typed<'_>,
+    time: i64,
+    bounds: Made<'_>,
+) -> Result<Val, Fail> {
+    let reads = [Some(bounds)];
+    let note = Note::Of("time", Made::Int(time));
+    stepped(alloc, old, typed, note, Read::Values(&reads))
+}
+
+/// The history after a first character.
+fn once(alloc: Global, bounds: Made<'_>) -> Result<Val, Fail> {
+    let old = value_of(alloc, Made::History)?;
+    timed(alloc, &old, TYPED, 0, bounds)
+}
+
 /// How many Changes can be undone after two characters, the second 100 milliseconds later.
 fn second(alloc: Global, bounds: Made<'_>) -> Result<Option<(usize, usize)>, Fail> {
-    let reads = [Some(bounds)];
-    let old = value_of(alloc, Made::History)?;
-    let once = stepped(
-        alloc,
-        &old,
-        TYPED,
-        Note::Of("time", Made::Int(0)),
-        Read::Values(&reads),
-    )?;
-    let twice = stepped(
-        alloc,
-        &once,
-        MORE,
-        Note::Of("time", Made::Int(100)),
-        Read::Values(&reads),
-    )?;
+    let once = once(alloc, bounds)?;
+    let twice = timed(alloc, &once, MORE, 100, bounds)?;
     Ok(depth(&twice))
 }
 
