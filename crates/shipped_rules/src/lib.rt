@@ -20,7 +20,6 @@ mod shapes;
 mod shipped;
 mod stepping;
 mod updating;
-mod whole_kit;
 
 pub use combining::combine;
 pub use comparing::compare;
