@@ -1,6 +1,7 @@
 // Kits: of the shipped rules, and of a stranger's with one more; whole ones, and ones with a gap.
 ghost use Rattle.std.specs.Prelude.{◌≡◌, ◌<◌, IfOk};
 ghost use Rattle.values.specs.Shipped.{shipped};
+ghost use Rattle.values.specs.Stored.{Combines, Compares, Computes, ComputesLists, Creates, Extends, Filters, Guards, MapsEffects, Updates};
 ghost use Rattle.values.specs.Whole.{IsWhole};
 ghost use Rattle.kit_cases.specs.More.{more};
 
@@ -164,96 +165,156 @@ fn without_updaters(kit: Kit<Shipped>) -> Option<Gap>
 #[test]
 fn the_kit_of_the_shipped_rules(rt: HostRuntime) -> Result<(), Fail> {
     let alloc = rt.alloc();
-    let combiners = each_or_none(alloc, Shipped::combiners(), move |number: u32| {
-        let rule: CombineBox = Box::new(
-            alloc,
-            move |inputs: &[Val]| -> Result<Val, AllocError>
-                ensures { IfOk result (λ v. v ≡ shipped.combine number inputs.now) }
-            { combine(alloc, number, inputs) },
-        )?;
-        Ok(Combiner::<Shipped>::new(number, rule))
-    });
-    let comparers = each_or_none(alloc, Shipped::comparers(), move |number: u32| {
-        let rule: CompareBox = Box::new(
-            alloc,
-            move |old: &Val, new: &Val| -> bool
-                ensures { result ≡ shipped.compare number old.now new.now }
-            { compare(number, old, new) },
-        )?;
-        Ok(Comparer::<Shipped>::new(number, rule))
-    });
-    let computers = each_or_none(alloc, Shipped::computers(), move |number: u32| {
-        let rule: ComputeBox = Box::new(
-            alloc,
-            move |deps: &Deps| -> Result<Val, AllocError>
-                ensures { IfOk result (λ v. v ≡ shipped.compute number deps.now) }
-            { compute(alloc, number, deps) },
-        )?;
-        Ok(Computer::<Shipped>::new(number, rule))
-    });
-    let list_computers = each_or_none(alloc, Shipped::list_computers(), move |number: u32| {
-        let rule: ComputeListBox = Box::new(
-            alloc,
-            move |deps: &Deps| -> Result<Listed<Val>, AllocError>
-                ensures { IfOk result (λ vs. vs ≡ shipped.compute_list number deps.now) }
-            { compute_list(alloc, number, deps) },
-        )?;
-        Ok(ComputerN::<Shipped>::new(number, rule))
-    });
-    let creators = each_or_none(alloc, Shipped::creators(), move |number: u32| {
-        let rule: CreateBox = Box::new(
-            alloc,
-            move |deps: &Deps| -> Result<Val, AllocError>
-                ensures { IfOk result (λ v. v ≡ shipped.create number deps.now) }
-            { create(alloc, number, deps) },
-        )?;
-        Ok(Creator::<Shipped>::new(number, rule))
-    });
-    let updaters = each_or_none(alloc, Shipped::updaters(), move |number: u32| {
-        let rule: UpdateBox = Box::new(
-            alloc,
-            move |old: &Val, view: &UpdateView| -> Result<Val, AllocError>
-                ensures { IfOk result (λ v. v ≡ shipped.update number old.now view.now.transaction view.now.deps) }
-            { update(alloc, number, old, view) },
-        )?;
-        Ok(Updater::<Shipped>::new(number, rule))
-    });
-    let effect_maps = each_or_none(alloc, Shipped::effect_maps(), move |number: u32| {
-        let rule: EffectMapBox = Box::new(
-            alloc,
-            move |value: Val, changes: &Desc| -> Result<Option<Val>, AllocError>
-                ensures { IfOk result (λ mapped. mapped ≡ shipped.map_effect number value changes.now) }
-            { map_effect(alloc, number, value, changes) },
-        )?;
-        Ok(EffectMap::<Shipped>::new(number, rule))
-    });
-    let change_guards = each_or_none(alloc, Shipped::change_guards(), move |number: u32| {
-        let rule: GuardBox = Box::new(
-            alloc,
-            move |shown: &TrView, given: &Val| -> Result<Guarding, AllocError>
-                ensures { IfOk result (λ a. a ≡ shipped.guard number shown.now given.now) }
-            { guard(alloc, number, shown, given) },
-        )?;
-        Ok(ChangeGuard::<Shipped>::new(number, rule))
-    });
-    let filters = each_or_none(alloc, Shipped::transaction_filters(), move |number: u32| {
-        let rule: FilterBox = Box::new(
-            alloc,
-            move |shown: &TrView, given: &Val| -> Result<Filtering, AllocError>
-                ensures { IfOk result (λ a. a ≡ shipped.filter number shown.now given.now) }
-            { filter(alloc, number, shown, given) },
-        )?;
-        Ok(TrFilter::<Shipped>::new(number, rule))
-    });
-    let extenders = each_or_none(alloc, Shipped::extenders(), move |number: u32| {
-        let rule: ExtendBox = Box::new(
-            alloc,
-            move |shown: &TrView, given: &Val| -> Result<Extension, AllocError>
-                ensures { IfOk result (λ a. a ≡ shipped.extend number shown.now given.now) }
-            { extend(alloc, number, shown, given) },
-        )?;
-        Ok(Extender::<Shipped>::new(number, rule))
-    });
+    let combiners = each_or_none(
+        alloc,
+        Shipped::combiners(),
+        move |number: u32| -> Result<Combiner<Shipped>, AllocError>
+            ensures { IfOk result (λ made. Combines shipped made) }
+        {
+            let rule: CombineBox = Box::new(
+                alloc,
+                move |inputs: &[Val]| -> Result<Val, AllocError>
+                    ensures { IfOk result (λ v. v ≡ shipped.combine number inputs.now) }
+                { combine(alloc, number, inputs) },
+            )?;
+            Ok(Combiner::<Shipped>::new(number, rule))
+        },
+    );
+    let comparers = each_or_none(
+        alloc,
+        Shipped::comparers(),
+        move |number: u32| -> Result<Comparer<Shipped>, AllocError>
+            ensures { IfOk result (λ made. Compares shipped made) }
+        {
+            let rule: CompareBox = Box::new(
+                alloc,
+                move |old: &Val, new: &Val| -> bool
+                    ensures { result ≡ shipped.compare number old.now new.now }
+                { compare(number, old, new) },
+            )?;
+            Ok(Comparer::<Shipped>::new(number, rule))
+        },
+    );
+    let computers = each_or_none(
+        alloc,
+        Shipped::computers(),
+        move |number: u32| -> Result<Computer<Shipped>, AllocError>
+            ensures { IfOk result (λ made. Computes shipped made) }
+        {
+            let rule: ComputeBox = Box::new(
+                alloc,
+                move |deps: &Deps| -> Result<Val, AllocError>
+                    ensures { IfOk result (λ v. v ≡ shipped.compute number deps.now) }
+                { compute(alloc, number, deps) },
+            )?;
+            Ok(Computer::<Shipped>::new(number, rule))
+        },
+    );
+    let list_computers = each_or_none(
+        alloc,
+        Shipped::list_computers(),
+        move |number: u32| -> Result<ComputerN<Shipped>, AllocError>
+            ensures { IfOk result (λ made. ComputesLists shipped made) }
+        {
+            let rule: ComputeListBox = Box::new(
+                alloc,
+                move |deps: &Deps| -> Result<Listed<Val>, AllocError>
+                    ensures { IfOk result (λ vs. vs ≡ shipped.compute_list number deps.now) }
+                { compute_list(alloc, number, deps) },
+            )?;
+            Ok(ComputerN::<Shipped>::new(number, rule))
+        },
+    );
+    let creators = each_or_none(
+        alloc,
+        Shipped::creators(),
+        move |number: u32| -> Result<Creator<Shipped>, AllocError>
+            ensures { IfOk result (λ made. Creates shipped made) }
+        {
+            let rule: CreateBox = Box::new(
+                alloc,
+                move |deps: &Deps| -> Result<Val, AllocError>
+                    ensures { IfOk result (λ v. v ≡ shipped.create number deps.now) }
+                { create(alloc, number, deps) },
+            )?;
+            Ok(Creator::<Shipped>::new(number, rule))
+        },
+    );
+    let updaters = each_or_none(
+        alloc,
+        Shipped::updaters(),
+        move |number: u32| -> Result<Updater<Shipped>, AllocError>
+            ensures { IfOk result (λ made. Updates shipped made) }
+        {
+            let rule: UpdateBox = Box::new(
+                alloc,
+                move |old: &Val, view: &UpdateView| -> Result<Val, AllocError>
+                    ensures { IfOk result (λ v. v ≡ shipped.update number old.now view.now.transaction view.now.deps) }
+                { update(alloc, number, old, view) },
+            )?;
+            Ok(Updater::<Shipped>::new(number, rule))
+        },
+    );
+    let effect_maps = each_or_none(
+        alloc,
+        Shipped::effect_maps(),
+        move |number: u32| -> Result<EffectMap<Shipped>, AllocError>
+            ensures { IfOk result (λ made. MapsEffects shipped made) }
+        {
+            let rule: EffectMapBox = Box::new(
+                alloc,
+                move |value: Val, changes: &Desc| -> Result<Option<Val>, AllocError>
+                    ensures { IfOk result (λ mapped. mapped ≡ shipped.map_effect number value changes.now) }
+                { map_effect(alloc, number, value, changes) },
+            )?;
+            Ok(EffectMap::<Shipped>::new(number, rule))
+        },
+    );
+    let change_guards = each_or_none(
+        alloc,
+        Shipped::change_guards(),
+        move |number: u32| -> Result<ChangeGuard<Shipped>, AllocError>
+            ensures { IfOk result (λ made. Guards shipped made) }
+        {
+            let rule: GuardBox = Box::new(
+                alloc,
+                move |shown: &TrView, given: &Val| -> Result<Guarding, AllocError>
+                    ensures { IfOk result (λ a. a ≡ shipped.guard number shown.now given.now) }
+                { guard(alloc, number, shown, given) },
+            )?;
+            Ok(ChangeGuard::<Shipped>::new(number, rule))
+        },
+    );
+    let filters = each_or_none(
+        alloc,
+        Shipped::transaction_filters(),
+        move |number: u32| -> Result<TrFilter<Shipped>, AllocError>
+            ensures { IfOk result (λ made. Filters shipped made) }
+        {
+            let rule: FilterBox = Box::new(
+                alloc,
+                move |shown: &TrView, given: &Val| -> Result<Filtering, AllocError>
+                    ensures { IfOk result (λ a. a ≡ shipped.filter number shown.now given.now) }
+                { filter(alloc, number, shown, given) },
+            )?;
+            Ok(TrFilter::<Shipped>::new(number, rule))
+        },
+    );
+    let extenders = each_or_none(
+        alloc,
+        Shipped::extenders(),
+        move |number: u32| -> Result<Extender<Shipped>, AllocError>
+            ensures { IfOk result (λ made. Extends shipped made) }
+        {
+            let rule: ExtendBox = Box::new(
+                alloc,
+                move |shown: &TrView, given: &Val| -> Result<Extension, AllocError>
+                    ensures { IfOk result (λ a. a ≡ shipped.extend number shown.now given.now) }
+                { extend(alloc, number, shown, given) },
+            )?;
+            Ok(Extender::<Shipped>::new(number, rule))
+        },
+    );
     let kit = Kit::new(RuleLists {
         combiners,
         comparers,
@@ -326,96 +387,156 @@ fn without_combiner(kit: Kit<More>) -> Option<Gap>
 #[test]
 fn a_kit_with_one_more_rule(rt: HostRuntime) -> Result<(), Fail> {
     let alloc = rt.alloc();
-    let combiners = each_or_none(alloc, More::combiners(), move |number: u32| {
-        let rule: CombineBox = Box::new(
-            alloc,
-            move |inputs: &[Val]| -> Result<Val, AllocError>
-                ensures { IfOk result (λ v. v ≡ more.combine number inputs.now) }
-            { combine_more(alloc, number, inputs) },
-        )?;
-        Ok(Combiner::<More>::new(number, rule))
-    });
-    let comparers = each_or_none(alloc, More::comparers(), move |number: u32| {
-        let rule: CompareBox = Box::new(
-            alloc,
-            move |old: &Val, new: &Val| -> bool
-                ensures { result ≡ more.compare number old.now new.now }
-            { compare(number, old, new) },
-        )?;
-        Ok(Comparer::<More>::new(number, rule))
-    });
-    let computers = each_or_none(alloc, More::computers(), move |number: u32| {
-        let rule: ComputeBox = Box::new(
-            alloc,
-            move |deps: &Deps| -> Result<Val, AllocError>
-                ensures { IfOk result (λ v. v ≡ more.compute number deps.now) }
-            { compute(alloc, number, deps) },
-        )?;
-        Ok(Computer::<More>::new(number, rule))
-    });
-    let list_computers = each_or_none(alloc, More::list_computers(), move |number: u32| {
-        let rule: ComputeListBox = Box::new(
-            alloc,
-            move |deps: &Deps| -> Result<Listed<Val>, AllocError>
-                ensures { IfOk result (λ vs. vs ≡ more.compute_list number deps.now) }
-            { compute_list(alloc, number, deps) },
-        )?;
-        Ok(ComputerN::<More>::new(number, rule))
-    });
-    let creators = each_or_none(alloc, More::creators(), move |number: u32| {
-        let rule: CreateBox = Box::new(
-            alloc,
-            move |deps: &Deps| -> Result<Val, AllocError>
-                ensures { IfOk result (λ v. v ≡ more.create number deps.now) }
-            { create(alloc, number, deps) },
-        )?;
-        Ok(Creator::<More>::new(number, rule))
-    });
-    let updaters = each_or_none(alloc, More::updaters(), move |number: u32| {
-        let rule: UpdateBox = Box::new(
-            alloc,
-            move |old: &Val, view: &UpdateView| -> Result<Val, AllocError>
-                ensures { IfOk result (λ v. v ≡ more.update number old.now view.now.transaction view.now.deps) }
-            { update(alloc, number, old, view) },
-        )?;
-        Ok(Updater::<More>::new(number, rule))
-    });
-    let effect_maps = each_or_none(alloc, More::effect_maps(), move |number: u32| {
-        let rule: EffectMapBox = Box::new(
-            alloc,
-            move |value: Val, changes: &Desc| -> Result<Option<Val>, AllocError>
-                ensures { IfOk result (λ mapped. mapped ≡ more.map_effect number value changes.now) }
-            { map_effect(alloc, number, value, changes) },
-        )?;
-        Ok(EffectMap::<More>::new(number, rule))
-    });
-    let change_guards = each_or_none(alloc, More::change_guards(), move |number: u32| {
-        let rule: GuardBox = Box::new(
-            alloc,
-            move |shown: &TrView, given: &Val| -> Result<Guarding, AllocError>
-                ensures { IfOk result (λ a. a ≡ more.guard number shown.now given.now) }
-            { guard(alloc, number, shown, given) },
-        )?;
-        Ok(ChangeGuard::<More>::new(number, rule))
-    });
-    let filters = each_or_none(alloc, More::transaction_filters(), move |number: u32| {
-        let rule: FilterBox = Box::new(
-            alloc,
-            move |shown: &TrView, given: &Val| -> Result<Filtering, AllocError>
-                ensures { IfOk result (λ a. a ≡ more.filter number shown.now given.now) }
-            { filter(alloc, number, shown, given) },
-        )?;
-        Ok(TrFilter::<More>::new(number, rule))
-    });
-    let extenders = each_or_none(alloc, More::extenders(), move |number: u32| {
-        let rule: ExtendBox = Box::new(
-            alloc,
-            move |shown: &TrView, given: &Val| -> Result<Extension, AllocError>
-                ensures { IfOk result (λ a. a ≡ more.extend number shown.now given.now) }
-            { extend(alloc, number, shown, given) },
-        )?;
-        Ok(Extender::<More>::new(number, rule))
-    });
+    let combiners = each_or_none(
+        alloc,
+        More::combiners(),
+        move |number: u32| -> Result<Combiner<More>, AllocError>
+            ensures { IfOk result (λ made. Combines more made) }
+        {
+            let rule: CombineBox = Box::new(
+                alloc,
+                move |inputs: &[Val]| -> Result<Val, AllocError>
+                    ensures { IfOk result (λ v. v ≡ more.combine number inputs.now) }
+                { combine_more(alloc, number, inputs) },
+            )?;
+            Ok(Combiner::<More>::new(number, rule))
+        },
+    );
+    let comparers = each_or_none(
+        alloc,
+        More::comparers(),
+        move |number: u32| -> Result<Comparer<More>, AllocError>
+            ensures { IfOk result (λ made. Compares more made) }
+        {
+            let rule: CompareBox = Box::new(
+                alloc,
+                move |old: &Val, new: &Val| -> bool
+                    ensures { result ≡ more.compare number old.now new.now }
+                { compare(number, old, new) },
+            )?;
+            Ok(Comparer::<More>::new(number, rule))
+        },
+    );
+    let computers = each_or_none(
+        alloc,
+        More::computers(),
+        move |number: u32| -> Result<Computer<More>, AllocError>
+            ensures { IfOk result (λ made. Computes more made) }
+        {
+            let rule: ComputeBox = Box::new(
+                alloc,
+                move |deps: &Deps| -> Result<Val, AllocError>
+                    ensures { IfOk result (λ v. v ≡ more.compute number deps.now) }
+                { compute(alloc, number, deps) },
+            )?;
+            Ok(Computer::<More>::new(number, rule))
+        },
+    );
+    let list_computers = each_or_none(
+        alloc,
+        More::list_computers(),
+        move |number: u32| -> Result<ComputerN<More>, AllocError>
+            ensures { IfOk result (λ made. ComputesLists more made) }
+        {
+            let rule: ComputeListBox = Box::new(
+                alloc,
+                move |deps: &Deps| -> Result<Listed<Val>, AllocError>
+                    ensures { IfOk result (λ vs. vs ≡ more.compute_list number deps.now) }
+                { compute_list(alloc, number, deps) },
+            )?;
+            Ok(ComputerN::<More>::new(number, rule))
+        },
+    );
+    let creators = each_or_none(
+        alloc,
+        More::creators(),
+        move |number: u32| -> Result<Creator<More>, AllocError>
+            ensures { IfOk result (λ made. Creates more made) }
+        {
+            let rule: CreateBox = Box::new(
+                alloc,
+                move |deps: &Deps| -> Result<Val, AllocError>
+                    ensures { IfOk result (λ v. v ≡ more.create number deps.now) }
+                { create(alloc, number, deps) },
+            )?;
+            Ok(Creator::<More>::new(number, rule))
+        },
+    );
+    let updaters = each_or_none(
+        alloc,
+        More::updaters(),
+        move |number: u32| -> Result<Updater<More>, AllocError>
+            ensures { IfOk result (λ made. Updates more made) }
+        {
+            let rule: UpdateBox = Box::new(
+                alloc,
+                move |old: &Val, view: &UpdateView| -> Result<Val, AllocError>
+                    ensures { IfOk result (λ v. v ≡ more.update number old.now view.now.transaction view.now.deps) }
+                { update(alloc, number, old, view) },
+            )?;
+            Ok(Updater::<More>::new(number, rule))
+        },
+    );
+    let effect_maps = each_or_none(
+        alloc,
+        More::effect_maps(),
+        move |number: u32| -> Result<EffectMap<More>, AllocError>
+            ensures { IfOk result (λ made. MapsEffects more made) }
+        {
+            let rule: EffectMapBox = Box::new(
+                alloc,
+                move |value: Val, changes: &Desc| -> Result<Option<Val>, AllocError>
+                    ensures { IfOk result (λ mapped. mapped ≡ more.map_effect number value changes.now) }
+                { map_effect(alloc, number, value, changes) },
+            )?;
+            Ok(EffectMap::<More>::new(number, rule))
+        },
+    );
+    let change_guards = each_or_none(
+        alloc,
+        More::change_guards(),
+        move |number: u32| -> Result<ChangeGuard<More>, AllocError>
+            ensures { IfOk result (λ made. Guards more made) }
+        {
+            let rule: GuardBox = Box::new(
+                alloc,
+                move |shown: &TrView, given: &Val| -> Result<Guarding, AllocError>
+                    ensures { IfOk result (λ a. a ≡ more.guard number shown.now given.now) }
+                { guard(alloc, number, shown, given) },
+            )?;
+            Ok(ChangeGuard::<More>::new(number, rule))
+        },
+    );
+    let filters = each_or_none(
+        alloc,
+        More::transaction_filters(),
+        move |number: u32| -> Result<TrFilter<More>, AllocError>
+            ensures { IfOk result (λ made. Filters more made) }
+        {
+            let rule: FilterBox = Box::new(
+                alloc,
+                move |shown: &TrView, given: &Val| -> Result<Filtering, AllocError>
+                    ensures { IfOk result (λ a. a ≡ more.filter number shown.now given.now) }
+                { filter(alloc, number, shown, given) },
+            )?;
+            Ok(TrFilter::<More>::new(number, rule))
+        },
+    );
+    let extenders = each_or_none(
+        alloc,
+        More::extenders(),
+        move |number: u32| -> Result<Extender<More>, AllocError>
+            ensures { IfOk result (λ made. Extends more made) }
+        {
+            let rule: ExtendBox = Box::new(
+                alloc,
+                move |shown: &TrView, given: &Val| -> Result<Extension, AllocError>
+                    ensures { IfOk result (λ a. a ≡ more.extend number shown.now given.now) }
+                { extend(alloc, number, shown, given) },
+            )?;
+            Ok(Extender::<More>::new(number, rule))
+        },
+    );
     let kit = Kit::new(RuleLists {
         combiners,
         comparers,

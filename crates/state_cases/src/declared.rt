@@ -165,7 +165,11 @@ fn computed(
     registry.input_compute(facet, rule, reads)
 }
 
-fn made(alloc: Global, registry: &mut Registry<Shipped>, made: Made) -> Result<u32, RegistryError>
+fn node_made(
+    alloc: Global,
+    registry: &mut Registry<Shipped>,
+    made: Made,
+) -> Result<u32, RegistryError>
     ensures { IsGrowth registry.old registry.new }
 {
     match made {
@@ -189,7 +193,7 @@ pub(crate) fn declared(alloc: Global) -> Result<Registry<Shipped>, RegistryError
 {
     let mut registry = Registry::<Shipped>::new(alloc)?;
     for one in ALL {
-        made(alloc, &mut registry, *one)?;
+        node_made(alloc, &mut registry, *one)?;
     }
     Ok(registry)
 }

@@ -114,7 +114,7 @@ fn ranges_are(selection: &Selection, want: &[(u32, u32)]) -> bool {
     true
 }
 
-fn has(state: &State<Shipped>, want: Has<'_>) -> bool {
+fn holds(state: &State<Shipped>, want: Has<'_>) -> bool {
     match want {
         Has::Facet(facet, want) => facet_is(state, facet, want),
         Has::Field(field, want) => field_is(state, field, want),
@@ -126,7 +126,7 @@ fn has(state: &State<Shipped>, want: Has<'_>) -> bool {
 /// Whether a state has all of these.
 pub(crate) fn has_all(state: &State<Shipped>, all: &[Has<'_>]) -> bool {
     for want in all {
-        if !has(state, *want) {
+        if !holds(state, *want) {
             return false;
         }
     }

@@ -13,9 +13,8 @@ use crate::reading::{Has, Refused, Want, is_no_state, refuses};
 use crate::running::Case;
 use crate::specs::{On, Sent};
 use registry::{Registry, RegistryError};
-use shipped_rules::{Shipped, shipped_lists};
+use shipped_rules::Shipped;
 use std::alloc::Global;
-use std::test::*;
 use values::Kit;
 
 /// A creation over "abc".
@@ -140,22 +139,9 @@ fn updates(alloc: Global, kit: &Kit<Shipped>) -> Result<bool, RegistryError>
     Ok(updates_refused(alloc, kit, &registry))
 }
 
-#[test]
-fn refused_creations(rt: HostRuntime) {
-    match Kit::new(shipped_lists!(rt.alloc(), Shipped)) {
-        Ok(kit) => {
-            assert!(rt; creations(rt.alloc(), &kit).is_ok_and(|all| all));
-        }
-        Err(_) => assert!(rt; false),
-    }
-}
-
-#[test]
-fn refused_updates_change_nothing(rt: HostRuntime) {
-    match Kit::new(shipped_lists!(rt.alloc(), Shipped)) {
-        Ok(kit) => {
-            assert!(rt; updates(rt.alloc(), &kit).is_ok_and(|all| all));
-        }
-        Err(_) => assert!(rt; false),
-    }
+/// Whether all cases hold.
+pub(crate) fn all_hold(alloc: Global, kit: &Kit<Shipped>) -> bool
+    requires { IsWhole shipped kit.now }
+{
+    creations(alloc, kit).is_ok_and(|all| all) && updates(alloc, kit).is_ok_and(|all| all)
 }

@@ -13,9 +13,8 @@ use crate::reading::{Has, Want, gives};
 use crate::running::Case;
 use crate::specs::{On, Sent};
 use registry::Registry;
-use shipped_rules::{Shipped, shipped_lists};
+use shipped_rules::Shipped;
 use std::alloc::Global;
-use std::test::*;
 use values::Kit;
 
 const CHAIN: &[u32] = &[LENGTH_INPUT, SUM_INPUT];
@@ -260,32 +259,11 @@ fn first_failure(
     }
 }
 
-#[test]
-fn values_through_updates(rt: HostRuntime) {
-    match Kit::new(shipped_lists!(rt.alloc(), Shipped)) {
-        Ok(kit) => {
-            assert!(rt; first_failure(rt.alloc(), &kit, VALUES).is_none());
-        }
-        Err(_) => assert!(rt; false),
-    }
-}
-
-#[test]
-fn configurations_through_updates(rt: HostRuntime) {
-    match Kit::new(shipped_lists!(rt.alloc(), Shipped)) {
-        Ok(kit) => {
-            assert!(rt; first_failure(rt.alloc(), &kit, SLOTS).is_none());
-        }
-        Err(_) => assert!(rt; false),
-    }
-}
-
-#[test]
-fn selections_through_updates(rt: HostRuntime) {
-    match Kit::new(shipped_lists!(rt.alloc(), Shipped)) {
-        Ok(kit) => {
-            assert!(rt; first_failure(rt.alloc(), &kit, SELECTIONS).is_none());
-        }
-        Err(_) => assert!(rt; false),
-    }
+/// Whether all cases hold.
+pub(crate) fn all_hold(alloc: Global, kit: &Kit<Shipped>) -> bool
+    requires { IsWhole shipped kit.now }
+{
+    first_failure(alloc, kit, VALUES).is_none()
+        && first_failure(alloc, kit, SLOTS).is_none()
+        && first_failure(alloc, kit, SELECTIONS).is_none()
 }
