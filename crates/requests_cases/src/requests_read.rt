@@ -159,12 +159,26 @@ fn fields_have_defaults(rt: HostRuntime) -> Result<(), Fail> {
     Ok(())
 }
 
+/// The precedence of a wrapper of a, from 0 for the highest.
+fn level_in(declared: &Declaration) -> Result<Option<usize>, AllocError> {
+    match declared {
+        Declaration::Prec(prec) => {
+            if is(&prec.of, "a")? {
+                Ok(Some(prec.at.level()))
+            } else {
+                Ok(None)
+            }
+        }
+        _ => Ok(None),
+    }
+}
+
 /// The precedence of a wrapper p of a that a line declares, from 0 for the highest.
 fn level_of(alloc: Global, at: &str) -> Result<Option<usize>, AllocError> {
     let line = format!(in alloc; "{{\"prec\":{{\"name\":\"p\",\"at\":\"{at}\",\"of\":\"a\"}}}}")?;
     match declaration(alloc, line.as_str()) {
-        Some(Declaration::Prec(prec)) if is(&prec.of, "a")? => Ok(Some(prec.at.level())),
-        _ => Ok(None),
+        Some(declared) => level_in(&declared),
+        None => Ok(None),
     }
 }
 
