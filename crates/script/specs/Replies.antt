@@ -13,8 +13,14 @@ use Rattle.script.specs.declared.mapped.MappedPlace.TheVariants.{NotAsked, Delet
 use Rattle.script.specs.declared.mapped.MappedParts.{MappedParts}
 use Rattle.script.specs.declared.declaration_refusal.DeclarationRefusal.{DeclarationRefusal}
 use Rattle.script.specs.declared.declaration_refusal.DeclarationRefusal.TheVariants.{Reversed, NotSorted, EmptyMark, NotEmpty, BadReplace, BadSide, NotLineStart, UnknownRule, StaticFacet, WrongShape, BadInverse, InverseTaken, TooMany}
+use Rattle.script.specs.declared.extension_refusal.ExtensionRefusal.{ExtensionRefusal}
+use Rattle.script.specs.declared.extension_refusal.ExtensionRefusal.TheVariants.{DuplicateCompartment, CompartmentLoop, Cycle}
+use Rattle.script.specs.declared.file_refusal.FileRefusal.{FileRefusal}
+use Rattle.script.specs.declared.file_refusal.FileRefusal.TheVariants.{FileMissing, FileNotUtf8}
+use Rattle.script.specs.declared.window_refusal.WindowRefusal.{WindowRefusal}
+use Rattle.script.specs.declared.window_refusal.WindowRefusal.TheVariants.{BadRows, BadCols}
 use Rattle.script.specs.declared.refusal.Refusal.{Refusal}
-use Rattle.script.specs.declared.refusal.Refusal.TheVariants.{LineTooLong, NotUtf8, NotJson, NotCommand, BadValue, UnknownName, NameTaken, NoSession, BadRange, LengthMismatch, TooLong, NoRanges, BadMain, SelectionOutside, UnknownEffect, UnknownCompartment, Declaration, Stale, Ahead}
+use Rattle.script.specs.declared.refusal.Refusal.TheVariants.{LineTooLong, NotUtf8, NotJson, NotCommand, BadValue, UnknownName, NameTaken, NoSession, BadRange, LengthMismatch, TooLong, NoRanges, BadMain, SelectionOutside, UnknownEffect, UnknownCompartment, Declaration, Extensions, File, Window, Stale, Ahead}
 use Rattle.script.specs.declared.reply.Answer.{Answer}
 use Rattle.script.specs.declared.reply.Answer.TheVariants.{Length, Text, Selection, Mapped, Version, Message, Client, Authority}
 use Rattle.script.specs.declared.reply.Reply.{Reply}
@@ -52,6 +58,27 @@ declaration_data (BadInverse effect back) = object (written (codes "back") back 
 declaration_data (InverseTaken effect) = coded (codes "InverseTaken") (written (codes "effect") effect no_members)
 declaration_data (TooMany kind) = coded (codes "TooMany") (written (codes "kind") kind no_members)
 
+-- a list of texts
+abbrev pub texts_data : List (List ℕ) → Data
+texts_data texts = array (items_of (map (λ text. string (encode_utf8_all text)) texts))
+
+-- a refusal of extensions: its code and its values by name, in byte order of the names
+abbrev pub extension_data : ExtensionRefusal → Data
+extension_data (DuplicateCompartment compartment first second) =
+    coded (codes "DuplicateCompartment") (written (codes "compartment") compartment (written (codes "first") first (written (codes "second") second no_members)))
+extension_data (CompartmentLoop path) = coded (codes "CompartmentLoop") (member (codes "path") (texts_data path) no_members)
+extension_data (Cycle members) = coded (codes "Cycle") (member (codes "members") (texts_data members) no_members)
+
+-- a refusal of a file
+abbrev pub file_data : FileRefusal → Data
+file_data (FileMissing name) = coded (codes "FileMissing") (written (codes "name") name no_members)
+file_data (FileNotUtf8 name) = coded (codes "FileNotUtf8") (written (codes "name") name no_members)
+
+-- a refusal of a window's size
+abbrev pub window_data : WindowRefusal → Data
+window_data (BadRows n) = coded (codes "BadRows") (member (codes "n") (whole n) no_members)
+window_data (BadCols n) = coded (codes "BadCols") (member (codes "n") (whole n) no_members)
+
 -- a refusal: its code and its values by name, in byte order of the names
 abbrev pub refusal_data : Refusal → Data
 refusal_data LineTooLong = coded (codes "LineTooLong") no_members
@@ -72,6 +99,9 @@ refusal_data (SelectionOutside at len) = coded (codes "SelectionOutside") (membe
 refusal_data (UnknownEffect id) = coded (codes "UnknownEffect") (member (codes "id") (whole id) no_members)
 refusal_data (UnknownCompartment id) = coded (codes "UnknownCompartment") (member (codes "id") (whole id) no_members)
 refusal_data (Declaration refusal) = declaration_data refusal
+refusal_data (Extensions refusal) = extension_data refusal
+refusal_data (File refusal) = file_data refusal
+refusal_data (Window refusal) = window_data refusal
 refusal_data (Stale version) = coded (codes "Stale") (member (codes "version") (whole version) no_members)
 refusal_data (Ahead from version) = coded (codes "Ahead") (member (codes "from") (whole from) (member (codes "version") (whole version) no_members))
 

@@ -5,7 +5,9 @@ ghost use Rattle.script.specs.declared.refusal.Refusal.TheVariants.{BadRange, Le
 ghost use Rattle.script.specs.Replies.{client_data, authority_data, coded, whole, refusal_data, section_data, range_data, selection_data, mapped_data, answer_data, reply_data, reply_text};
 
 use crate::declaration_reply::declaration_value;
+use crate::extension_reply::extension_value;
 use crate::mapped::{Mapped, MappedParts, MappedPlace};
+use crate::outside_reply::{file_value, window_value};
 use crate::refusal::Refusal;
 use change_desc::Section;
 use change_set::InsertedText;
@@ -58,7 +60,7 @@ pub(crate) fn code_value(alloc: Global, code: &str) -> Result<Value, AllocError>
     json!(in alloc; {"code": code})
 }
 
-fn name_value(alloc: Global, code: &str, name: &Str) -> Result<Value, AllocError>
+pub(crate) fn name_value(alloc: Global, code: &str, name: &Str) -> Result<Value, AllocError>
     ensures { IfOk result (λ v. view v ≡ coded code.now (member (codes "name") (string (encode_utf8_all name.now)) no_members)) }
 {
     let name = name.text()?;
@@ -152,6 +154,9 @@ fn refusal_value(alloc: Global, refusal: &Refusal) -> Result<Value, AllocError>
         Refusal::UnknownEffect { id } => unknown_value(alloc, "UnknownEffect", *id),
         Refusal::UnknownCompartment { id } => unknown_value(alloc, "UnknownCompartment", *id),
         Refusal::Declaration(refusal) => declaration_value(alloc, refusal),
+        Refusal::Extensions(refusal) => extension_value(alloc, refusal),
+        Refusal::File(refusal) => file_value(alloc, refusal),
+        Refusal::Window(refusal) => window_value(alloc, refusal),
         Refusal::Stale { version } => stale_value(alloc, *version),
         Refusal::Ahead { from, version } => ahead_value(alloc, *from, *version),
     }
