@@ -2,11 +2,10 @@
 ghost use Rattle.std.specs.Prelude.{◌≡◌, IfOk, codes};
 ghost use Rattle.serde_json.specs.Data.{member, no_members};
 ghost use Rattle.serde_json.specs.View.{view};
-ghost use Rattle.script.specs.Replies.{coded, file_data, whole, window_data};
+ghost use Rattle.replies.specs.Refusals.{coded, file_data, whole, window_data};
 
-use crate::file_refusal::FileRefusal;
-use crate::reply::name_value;
-use crate::window_refusal::WindowRefusal;
+use crate::coded::name_value;
+use script::{FileRefusal, WindowRefusal};
 use serde_json::{Value, json};
 use std::alloc::{AllocError, Global};
 

@@ -1,11 +1,12 @@
-ghost use Rattle.std.specs.Prelude.{◌≡◌, IfOk, map, codes, encode_utf8_all};
-ghost use Rattle.serde_json.specs.Data.{member, no_members, string};
+ghost use Rattle.std.specs.Prelude.{◌≡◌, IfOk, codes};
+ghost use Rattle.serde_json.specs.Data.{member, no_members};
 ghost use Rattle.serde_json.specs.View.{view};
 ghost use Rattle.script.specs.declared.extension_refusal.ExtensionRefusal.TheVariants.{DuplicateCompartment};
-ghost use Rattle.script.specs.Replies.{coded, extension_data, texts_data};
+ghost use Rattle.replies.specs.Refusals.{coded, extension_data, texts_data};
 
-use crate::extension_refusal::ExtensionRefusal;
+use crate::texts::text_values;
 use cm_plain::Str;
+use script::ExtensionRefusal;
 use serde_json::{Value, json};
 use std::alloc::{AllocError, Global};
 
@@ -24,24 +25,8 @@ fn duplicate_value(
         "code": "DuplicateCompartment",
         "compartment": compartment.as_str(),
         "first": first.as_str(),
-        "second": second.as_str(),
+        "second": second.as_str()
     })
-}
-
-fn text_value(text: &Str) -> Result<Value, AllocError>
-    ensures { IfOk result (λ v. view v ≡ string (encode_utf8_all text.now)) }
-{
-    Ok(Value::String(text.text()?))
-}
-
-fn text_values(alloc: Global, texts: &[Str]) -> Result<Vec<Value>, AllocError>
-    ensures { IfOk result (λ v. map view v.items ≡ map (λ text. string (encode_utf8_all text)) texts.now) }
-{
-    let mut values = Vec::with_capacity(alloc, texts.len())?;
-    for text in texts {
-        values.push(text_value(text)?)?;
-    }
-    Ok(values)
 }
 
 fn loop_value(alloc: Global, path: &[Str]) -> Result<Value, AllocError>
