@@ -98,10 +98,7 @@ fn counts_are_answered(rt: HostRuntime) -> Result<(), Fail> {
             Answer::Value(Shown::History { done: 2, undone: 1 }),
             "{\"ok\":{\"done\":2,\"undone\":1}}\n",
         ),
-        (
-            Answer::Value(Shown::Absent),
-            "{\"ok\":{\"absent\":true}}\n",
-        ),
+        (Answer::Value(Shown::Absent), "{\"ok\":{\"absent\":true}}\n"),
     ];
     for (answer, want) in cases {
         assert!(rt; is_answer(rt.alloc(), answer, want)?);
@@ -230,13 +227,11 @@ fn two_slots(
     let compartment = Str::of_text(alloc, compartment)?;
     let first = Str::of_text(alloc, first)?;
     let second = Str::of_text(alloc, second)?;
-    Ok(Refusal::Extensions(
-        ExtensionRefusal::DuplicateCompartment {
-            compartment,
-            first,
-            second,
-        },
-    ))
+    Ok(Refusal::Extensions(ExtensionRefusal::DuplicateCompartment {
+        compartment,
+        first,
+        second,
+    }))
 }
 
 /// The names in order.

@@ -283,10 +283,19 @@ fn fields_of_editor_commands_are_looked_at_in_order(rt: HostRuntime) -> Result<(
         ("{\"command\":\"cut\",\"text\":1}", "command"),
         ("{\"command\":\"Undo\"}", "command"),
         ("{\"command\":\"undo\",\"text\":1,\"move\":1}", "text"),
-        ("{\"command\":\"undo\",\"move\":\"home\",\"extend\":1}", "move"),
-        ("{\"command\":\"move\",\"extend\":0,\"time\":null}", "extend"),
+        (
+            "{\"command\":\"undo\",\"move\":\"home\",\"extend\":1}",
+            "move",
+        ),
+        (
+            "{\"command\":\"move\",\"extend\":0,\"time\":null}",
+            "extend",
+        ),
         ("{\"command\":\"move\",\"time\":null}", "time"),
-        ("{\"command\":\"move\",\"time\":9223372036854775808}", "time"),
+        (
+            "{\"command\":\"move\",\"time\":9223372036854775808}",
+            "time",
+        ),
         ("{\"command\":\"move\",\"event\":1}", "event"),
     ];
     for (argument, field) in cases {
