@@ -6,6 +6,10 @@ pub mod Sink
 pub mod Memory
 pub mod Progress
 pub mod Filling
+pub mod NextBytes
 pub mod Files
 pub mod MemFiles
 pub mod Times
+pub mod Answering
+pub mod Runs
+pub mod Responding

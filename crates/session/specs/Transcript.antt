@@ -1,5 +1,6 @@
--- What a line does, and the replies to a list of lines.
-use Rattle.std.specs.Prelude.{◌≡◌, refl, ℕ, List, [], ◌∷◌, ◌++◌, Option, Result}
+-- What a line does, and the reply to it.
+use Rattle.std.specs.Prelude.{ℕ, List, Option, Result}
+use Rattle.cm_outside.specs.Answering.{Machine}
 use Rattle.script.specs.declared.refusal.Refusal.{Refusal}
 use Rattle.script.specs.Reading.{◌>>=◌}
 use Rattle.script.specs.Command.{command_named}
@@ -21,12 +22,6 @@ after line s = left_by s (outcome line s.state)
 unfoldable pub reply : List ℕ → PlainSession → List ℕ
 reply line s = reply_text (reply_of (outcome line s.state))
 
--- the replies to some lines, one after the other
-unfoldable pub transcript : PlainSession → List (List ℕ) → List ℕ
-transcript s [] = []
-transcript s (line ∷ lines) = reply line s ++ transcript (after line s) lines
-
--- no lines have no replies
-pub transcript_none : (s : PlainSession) → transcript s [] ≡ []
-unfolding transcript
-transcript_none s = refl
+-- a session as what answers lines; it has no store, so nothing is saved
+abbrev pub machine : Machine (List ℕ) PlainSession
+machine = record { after = after; reply = reply; saved = λ line s. s }

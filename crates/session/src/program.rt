@@ -1,9 +1,9 @@
 ghost use Rattle.cm_outside.specs.Sink.{sink_told};
 ghost use Rattle.cm_outside.specs.Source.{source_told};
-ghost use Rattle.line_run.specs.Run.{Ran};
+ghost use Rattle.line_run.specs.Run.{RanAlone};
 ghost use Rattle.words.specs.Words.{words_of};
 ghost use Rattle.session.specs.State.{fresh};
-ghost use Rattle.session.specs.Transcript.{transcript};
+ghost use Rattle.session.specs.Transcript.{machine};
 ghost use Rattle.session.specs.Headline.{Headline, byte_limit};
 
 use crate::session::Session;
@@ -24,7 +24,7 @@ pub const LIMIT: u64 = 4_294_967_296;
 /// `Ok`: the input was read to its end. `ReadFault`, `WriteFault`: the count of faults of the source, of the sink
 /// rose. `TooMuch`: one byte more than the limit was taken. `NoMemory`: out of memory. No other status comes.
 pub fn replay<S: Source, K: Sink>(alloc: Global, limit: u64, source: &mut S, sink: &mut K) -> Status
-    ensures { Ran (transcript fresh) result (record {
+    ensures { RanAlone machine fresh result (record {
       limit = limit;
       source = source_told S.left S.given S.faults source.old;
       source_now = source_told S.left S.given S.faults source.new;
@@ -32,7 +32,8 @@ pub fn replay<S: Source, K: Sink>(alloc: Global, limit: u64, source: &mut S, sin
       sink_now = sink_told K.held K.faults sink.new;
     }) }
 {
-    run_lines(alloc, &mut Session::new(alloc), limit, source, sink)
+    let mut session = Session::new(alloc);
+    run_lines(alloc, &mut session, &mut (), limit, source, sink)
 }
 
 /// Does what the words of the command line, without the program's name, ask for. `replay` alone is accepted, and

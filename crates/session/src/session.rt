@@ -1,11 +1,12 @@
-ghost use Rattle.std.specs.Prelude.{◌≡◌, ◌<◌, List, ℕ, length, IsErr, IfOk, OnOk, OnErr, string_bytes};
+ghost use Rattle.std.specs.Prelude.{◌≡◌, ◌<◌, List, ℕ, length, IsErr, IfOk, OnOk, OnErr, Some, string_bytes};
 ghost use Rattle.cm_outside.specs.Lines.{max_line};
-ghost use Rattle.session.specs.State.{fresh};
-ghost use Rattle.session.specs.Transcript.{outcome, after, reply, transcript, transcript_none};
+ghost use Rattle.session.specs.State.{PlainSession, fresh};
+ghost use Rattle.session.specs.Transcript.{outcome, after, reply, machine};
 
 use crate::lines::outcome_of;
 use crate::outcome::Outcome;
 use crate::started::Started;
+use cm_outside::StoreFault;
 use line_run::Answers;
 use replies::{Reply, reply_text};
 use script::{LineError, Refusal};
@@ -66,18 +67,23 @@ impl Session {
     }
 }
 
-impl Answers for Session {
-    ghost replies = { transcript };
+impl Answers<()> for Session {
+    ghost Plain = { PlainSession };
 
-    ghost none = { transcript_none };
+    ghost told = { λ s store. Some s };
 
-    #[tactic(auto, using(crate::proofs::Answered::answered))]
-    fn answer(&mut self, line: &[u8]) -> Result<String, AllocError> {
-        self.line(line)
+    ghost machine = { machine };
+
+    ghost faults = { λ store. 0 };
+
+    fn answer(&mut self, line: &[u8], _store: &mut ()) -> Result<String, StoreFault> {
+        match self.line(line) {
+            Ok(reply) => Ok(reply),
+            Err(_) => Err(StoreFault::NoMemory),
+        }
     }
 
-    #[tactic(auto, using(crate::proofs::Answered::answered))]
-    fn answer_long(&mut self) -> Result<String, AllocError> {
+    fn answer_long(&mut self, _store: &()) -> Result<String, AllocError> {
         self.long_line()
     }
 }
