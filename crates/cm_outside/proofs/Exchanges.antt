@@ -1,7 +1,7 @@
 -- Answers one after the other: what they leave after one more, and where they end.
 use Rattle.std.proofs.Common.{◌≡◌, ℕ, List, [], ◌∷◌, ◌++◌, Option, Some, None, IfSome, refl, sym, ap, subst, ◌∙◌, append_assoc}
 use Rattle.std.proofs.lemmas.List.{append-nil}
-use Rattle.cm_outside.specs.Answering.{Machine, exchange_of, after_all, replies, AllAnswered, EndedByStore, EndedWriting}
+use Rattle.cm_outside.specs.Answering.{Machine, Exchange, exchange_of, after_all, replies, AllAnswered, EndedByStore, EndedWriting}
 use Rattle.cm_outside.specs.Responding.{RepliedTo, FailedOn, HaltedOn, IsSame}
 use Rattle.cm_outside.specs.Sink.{Appends, AppendsPrefix}
 

@@ -1,5 +1,5 @@
 -- What one answer in a run leads to. Private clauses alone speak of it.
-use Rattle.std.specs.Prelude.{◌≡◌, Some, IfSome, ⊤}
+use Rattle.std.specs.Prelude.{◌≡◌, List, Option, Some, IfSome, ⊤}
 use Rattle.std.specs.declared.result.Result.{Result}
 use Rattle.std.specs.declared.result.Result.TheVariants as result
 use Rattle.cm_outside.specs.declared.status.Status.{Status}

@@ -1,6 +1,6 @@
 -- Effects on the configuration, and what it becomes by them (Reference Manual, Compartment.reconfigure,
 -- StateEffect.reconfigure, StateEffect.appendConfig).
-use Rattle.std.specs.Prelude.{◌≡◌, ℕ, List, [], ◌∷◌, ◌++◌, Bool, true, false, fold}
+use Rattle.std.specs.Prelude.{◌≡◌, List, [], ◌∷◌, ◌++◌, Bool, true, false, fold}
 use Rattle.std.specs.List.{list_any}
 use Rattle.compartments.specs.Contents.{with_content}
 use Rattle.ext_tree.specs.Tree.{Tree, tree_of}
@@ -54,6 +54,10 @@ IsConfigOf d e config = IsConfig (tree_in d e) d.facets d.fields d.node_defs e.b
 abbrev pub IsConfigAfter : (is_configured : Bool) → Declarations → ConfigView → List (Effect Val) → ConfigView → Type 0
 IsConfigAfter false d old effects config = config ≡ old
 IsConfigAfter true d old effects config = IsConfigOf d (extensions_after (extensions_of old) effects) config
+
+-- a configuration over all that is declared
+abbrev pub setup_in : Declarations → ConfigView → Setup
+setup_in d config = record { defs = definitions d; config = config }
 
 -- Setup after effects: that configuration, over all that is declared.
 pub record IsSetupAfter (d : Declarations) (old : ConfigView) (effects : List (Effect Val)) (setup : Setup) : Type 0 where

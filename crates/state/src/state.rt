@@ -1,5 +1,5 @@
 // The state of an editor.
-ghost use Rattle.std.specs.Prelude.{◌≡◌, ◌≢◌, ◌<◌, ◌≤◌, ◌+◌, IfErr, IfOk, Some, is_some, length, option_copied, slice_get};
+ghost use Rattle.std.specs.Prelude.{◌≡◌, ◌≢◌, ◌<◌, ◌≤◌, ◌+◌, Err, IfErr, IfOk, Ok, Some, is_some, length, option_copied, slice_get};
 ghost use Rattle.std.specs.Option.{unwrap_or};
 ghost use Rattle.values.specs.Whole.{IsWhole};
 ghost use Rattle.registry.specs.Predeclared.{predeclared};
@@ -11,10 +11,8 @@ ghost use Rattle.facet_slots.specs.Setups.{field_at};
 ghost use Rattle.facet_slots.specs.Slotted.{plain};
 
 use crate::created::{accepted, created, resolved_base};
-use crate::drafted::drafted;
-use crate::reconfigured::reconfigured;
 use crate::state_error::StateError;
-use crate::stepped::after_draft;
+use crate::updated::updated;
 use configuration::{Config, Vertex};
 use ext_tree::ExtId;
 use facet_slots::Slots;
@@ -53,10 +51,10 @@ impl<M: Meanings> Model for State<M> {
 }
 
 impl<M: Meanings> State<M> {
-    ghost use Rattle.state.specs.Creating.{creation_calls, IsCreated, IsCreationPaid};
     ghost use Rattle.facet_slots.specs.Lent.{definitions};
-    ghost use Rattle.state.specs.Refusals.{IsCreateRefused, IsUpdateRefused};
-    ghost use Rattle.state.specs.Steps.{calls_to, IsStep, IsStepPaid};
+    ghost use Rattle.state.specs.Creating.{creation_calls, IsCreationPaid};
+    ghost use Rattle.state.specs.Plainly.{created_from, unordered, updated_from};
+    ghost use Rattle.state.specs.Steps.{IsStepPaid, IsStepTo};
 
     /// The state that a base comes to over what is declared, with this document and this selection, which is cut to its main
     /// range unless the configuration allows several. (Reference Manual, EditorState.create.) Refused, in this order: as
@@ -72,11 +70,10 @@ impl<M: Meanings> State<M> {
         calls: &mut Steps<L>,
     ) -> Result<Self, StateError>
         requires whole { IsWhole M.rules kit.now }
-        requires predeclared { IsGrown (definitions predeclared) (definitions registry.now) }
-        ensures created { IfOk result (λ s. IsCreated M.rules registry.now base.now (record { document = document.characters; selection = selection }) (plain s)) }
+        ensures created { IfOk result (λ s. created_from M.rules registry.now base.now (record { document = document.characters; selection = selection }) ≡ Ok (unordered (plain s))) }
         ensures grown { IfOk result (λ s. IsGrown s.setup.defs (definitions registry.now)) }
         ensures cost { IfOk result (λ s. calls.new ≤ calls.old + creation_calls M.rules s.setup (record { document = document.characters; selection = selection })) }
-        ensures refused { IfErr result (λ error. error ≢ StateError.NoMemory → IsCreateRefused registry.now base.now (record { document = document.characters; selection = selection }) error) }
+        ensures refused { IfErr result (λ error. error ≢ StateError.NoMemory → created_from M.rules registry.now base.now (record { document = document.characters; selection = selection }) ≡ Err error) }
         ensures uncalled { IfErr result (λ error. error ≢ StateError.NoMemory → calls.new ≡ calls.old) }
         ensures paid { IsCreationPaid M.rules registry.now base.now (record { document = document.characters; selection = selection }) calls.old calls.new }
     {
@@ -84,14 +81,17 @@ impl<M: Meanings> State<M> {
             document,
             selection,
         })?;
+        registry.known();
         let config = resolved_base(alloc, registry, base)?;
         let slots = created(alloc, kit, registry, config, scene, calls)?;
         Ok(State { slots })
     }
 
-    /// The state after a transaction of specs. This one stays as it is. (Reference Manual, EditorState.update.) Refused, in this
-    /// order: as the specs are, in the transaction's order; then, where an effect is on the configuration, as `UnknownExt`; as
-    /// `CompartmentLoop` or `DuplicateCompartment`; as `Cycle`. A refused call calls no rule.
+    /// The state after a transaction of specs, of which filters and extenders are asked what they make. This one stays as it is.
+    /// (Reference Manual, EditorState.update.) Refused, in this order: as the specs are, in the transaction's order; as `TooLong`
+    /// for what change filters leave; as the specs are that transaction filters give; as the effects are that extenders give;
+    /// then, where an effect is on the configuration, as `UnknownExt`; as `CompartmentLoop` or `DuplicateCompartment`; as `Cycle`.
+    /// A refused call counts no call of a rule.
     pub fn update<L: Ledger>(
         &self,
         alloc: Global,
@@ -102,22 +102,17 @@ impl<M: Meanings> State<M> {
     ) -> Result<Self, StateError>
         requires whole { IsWhole M.rules kit.now }
         requires grown { IsGrown self.now.setup.defs (definitions registry.now) }
-        ensures step { IfOk result (λ s. IsStep M.rules registry.now (plain self.now) specs.items (plain s)) }
+        ensures updated { IfOk result (λ s. updated_from M.rules registry.now (unordered (plain self.now)) specs.items ≡ Ok (unordered (plain s))) }
         ensures grown { IfOk result (λ s. IsGrown s.setup.defs (definitions registry.now)) }
-        ensures cost { IfOk result (λ s. calls.new ≤ calls.old + calls_to M.rules registry.now (plain self.now) specs.items s.setup) }
-        ensures refused { IfErr result (λ error. error ≢ StateError.NoMemory → IsUpdateRefused M.rules registry.now (plain self.now) specs.items error) }
+        ensures cost { IfOk result (λ s. IsStepTo M.rules registry.now (plain self.now) specs.items s.setup calls.old calls.new) }
+        ensures refused { IfErr result (λ error. error ≢ StateError.NoMemory → updated_from M.rules registry.now (unordered (plain self.now)) specs.items ≡ Err error) }
         ensures uncalled { IfErr result (λ error. error ≢ StateError.NoMemory → calls.new ≡ calls.old) }
         ensures paid { IsStepPaid M.rules registry.now (plain self.now) specs.items calls.old calls.new }
     {
-        let draft = drafted(alloc, kit, registry, &self.slots, specs)?;
-        let config = reconfigured(
-            alloc,
-            registry,
-            self.slots.config(),
-            draft.effects.as_slice(),
-        )?;
-        let slots = after_draft(alloc, kit, registry, &self.slots, config, draft, calls)?;
-        Ok(State { slots })
+        match updated(alloc, kit, registry, &self.slots, specs, calls) {
+            Ok(slots) => Ok(State { slots }),
+            Err(error) => Err(error),
+        }
     }
 
     /// The document. Takes no memory.
