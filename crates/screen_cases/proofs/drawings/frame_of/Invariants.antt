@@ -1,4 +1,0 @@
-use Rattle.screen_cases.proofs.drawings.frame_of.Given as goal
-
-abbrev pub ghosts-drawn : goal.ghosts-drawn
-ghosts-drawn a = record { name = a.blank.name; parts = a.blank.parts }
