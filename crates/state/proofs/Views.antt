@@ -13,6 +13,9 @@ use Rattle.facet_slots.specs.Stepping.{State}
 use Rattle.state.specs.Cutting.{allows_several}
 use Rattle.state.specs.Moving.{transaction_of}
 
+true-false : true ≡ false → ⊥
+true-false e = cc
+
 whole-or-cut : (several : Bool) (whole : SelectionView) → IsWholeOrCut (allowed several whole) whole
 whole-or-cut true whole = inl refl
 whole-or-cut false whole = inr refl
@@ -20,7 +23,7 @@ whole-or-cut false whole = inr refl
 -- where none is given, the old selection is mapped
 mapped : (several : Bool) (given : Option SelectionView) (moved : SelectionView) → is_some given ≡ false → IsWholeOrCut (allowed several (unwrap_or given moved)) moved
 mapped several None moved e = whole-or-cut several moved
-mapped several (Some s) moved e = absurd (grind (e))
+mapped several (Some s) moved e = absurd (true-false e)
 
 pub is-made : (d : Declarations) (old : State) (draft : Draft Val) (view : TransactionView) → view ≡ transaction_of d old draft → IsTransaction view → IsMade old.scene view
 is-made d old draft view e is = subst (IsMade old.scene) (sym e) (record {
