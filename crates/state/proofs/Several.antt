@@ -16,7 +16,7 @@ use Rattle.transaction.specs.Numbers.{IsNumber}
 use Rattle.configuration.proofs.Placing.{numbers-length}
 use Rattle.registry.specs.Predeclared.{combined_by, predeclared, predeclared_facets}
 use Rattle.values.specs.declared.val.Val.{Val}
-use Rattle.values.specs.Combining.{combine, is_true}
+use Rattle.values.specs.Combining.{is_true}
 use Rattle.values.specs.Declarations.{Declarations}
 use Rattle.values.specs.Growth.{IsGrowth}
 use Rattle.values.specs.Lawful.{IsDefined, IsInput, IsLawful}
@@ -26,7 +26,7 @@ use Rattle.values.specs.Shipped.{KeepsShipped}
 use Rattle.facet_slots.specs.FacetValues.{facet_value, joined, node_outputs, outputs}
 use Rattle.facet_slots.specs.Order.{IsOrdered}
 use Rattle.facet_slots.specs.Scenes.{SceneView, Values}
-use Rattle.facet_slots.specs.Setups.{PresentFacet, facet_at, input_node, inputs_at}
+use Rattle.facet_slots.specs.Setups.{input_node, inputs_at}
 use Rattle.facet_slots.specs.Stepping.{Enter, creation, empty_state, rule_of}
 use Rattle.facet_slots.proofs.Declared.{definitions-grown}
 use Rattle.facet_slots.proofs.Growing.{longer}

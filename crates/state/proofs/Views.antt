@@ -1,8 +1,8 @@
 -- What is shown of a draft in a state is a transaction that is made over its document and selection.
-use Rattle.std.proofs.Common.{◌≡◌, ◌⊎◌, inl, inr, Bool, true, false, Option, Some, None, is_some, refl, ap, subst, sym}
+use Rattle.std.proofs.Common.{◌≡◌, inl, inr, Bool, true, false, Option, Some, None, is_some, refl, subst, sym}
 use Rattle.std.specs.Option.{unwrap_or}
 use Rattle.change_desc.specs.Sections.{lengths, spelled}
-use Rattle.selection.specs.Selections.{SelectionView, moved_selection, single_of}
+use Rattle.selection.specs.Selections.{SelectionView, moved_selection}
 use Rattle.transaction.specs.declared.draft.Draft.{Draft}
 use Rattle.values.specs.declared.val.Val.{Val}
 use Rattle.values.specs.Declarations.{Declarations}

@@ -1,10 +1,6 @@
-use Rattle.std.proofs.Common.{◌≡◌, ◌≤◌, ◌+◌, ◌∙◌, Bool, List, Some, ap, refl, subst, sym}
+use Rattle.std.proofs.Common.{◌≡◌, ◌≤◌, ◌+◌, ◌∙◌, ap, refl, subst, sym}
 use Rattle.std.proofs.lemmas.Result.{IfOk-weaker}
-use Rattle.configuration.specs.declared.facet_def.FacetDef.{FacetDef}
-use Rattle.configuration.specs.declared.node_def.NodeDef.{NodeDef}
-use Rattle.configuration.specs.Config.{ConfigView}
 use Rattle.registry.specs.Predeclared.{predeclared, predeclared_facets}
-use Rattle.values.specs.declared.val.Val.{Val}
 use Rattle.facet_slots.specs.Due.{transition_calls}
 use Rattle.facet_slots.specs.Found.{scene_of}
 use Rattle.facet_slots.specs.Lawful.{IsLawful}
@@ -17,8 +13,7 @@ use Rattle.facet_slots.specs.Stepping.{Enter, creation, empty_state}
 use Rattle.facet_slots.proofs.Declared.{definitions-grown}
 use Rattle.facet_slots.proofs.Growing.{stays-got}
 use Rattle.facet_slots.proofs.Ordered.{resolved-ordered}
-use Rattle.state.specs.Creating.{created_state, start_scene}
-use Rattle.state.specs.Cutting.{config_allows_several}
+use Rattle.state.specs.Creating.{created_state}
 use Rattle.state.specs.Reconfigured.{setup_in}
 use Rattle.state.proofs.Registered.{lawful-in, resolved-in, setup-is, setup_with}
 use Rattle.state.proofs.Several.{several-known, several_def, start-is}
