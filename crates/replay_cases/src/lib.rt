@@ -2,6 +2,12 @@
 #![tactic(auto)]
 
 #[cfg(test)]
+mod configured;
+#[cfg(test)]
+mod declared;
+#[cfg(test)]
+mod filtered;
+#[cfg(test)]
 mod lines;
 #[cfg(test)]
 mod maps;
@@ -13,5 +19,7 @@ mod runs;
 mod script_lines;
 #[cfg(test)]
 mod selections;
+#[cfg(test)]
+mod talking;
 #[cfg(test)]
 mod updates;

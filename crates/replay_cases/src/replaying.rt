@@ -1,6 +1,12 @@
+ghost use Rattle.values.specs.Shipped.{shipped};
+ghost use Rattle.values.specs.Whole.{IsWhole};
+
 use cm_outside::{MemSink, MemSource, Piece, Status};
 use session::{LIMIT, replay};
+use shipped_kit::with_kit;
+use shipped_rules::Shipped;
 use std::alloc::{AllocError, Global};
+use values::Kit;
 
 /// A source of these bytes, in pieces of at most so many, of which the calls of these numbers fail.
 pub(crate) fn source(
@@ -29,7 +35,12 @@ pub(crate) fn sink(alloc: Global, failing: &[u64]) -> Result<MemSink, AllocError
 pub(crate) fn replies(alloc: Global, lines: &[u8], want: &[u8]) -> Result<bool, AllocError> {
     let mut source = source(alloc, lines, 1_000, &[])?;
     let mut sink = sink(alloc, &[])?;
-    let status = replay(alloc, LIMIT, &mut source, &mut sink);
+    let status = with_kit(
+        alloc,
+        |kit: &Kit<Shipped>| -> Status
+            requires { IsWhole shipped kit.now }
+        { replay(alloc, kit, LIMIT, &mut source, &mut sink) },
+    )?;
     Ok(status == Status::Ok && sink.bytes() == want)
 }
 

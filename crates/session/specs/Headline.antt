@@ -1,15 +1,18 @@
--- THE HEADLINE. After any replayed list of lines, every reply is that of the plain session: the fold of one step a line, in
--- which a refused line changes nothing. The run ends `Ok` unless a device failed, the byte limit came, or out of memory.
--- The same holds of the lines of `collab`, with the replies of the plain world of clients and an authority.
+-- THE HEADLINE. After any replayed list of lines, every reply is that of the plain session: each facet its present inputs
+-- combined from scratch in precedence order, each field the fold of its updates since it entered, each range set every range
+-- mapped plainly; a refused line changes nothing. The run ends `Ok` unless a device failed, the byte limit came, or out of
+-- memory. The rules of facets and fields are those of the kit that is handed in. The same holds of the lines of `collab`, with
+-- the replies of the plain world of clients and an authority.
 --
 -- Read on: `Ran` (line_run/specs/Run.antt: what the sink holds under each status, why each status came, and when a run ends
--- `Ok`), `transcript` (Transcript.antt: the replies to a list of lines), `act` (Session.antt: what a command does) and
--- `PlainSession` (State.antt); for `collab` the files Transcript.antt and Playing.antt of collab_run/specs. How input is cut
--- into lines is cm_outside/specs/Lines.antt.
+-- `Ok`), `transcript` (Transcript.antt: the replies to a list of lines), `act` (Session.antt: what a command does),
+-- `PlainSession` (State.antt), and of the crate `state` the files Plainly.antt and Steps.antt: one step. For `collab` the files
+-- Transcript.antt and Playing.antt of collab_run/specs. How input is cut into lines is cm_outside/specs/Lines.antt.
 use Rattle.std.specs.Prelude.{◌≡◌, ℕ, Option, Some, None}
 use Rattle.cm_outside.specs.declared.status.Status.{Status}
 use Rattle.cm_outside.specs.declared.status.Status.TheVariants.{Usage}
 use Rattle.line_run.specs.Run.{Run, Ran}
+use Rattle.values.specs.Rules.{Rules}
 use Rattle.words.specs.declared.words.Words.{Words}
 use Rattle.words.specs.declared.words.Words.TheVariants.{Replay, Collab}
 use Rattle.session.specs.State.{fresh}
@@ -22,10 +25,10 @@ byte_limit = 4294967296
 
 -- How a run ended, by what the words of the command line ask for, if they are accepted: `source` and `sink` before it,
 -- `source_now` and `sink_now` after it.
-abbrev pub Headline : {S K : Type 0} → Option Words → Status → Run → S → S → K → K → Type 0
+abbrev pub Headline : {S K : Type 0} → Rules → Option Words → Status → Run → S → S → K → K → Type 0
 -- `replay`: the replies are those of the plain session from its start; `Usage` never comes then
-Headline (Some Replay) status run source source_now sink sink_now = Ran (transcript fresh) status run
+Headline rules (Some Replay) status run source source_now sink sink_now = Ran (transcript rules fresh) status run
 -- `collab`: the replies are those of a play from its start, in which no world was begun; `Usage` never comes then
-Headline (Some Collab) status run source source_now sink sink_now = Ran (plays.transcript plays.fresh) status run
+Headline rules (Some Collab) status run source source_now sink sink_now = Ran (plays.transcript plays.fresh) status run
 -- words that aren't accepted: nothing is read or written
-Headline None status run source source_now sink sink_now = (status ≡ Usage) × (source_now ≡ source) × (sink_now ≡ sink)
+Headline rules None status run source source_now sink sink_now = (status ≡ Usage) × (source_now ≡ source) × (sink_now ≡ sink)

@@ -1,7 +1,9 @@
 pub mod State
 pub mod Outcomes
+pub mod Refused
 pub mod Start
 pub mod Update
+pub mod Values
 pub mod Asked
 pub mod Session
 pub mod Transcript

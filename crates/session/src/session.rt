@@ -1,51 +1,128 @@
-ghost use Rattle.std.specs.Prelude.{◌≡◌, ◌<◌, List, ℕ, length, IsErr, IfOk, OnOk, OnErr, string_bytes};
+ghost use Rattle.std.specs.Prelude.{◌≡◌, ◌<◌, List, ℕ, false, length, IsErr, IfOk, OnOk, OnErr, string_bytes};
 ghost use Rattle.cm_outside.specs.Lines.{max_line};
+ghost use Rattle.replies.specs.Replies.{reply_text};
+ghost use Rattle.values.specs.Whole.{IsWhole};
+ghost use Rattle.session.specs.Session.{act, declare, declares, left_by, reply_of, IsRefusalText};
 ghost use Rattle.session.specs.State.{fresh};
-ghost use Rattle.session.specs.Transcript.{outcome, after, reply, transcript, transcript_none};
+ghost use Rattle.session.specs.Transcript.{after, outcome, reply};
 
-use crate::lines::outcome_of;
 use crate::outcome::Outcome;
-use crate::started::Started;
-use line_run::Answers;
-use script::{LineError, Refusal, Reply, reply_text};
+use crate::outcomes::outcome_of;
+use names::{Names, declare};
+use registry::Registry;
+use replies::{Answer, Reply, reply_text};
+use requests::{Declaration, Request};
+use script::{LineError, Refusal, line_command};
+use state::State;
 use std::alloc::{AllocError, Global};
 use std::marker::Model;
+use values::{Kit, Meanings};
 
-/// A session: lines start a document, change it and ask for it.
+/// A session: lines declare facets, fields and effects, start a state over them, change it and ask for it.
 #[derive(Drop)]
-pub struct Session {
-    alloc: Global,
-    state: Option<Started>,
+pub struct Session<M: Meanings> {
+    pub(crate) alloc: Global,
+    pub(crate) names: Names,
+    pub(crate) registry: Registry<M>,
+    pub(crate) state: Option<State<M>>,
 }
 
-impl Model for Session {
+impl<M: Meanings> Model for Session<M> {
+    ghost use Rattle.std.specs.Prelude.{IfSome, option_map};
+    ghost use Rattle.facet_slots.specs.Agreement.{IsGrown};
+    ghost use Rattle.facet_slots.specs.Lent.{definitions};
+    ghost use Rattle.facet_slots.specs.Slotted.{Slotted};
+    ghost use Rattle.names.specs.Declaring.{world};
+    ghost use Rattle.session.specs.Outcomes.{plain_state};
     ghost use Rattle.session.specs.State.{PlainSession};
 
     ghost Value = { PlainSession };
 
-    ghost view = { λ s. record { state = s.state } };
+    ghost view = { λ s. record { world = world s.names s.registry; state = option_map plain_state s.state } };
+
+    ghost invariant = { λ s. IfSome s.state (λ (state : Slotted). IsGrown state.setup.defs (definitions s.registry)) };
 }
 
-impl Session {
-    /// A session in which no document was started.
-    pub fn new(alloc: Global) -> Session
-        ensures { result ≡ fresh }
+/// The line that answers with why a line is not carried out. `Err`: out of memory.
+fn refusal_text(alloc: Global, error: LineError) -> Result<String, AllocError>
+    ensures { IfOk result (λ r. IsRefusalText error (string_bytes r)) }
+{
+    match error {
+        LineError::NoMemory => Err(AllocError),
+        LineError::Refused(refusal) => reply_text(alloc, &Reply::No(refusal)),
+    }
+}
+
+impl<M: Meanings> Session<M> {
+    /// A session in which no document was started, with what is declared from the start. `Err`: out of memory.
+    pub fn new(alloc: Global) -> Result<Session<M>, AllocError>
+        ensures { IfOk result (λ s. s ≡ fresh) }
     {
-        Session { alloc, state: None }
+        let names = Names::new(alloc)?;
+        let registry = Registry::new(alloc)?;
+        Ok(Session {
+            alloc,
+            names,
+            registry,
+            state: None,
+        })
     }
 
     /// Does what a line, without its LF, asks for, and gives the reply with its LF. The only error is out of memory.
     /// A refused line changes nothing, and neither does out of memory.
     #[tactic(auto, unfolding(crate::specs::Transcript::after, crate::specs::Transcript::reply))]
-    pub fn line(&mut self, line: &[u8]) -> Result<String, AllocError>
-        ensures reply { IfOk result (λ r. string_bytes r ≡ reply line.now self.old) }
-        ensures after { OnOk result (self.new ≡ after line.now self.old) }
-        ensures refused { IsErr (outcome line.now self.old.state) → self.new ≡ self.old }
+    pub fn line(&mut self, kit: &Kit<M>, line: &[u8]) -> Result<String, AllocError>
+        requires whole { IsWhole M.rules kit.now }
+        ensures reply { IfOk result (λ r. string_bytes r ≡ reply M.rules line.now self.old) }
+        ensures after { OnOk result (self.new ≡ after M.rules line.now self.old) }
+        ensures refused { IsErr (outcome M.rules line.now self.old) → self.new ≡ self.old }
         ensures err { OnErr result (self.new ≡ self.old) }
     {
-        match outcome_of(self.alloc, line, &self.state) {
-            Err(LineError::NoMemory) => Err(AllocError),
-            Err(LineError::Refused(refusal)) => reply_text(self.alloc, &Reply::No(refusal)),
+        match line_command(self.alloc, line) {
+            Err(error) => refusal_text(self.alloc, error),
+            Ok(request) => self.request(kit, request),
+        }
+    }
+
+    /// Does what is asked for.
+    fn request(&mut self, kit: &Kit<M>, request: Request) -> Result<String, AllocError>
+        requires whole { IsWhole M.rules kit.now }
+        ensures reply { IfOk result (λ r. string_bytes r ≡ reply_text (reply_of (act M.rules request self.old))) }
+        ensures after { OnOk result (self.new ≡ left_by self.old (act M.rules request self.old)) }
+        ensures refused { IsErr (act M.rules request self.old) → self.new ≡ self.old }
+        ensures err { OnErr result (self.new ≡ self.old) }
+    {
+        match request {
+            Request::Declare(declaration) => self.declare(&declaration),
+            other => self.carry_out(kit, other),
+        }
+    }
+
+    /// Declares something, whole or not at all. The answer is made first.
+    fn declare(&mut self, declaration: &Declaration) -> Result<String, AllocError>
+        ensures reply { IfOk result (λ r. string_bytes r ≡ reply_text (reply_of (declare M.rules self.old declaration.now))) }
+        ensures after { OnOk result (self.new ≡ left_by self.old (declare M.rules self.old declaration.now)) }
+        ensures refused { IsErr (declare M.rules self.old declaration.now) → self.new ≡ self.old }
+        ensures err { OnErr result (self.new ≡ self.old) }
+    {
+        let done = reply_text(self.alloc, &Reply::Ok(Answer::Nothing))?;
+        match declare(self.alloc, &mut self.registry, &mut self.names, declaration) {
+            Err(error) => refusal_text(self.alloc, error),
+            Ok(()) => Ok(done),
+        }
+    }
+
+    /// Does what is asked for, which declares nothing. The reply is made first.
+    fn carry_out(&mut self, kit: &Kit<M>, request: Request) -> Result<String, AllocError>
+        requires whole { IsWhole M.rules kit.now }
+        requires other { declares request ≡ false }
+        ensures reply { IfOk result (λ r. string_bytes r ≡ reply_text (reply_of (act M.rules request self.old))) }
+        ensures after { OnOk result (self.new ≡ left_by self.old (act M.rules request self.old)) }
+        ensures refused { IsErr (act M.rules request self.old) → self.new ≡ self.old }
+        ensures err { OnErr result (self.new ≡ self.old) }
+    {
+        match outcome_of(self, kit, request) {
+            Err(error) => refusal_text(self.alloc, error),
             Ok(Outcome::Answered(answer)) => reply_text(self.alloc, &Reply::Ok(answer)),
             Ok(Outcome::Changed(answer, state)) => {
                 let reply = reply_text(self.alloc, &Reply::Ok(answer))?;
@@ -58,25 +135,9 @@ impl Session {
     /// The reply to a line of more bytes than a line may have, which changes nothing.
     #[tactic(auto, unfolding(crate::specs::Transcript::after, crate::specs::Transcript::reply, crate::specs::Transcript::outcome, script::specs::Lines::line_command))]
     pub(crate) fn long_line(&self) -> Result<String, AllocError>
-        ensures reply { IfOk result (λ r. (line : List ℕ) → max_line < length line → string_bytes r ≡ reply line self.now) }
-        ensures after { (line : List ℕ) → max_line < length line → self.now ≡ after line self.now }
+        ensures reply { IfOk result (λ r. (line : List ℕ) → max_line < length line → string_bytes r ≡ reply M.rules line self.now) }
+        ensures after { (line : List ℕ) → max_line < length line → self.now ≡ after M.rules line self.now }
     {
         reply_text(self.alloc, &Reply::No(Refusal::LineTooLong))
-    }
-}
-
-impl Answers for Session {
-    ghost replies = { transcript };
-
-    ghost none = { transcript_none };
-
-    #[tactic(auto, using(crate::proofs::Answered::answered))]
-    fn answer(&mut self, line: &[u8]) -> Result<String, AllocError> {
-        self.line(line)
-    }
-
-    #[tactic(auto, using(crate::proofs::Answered::answered))]
-    fn answer_long(&mut self) -> Result<String, AllocError> {
-        self.long_line()
     }
 }
