@@ -1,0 +1,12 @@
+//! Cases of names: each declaring command once on its way, what is predeclared, and each refusal with its values. The crate has
+//! no code of its own.
+#![tactic(auto)]
+
+#[cfg(test)]
+mod accepted;
+#[cfg(test)]
+mod playing;
+#[cfg(test)]
+mod refused;
+#[cfg(test)]
+mod values_refused;
