@@ -3,7 +3,7 @@ ghost use Rattle.std.specs.Prelude.{◌≡◌, OnErr};
 ghost use Rattle.script.specs.Reading.{Gives};
 ghost use Rattle.values.specs.Growth.{IsGrowth};
 ghost use Rattle.names.specs.Declaring.{declared_in, world};
-ghost use Rattle.names.specs.Known.{AreKnown};
+ghost use Rattle.names.specs.Known.{IsKept};
 
 use crate::declare_computed::{declare_compute, declare_from};
 use crate::declare_field::declare_field;
@@ -49,8 +49,7 @@ fn declare_one<M: Meanings>(
 /// Declares something, whole or not at all. It is refused by the first of these that holds: `UnknownName` of the first name in the
 /// order of the fields that isn't declared or is of another sort than its field needs; `NameTaken` of the name to declare; what
 /// the first faulty decoration of a written value is refused as; what the registry refuses, with names in place of ids. After a
-/// refusal, or out of memory, the registry and the names are as before. Where each name stands for what is declared, so it does
-/// after it.
+/// refusal, or out of memory, the registry and the names are as before. What the names and the registry keep, they keep.
 pub fn declare<M: Meanings>(
     alloc: Global,
     registry: &mut Registry<M>,
@@ -61,7 +60,7 @@ pub fn declare<M: Meanings>(
     ensures names_same { OnErr result (names.new ≡ names.old) }
     ensures same { OnErr result (registry.new ≡ registry.old) }
     ensures grows { IsGrowth registry.old registry.new }
-    ensures known { AreKnown names.old registry.old → AreKnown names.new registry.new }
+    ensures kept { IsKept names.old registry.old → IsKept names.new registry.new }
 {
     declare_one(alloc, registry, names, declaration)
 }

@@ -1,7 +1,7 @@
 // The names that are taken from the start.
 ghost use Rattle.std.specs.Prelude.{◌≡◌, ◌++◌, ◌∷◌, [], IfOk, None, OnErr, OnOk};
 ghost use Rattle.std.specs.Str.{chars};
-ghost use Rattle.names.specs.Known.{AreKnown};
+ghost use Rattle.names.specs.Known.{IsKept};
 ghost use Rattle.names.specs.Names.{meaning_of, with_name};
 ghost use Rattle.names.specs.Predeclared.{predeclared_names};
 ghost use Rattle.registry.specs.Predeclared.{predeclared};
@@ -29,7 +29,7 @@ impl Names {
     /// The names of the document, of the selection and of what a registry has from the start. `Err`: out of memory.
     pub fn new(alloc: Global) -> Result<Names, AllocError>
         ensures names { IfOk result (λ names. names ≡ predeclared_names) }
-        ensures known { IfOk result (λ names. AreKnown names predeclared) }
+        ensures kept { IfOk result (λ names. IsKept names predeclared) }
     {
         let mut names = Names::empty(alloc);
         names.take(alloc, "doc", Named::Doc)?;

@@ -1,5 +1,5 @@
-//! Cases of names: each declaring command once on its way, what is predeclared, and each refusal with its values. The crate has
-//! no code of its own.
+//! Cases of names: each declaring command once on its way, what is predeclared, each refusal with its values, and specs with ids
+//! in place of names. The crate has no code of its own.
 #![tactic(auto)]
 
 #[cfg(test)]
@@ -8,5 +8,7 @@ mod accepted;
 mod playing;
 #[cfg(test)]
 mod refused;
+#[cfg(test)]
+mod specs;
 #[cfg(test)]
 mod values_refused;
