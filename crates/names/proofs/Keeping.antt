@@ -1,0 +1,145 @@
+-- Each name stands for what is declared, and what has to have a name has one, after a declaration too.
+use Rattle.std.proofs.Common.{◌≡◌, ℕ, ◌+◌, ◌<◌, ◌≤◌, List, [], ◌∷◌, ◌++◌, length, set, get_or, Bool, true, false, Option, Some, None, is_none, Result, Ok, Err, ⊤, ⊥, refl, sym, ap, ◌∙◌, subst, arith, true≢false, option_and_then, slice_get, if◌then◌else◌, is_ok}
+use Rattle.std.specs.Result.{result_unwrap_or}
+use Rattle.std.specs.List.{AllByRecursion}
+use Rattle.std.proofs.lemmas.List.{length-append, append-nil}
+use Rattle.std.proofs.lemmas.Option.{slice_get_within, slice_get-get_or}
+use Rattle.ext_tree.proofs.Done.{all-append}
+use Rattle.configuration.specs.declared.field_def.FieldDef.{FieldDef}
+use Rattle.configuration.specs.declared.node_def.NodeDef.{NodeDef}
+use Rattle.ext_tree.specs.declared.node.Node.{Node as Extension}
+use Rattle.ext_tree.specs.declared.node.Node.TheVariants as tree
+use Rattle.values.specs.declared.val.Val.{Val}
+use Rattle.values.specs.Declarations.{Declarations, with_field, with_node, with_pair}
+use Rattle.values.specs.Growth.{IsGrowth, Keeps}
+use Rattle.values.specs.Rules.{Rules}
+use Rattle.registry.specs.declared.provided.Provided.{Provided}
+use Rattle.registry.specs.declared.registry_error.RegistryError.{RegistryError}
+use Rattle.registry.specs.Refusals.{first_of}
+use Rattle.registry.specs.WholeFields.{with_inputs_from, with_input_from, with_whole_field}
+use Rattle.registry.proofs.Providing.{inputs-length}
+use Rattle.requests.specs.declared.declaration.Declaration.{Declaration}
+use Rattle.requests.specs.declared.declaration.Declaration.TheVariants as declare
+use Rattle.script.specs.declared.refusal.Refusal.{Refusal}
+use Rattle.script.specs.Reading.{◌>>=◌}
+use Rattle.script.specs.Refused.{unless}
+use Rattle.names.specs.Declaring.{World, world, declared_in, field_def, next_node, passing, with_thing}
+use Rattle.names.proofs.Naming.{named_compartment, named_effect, named_facet, named_field, named_node, named_pair}
+use Rattle.names.specs.Known.{AreKnown, AreNamed, IsKept, IsKnown}
+use Rattle.names.specs.Names.{NameList, with_name}
+use Rattle.names.specs.RegistryRefusals.{registry_refusal}
+use Rattle.names.specs.declared.named.Named.{Named}
+use Rattle.names.specs.declared.named.Named.TheVariants.{Doc, Selection, Compartment, Effect, Facet, Field, Node}
+
+-- what a list kept has its place still
+still_there : {X : Type 0} (old new : List X) (id : ℕ) → Keeps old new → id < length old → id < length new
+still_there [] new id keeps h = absurd (omega (arith, h))
+still_there (x ∷ old) new id keeps h = slice_get_within new id (get_or (x ∷ old) id x) (keeps id (get_or (x ∷ old) id x) (slice_get-get_or (x ∷ old) id x h))
+
+-- what was known is known after growth
+grown : (old new : Declarations) (thing : Named) → IsGrowth old new → IsKnown old thing → IsKnown new thing
+grown old new Doc g k = tt
+grown old new Selection g k = tt
+grown old new (Compartment id) g k = let le = g.compartments in omega (arith, le, k)
+grown old new (Effect id) g k = still_there old.maps new.maps id g.maps k
+grown old new (Facet id) g k = still_there old.facets new.facets id g.facets k
+grown old new (Field field node) g k = (still_there old.fields new.fields field g.fields k.0, still_there old.nodes new.nodes node g.nodes k.1)
+grown old new (Node node) g k = still_there old.nodes new.nodes node g.nodes k
+
+all_grown : (names : NameList) (old new : Declarations) → IsGrowth old new → AreKnown names old → AreKnown names new
+all_grown [] old new g known = tt
+all_grown (e ∷ names) old new g known = (grown old new e.1 g known.0, all_grown names old new g known.1)
+
+-- what a step leads to: the names before, and at most one more, which stands for what is declared; and what has to have a name has one
+record Steps (w v : World) : Type 0 where
+  pub added : NameList
+  pub names_are : v.names ≡ w.names ++ added
+  pub are_known : AreKnown added v.declared
+  pub are_named : AreNamed w.names w.declared → AreNamed v.names v.declared
+
+-- what holds however it was read on
+read_on : {A B P : Type 0} (r : Result A Refusal) (f : A → Result B Refusal) (y : B) → ((x : A) → f x ≡ Ok y → P) → (r >>= f) ≡ Ok y → P
+read_on (Ok x) f y then h = then x h
+read_on (Err e) f y then h = absurd (true≢false (sym (ap is_ok h)))
+
+same : {A : Type 0} (x y : A) → Ok {T = A} {E = Refusal} x ≡ Ok y → x ≡ y
+same x y h = ap (λ r. result_unwrap_or r x) h
+
+was_passed : (refusal : Option Refusal) (next declared : Declarations) → unless refusal next ≡ Ok declared → declared ≡ next
+was_passed None next declared h = sym (same next declared h)
+was_passed (Some r) next declared h = absurd (true≢false (sym (ap is_ok h)))
+
+one_more : (w : World) (name : List ℕ) (thing : Named) (next : Declarations) → IsKnown next thing → (AreNamed w.names w.declared → AreNamed (with_name w.names name thing) next) → Steps w (world (with_name w.names name thing) next)
+one_more w name thing next known named = record { added = (name, thing) ∷ []; names_are = refl; are_known = (known, tt); are_named = named }
+
+-- a declaration with a name
+named_next : (w v : World) (name : List ℕ) (thing : Named) (ids : ℕ → List ℕ) (rs : List (Option RegistryError)) (next : Declarations) → IsKnown next thing → (AreNamed w.names w.declared → AreNamed (with_name w.names name thing) next)
+    → with_thing w name thing ids rs next ≡ Ok v → Steps w v
+named_next w v name thing ids rs next known named h = on (passing ids (first_of rs) next) refl h where
+  on : (r : Result Declarations Refusal) → passing ids (first_of rs) next ≡ r → (r >>= λ declared. Ok (world (with_name w.names name thing) declared)) ≡ Ok v → Steps w v
+  on (Ok declared) is h =
+      subst (Steps w) (ap (λ d. world (with_name w.names name thing) d) (sym (was_passed (option_and_then (registry_refusal ids) (first_of rs)) next declared is)) ∙ same (world (with_name w.names name thing) declared) v h)
+      (one_more w name thing next known named)
+  on (Err e) is h = absurd (true≢false (sym (ap is_ok h)))
+
+-- the next place of a list
+next_place : {X : Type 0} (xs : List X) (x : X) → length xs < length (xs ++ x ∷ [])
+next_place xs x = let e = length-append xs (x ∷ []) in omega (arith, e)
+
+-- inputs from a field are no fields
+fields_same : (d : Declarations) (field : ℕ) (ps : List Provided) → length (with_inputs_from d field ps).fields ≡ length d.fields
+fields_same d field [] = refl
+fields_same d field (p ∷ ps) = fields_same (with_input_from d field p) field ps
+
+field_known : (d : Declarations) (def : FieldDef) (ps : List Provided) → IsKnown (with_whole_field d def ps) (Field (length d.fields) (length d.nodes + length ps))
+field_known d def ps =
+    let made = with_inputs_from (with_field d def) (length d.fields) ps in
+    let e = fields_same (with_field d def) (length d.fields) ps in
+    let f = next_place d.fields def in
+    let g = inputs-length (with_field d def) (length d.fields) ps in
+    let h = length-append made.nodes (tree.Field (length d.fields) ∷ []) in
+    (omega (arith, e, f), omega (arith, g, h))
+
+paired : (w v : World) (effect back : ℕ) (ids : ℕ → List ℕ) (rs : List (Option RegistryError)) → (passing ids (first_of rs) (with_pair w.declared effect back) >>= λ declared. Ok (world w.names declared)) ≡ Ok v → Steps w v
+paired w v effect back ids rs h = on (passing ids (first_of rs) (with_pair w.declared effect back)) refl h where
+  start : Steps w (world w.names (with_pair w.declared effect back))
+  start = record { added = []; names_are = sym (append-nil w.names); are_known = tt; are_named = λ n. named_pair w.names w.declared effect back n }
+
+  on : (r : Result Declarations Refusal) → passing ids (first_of rs) (with_pair w.declared effect back) ≡ r → (r >>= λ declared. Ok (world w.names declared)) ≡ Ok v → Steps w v
+  on (Ok declared) is h =
+      subst (Steps w) (ap (λ d. world w.names d) (sym (was_passed (option_and_then (registry_refusal ids) (first_of rs)) (with_pair w.declared effect back) declared is)) ∙ same (world w.names declared) v h) start
+  on (Err e) is h = absurd (true≢false (sym (ap is_ok h)))
+
+-- a declaration of a node
+node_next : (w v : World) (name : List ℕ) (ids : ℕ → List ℕ) (rs : List (Option RegistryError)) (node : Extension) (def : NodeDef Val) → with_thing w name (next_node w) ids rs (with_node w.declared node def) ≡ Ok v → Steps w v
+node_next w v name ids rs node def h =
+    named_next w v name (next_node w) ids rs (with_node w.declared node def) (next_place w.declared.nodes node) (λ n. named_node w.names name w.declared node def n) h
+
+steps : (rules : Rules) (w v : World) (declaration : Declaration) → declared_in rules w declaration ≡ Ok v → Steps w v
+steps rules w v (declare.Effect e) h = read_on _ _ v (λ free h. named_next w v _ _ _ _ _ (next_place w.declared.maps e.map) (λ n. named_effect w.names e.name w.declared e.map n) h) h
+steps rules w v (declare.Inverse i) h = read_on _ _ v (λ effect h. read_on _ _ v (λ back h. paired w v effect back _ _ h) h) h
+steps rules w v (declare.Facet f) h =
+    read_on _ _ v (λ enables h. read_on _ _ v (λ free h. named_next w v _ _ _ _ _ (next_place w.declared.facets f.def) (λ n. named_facet w.names f.name w.declared f.def enables n) h) h) h
+steps rules w v (declare.Field f) h =
+    read_on _ _ v
+    (λ things h. read_on _ _ v
+        (λ free h.
+            named_next w v _ _ _ _ _ (field_known w.declared (field_def f things.reads things.listens) things.provided)
+            (λ n. named_field w.names f.name w.declared (field_def f things.reads things.listens) things.provided n) h) h) h
+steps rules w v (declare.Compartment c) h = read_on _ _ v (λ free h. named_next w v _ _ _ _ _ (omega arith) (λ n. named_compartment w.names c.name w.declared n) h) h
+steps rules w v (declare.Input i) h = read_on _ _ v (λ facet h. read_on _ _ v (λ free h. read_on _ _ v (λ value h. node_next w v _ _ _ _ _ h) h) h) h
+steps rules w v (declare.Compute c) h = read_on _ _ v (λ facet h. read_on _ _ v (λ rs h. read_on _ _ v (λ free h. node_next w v _ _ _ _ _ h) h) h) h
+steps rules w v (declare.From f) h = read_on _ _ v (λ facet h. read_on _ _ v (λ field h. read_on _ _ v (λ free h. node_next w v _ _ _ _ _ h) h) h) h
+steps rules w v (declare.Init i) h = read_on _ _ v (λ field h. read_on _ _ v (λ free h. read_on _ _ v (λ value h. node_next w v _ _ _ _ _ h) h) h) h
+steps rules w v (declare.Group g) h = read_on _ _ v (λ of h. read_on _ _ v (λ free h. node_next w v _ _ _ _ _ h) h) h
+steps rules w v (declare.Prec p) h = read_on _ _ v (λ of h. read_on _ _ v (λ free h. node_next w v _ _ _ _ _ h) h) h
+steps rules w v (declare.Slot s) h = read_on _ _ v (λ compartment h. read_on _ _ v (λ of h. read_on _ _ v (λ free h. node_next w v _ _ _ _ _ h) h) h) h
+
+-- what the names and the registry keep
+pub still_kept : (rules : Rules) (w v : World) (declaration : Declaration) → declared_in rules w declaration ≡ Ok v → IsGrowth w.declared v.declared → IsKept w.names w.declared → IsKept v.names v.declared
+still_kept rules w v declaration h grows kept =
+    let s = steps rules w v declaration h in
+    record {
+      are_known = subst (λ names. AreKnown names v.declared) (sym s.names_are) (all-append (λ e. IsKnown v.declared e.1) w.names s.added (all_grown w.names w.declared v.declared grows kept.are_known) s.are_known);
+      are_named = s.are_named kept.are_named;
+    }

@@ -1,0 +1,56 @@
+-- What a declaration comes to, by what the registry answers.
+use Rattle.std.proofs.Common.{◌≡◌, ◌≢◌, ℕ, List, [], ◌∷◌, ◌++◌, length, take, map, Option, Some, None, Result, Ok, Err, IsOk, IsErr, IfErr, OnOk, OnErr, ⊤, refl, sym, ap, ◌∙◌, is_some, true≢false}
+use Rattle.values.specs.Declarations.{Declarations}
+use Rattle.registry.specs.declared.registry_error.RegistryError.{RegistryError}
+use Rattle.registry.specs.declared.registry_error.RegistryError.TheVariants as refused
+use Rattle.registry.specs.Refusals.{first_of, IsRefused, Passes}
+use Rattle.script.specs.declared.refusal.Refusal.{Refusal}
+use Rattle.script.specs.declared.refusal.LineError.{LineError}
+use Rattle.script.specs.declared.refusal.LineError.TheVariants as errors
+use Rattle.script.specs.Reading.{◌>>=◌, Fails, Gives}
+use Rattle.script.specs.Refused.{unless}
+use Rattle.names.specs.declared.named.Named.{Named}
+use Rattle.names.specs.Names.{NameList, with_name}
+use Rattle.names.specs.RegistryRefusals.{IsWritten, registry_refusal}
+use Rattle.names.specs.Declaring.{World, world, passing, with_thing}
+
+-- the first refusal is the one that is written
+passes_on : (ids : ℕ → List ℕ) (rs : List (Option RegistryError)) (next : Declarations) (error : RegistryError) (r : Refusal)
+    → IsRefused rs error → registry_refusal ids error ≡ Some r → passing ids (first_of rs) next ≡ Err r
+passes_on ids rs next refused.NoMemory r h w = absurd (true≢false (sym (ap is_some w)))
+passes_on ids rs next (refused.UnknownId sort id) r h w = ap (λ f. passing ids f next) h ∙ ap (λ o. unless o next) w
+passes_on ids rs next (refused.UnknownRule sort number) r h w = ap (λ f. passing ids f next) h ∙ ap (λ o. unless o next) w
+passes_on ids rs next (refused.StaticFacet id) r h w = ap (λ f. passing ids f next) h ∙ ap (λ o. unless o next) w
+passes_on ids rs next (refused.WrongShape id) r h w = ap (λ f. passing ids f next) h ∙ ap (λ o. unless o next) w
+passes_on ids rs next (refused.AlreadyPlaced id) r h w = ap (λ f. passing ids f next) h ∙ ap (λ o. unless o next) w
+passes_on ids rs next (refused.BadInverse one back) r h w = ap (λ f. passing ids f next) h ∙ ap (λ o. unless o next) w
+passes_on ids rs next (refused.InverseTaken id) r h w = ap (λ f. passing ids f next) h ∙ ap (λ o. unless o next) w
+passes_on ids rs next (refused.TooMany kind) r h w = ap (λ f. passing ids f next) h ∙ ap (λ o. unless o next) w
+
+-- what is declared, or the refusal
+pub passed : {T : Type 0} (result : Result ⊤ LineError) (outcome : Result T RegistryError) (ids : ℕ → List ℕ) (rs : List (Option RegistryError)) (next declared : Declarations)
+    → OnOk outcome (declared ≡ next) → OnOk outcome (Passes rs) → IfErr outcome (IsRefused rs) → OnOk result (IsOk outcome) → OnErr result (IsErr outcome) → IfErr result (λ e. IfErr outcome (λ error. IsWritten ids error e))
+    → Gives (λ x. declared) result (passing ids (first_of rs) next)
+passed (Ok tt) (Ok t) ids rs next declared is passes refuses done failed written = ap (λ f. passing ids f next) passes ∙ ap Ok (sym is)
+passed (Ok tt) (Err error) ids rs next declared is passes refuses done failed written = absurd (true≢false (sym done))
+passed (Err e) (Ok t) ids rs next declared is passes refuses done failed written = absurd (true≢false (sym failed))
+passed (Err errors.NoMemory) (Err error) ids rs next declared is passes refuses done failed written = tt
+passed (Err (errors.Refused r)) (Err error) ids rs next declared is passes refuses done failed written = passes_on ids rs next error r refuses written
+
+and_then : (result : Result ⊤ LineError) (declared : Declarations) (read : Result Declarations Refusal) (names after : NameList) → Gives (λ x. declared) result read → OnOk result (after ≡ names)
+    → Gives (λ x. world after declared) result (read >>= λ d. Ok (world names d))
+and_then (Ok tt) declared read names after h is = ap (λ r. r >>= λ d. Ok (world names d)) h ∙ ap (λ n. Ok (world n declared)) (sym is)
+and_then (Err errors.NoMemory) declared read names after h is = tt
+and_then (Err (errors.Refused r)) declared read names after h is = ap (λ x. x >>= λ d. Ok (world names d)) h
+
+-- and the names with it
+pub settles : {T : Type 0} (result : Result ⊤ LineError) (outcome : Result T RegistryError) (ids : ℕ → List ℕ) (rs : List (Option RegistryError)) (next declared : Declarations) (names after : NameList)
+    → OnOk outcome (declared ≡ next) → OnOk outcome (Passes rs) → IfErr outcome (IsRefused rs) → OnOk result (IsOk outcome) → OnErr result (IsErr outcome) → IfErr result (λ e. IfErr outcome (λ error. IsWritten ids error e))
+    → OnOk result (after ≡ names) → Gives (λ x. world after declared) result (passing ids (first_of rs) next >>= λ d. Ok (world names d))
+settles result outcome ids rs next declared names after is passes refuses done failed written named =
+    and_then result declared (passing ids (first_of rs) next) names after (passed result outcome ids rs next declared is passes refuses done failed written) named
+
+-- a name that was added is gone
+pub taken_back : (names : NameList) (e : List ℕ × Named) → take (length names) (names ++ e ∷ []) ≡ names
+taken_back [] e = refl
+taken_back (n ∷ names) e = ap (λ ns. n ∷ ns) (taken_back names e)

@@ -1,0 +1,229 @@
+-- What each declaring command makes of the registry and the names, or the first refusal: a name that is not declared or of
+-- another sort, in the order of the fields; a name that is taken; what a written value is refused as; what the registry refuses,
+-- with ids as the names that the command has for them.
+use Rattle.std.specs.Prelude.{ℕ, ◌+◌, List, [], ◌∷◌, length, Bool, true, false, ◌&&◌, ◌==◌, Option, Some, None, Result, Ok, Err, if◌then◌else◌, option_and_then, slice_get, position}
+use Rattle.std.specs.Option.{option_map_or}
+use Rattle.cm_plain.specs.Form.{fits}
+use Rattle.configuration.specs.declared.dependency.Dependency.{Dependency}
+use Rattle.configuration.specs.declared.facet_def.FacetDef.{FacetDef}
+use Rattle.configuration.specs.declared.field_def.FieldDef.{FieldDef}
+use Rattle.configuration.specs.declared.node_def.NodeDef.{NodeDef}
+use Rattle.configuration.specs.declared.node_def.NodeDef.TheVariants as defs
+use Rattle.ext_tree.specs.declared.node.Node.TheVariants as nodes
+use Rattle.values.specs.declared.val.Val.{Val}
+use Rattle.values.specs.Declarations.{Declarations, with_compartment, with_effect, with_facet, with_node, with_pair}
+use Rattle.values.specs.Rules.{Rules}
+use Rattle.registry.specs.declared.provided.Provided.{Provided}
+use Rattle.registry.specs.declared.registry_error.RegistryError.{RegistryError}
+use Rattle.registry.specs.Refusals.{first_of, is_rule, compartment_refusals, compute_n_refusals, compute_refusals, effect_refusals, facet_refusals, from_refusals, group_refusals, init_refusals, input_refusals, pair_refusals, prec_refusals, slot_refusals}
+use Rattle.registry.specs.WholeFields.{whole_field_refusals, with_whole_field}
+use Rattle.requests.specs.declared.computed_declarations.ComputeDeclaration.{ComputeDeclaration}
+use Rattle.requests.specs.declared.computed_declarations.FromDeclaration.{FromDeclaration}
+use Rattle.requests.specs.declared.declaration.Declaration.{Declaration}
+use Rattle.requests.specs.declared.declaration.Declaration.TheVariants as declare
+use Rattle.requests.specs.declared.effect_declarations.EffectDeclaration.{EffectDeclaration}
+use Rattle.requests.specs.declared.effect_declarations.InverseDeclaration.{InverseDeclaration}
+use Rattle.requests.specs.declared.extension_declarations.CompartmentDeclaration.{CompartmentDeclaration}
+use Rattle.requests.specs.declared.extension_declarations.GroupDeclaration.{GroupDeclaration}
+use Rattle.requests.specs.declared.extension_declarations.PrecDeclaration.{PrecDeclaration}
+use Rattle.requests.specs.declared.extension_declarations.SlotDeclaration.{SlotDeclaration}
+use Rattle.requests.specs.declared.facet_declaration.FacetDeclaration.{FacetDeclaration}
+use Rattle.requests.specs.declared.field_declaration.ProvidedDeclaration.{ProvidedDeclaration}
+use Rattle.requests.specs.declared.field_declaration.FieldDeclaration.{FieldDeclaration}
+use Rattle.requests.specs.declared.value_declarations.InitDeclaration.{InitDeclaration}
+use Rattle.requests.specs.declared.value_declarations.InputDeclaration.{InputDeclaration}
+use Rattle.names.specs.Names.{NameList, with_name, as_effect, as_compartment, as_facet, as_field, as_node, as_read, found, all_found, each_of, is_free}
+use Rattle.names.specs.Sets.{value_of}
+use Rattle.names.specs.declared.named.Named.{Named}
+use Rattle.names.specs.declared.named.Named.TheVariants.{Compartment, Effect, Facet, Field, Node}
+use Rattle.script.specs.declared.refusal.Refusal.{Refusal}
+use Rattle.script.specs.Reading.{◌>>=◌}
+use Rattle.script.specs.Refused.{unless}
+use Rattle.names.specs.RegistryRefusals.{registry_refusal}
+
+-- the names, and what is declared
+pub record World : Type 0 where
+  pub names : NameList
+  pub declared : Declarations
+
+-- the names and the declarations together
+abbrev pub world : NameList → Declarations → World
+world names declared = record { names = names; declared = declared }
+
+-- what is declared next, unless the registry refuses it; then ids are written by these names
+abbrev pub passing : (ℕ → List ℕ) → Option RegistryError → Declarations → Result Declarations Refusal
+passing names refusal next = unless (option_and_then (registry_refusal names) refusal) next
+
+-- with the next name for a thing, and what is declared next, unless the registry refuses it
+abbrev pub with_thing : World → List ℕ → Named → (ℕ → List ℕ) → List (Option RegistryError) → Declarations → Result World Refusal
+with_thing w name thing names rs next =
+    passing names (first_of rs) next >>= λ declared. Ok (world (with_name w.names name thing) declared)
+
+-- `effect`
+abbrev pub effect_in : Rules → World → EffectDeclaration → Result World Refusal
+effect_in rules w e = do
+  free ← is_free w.names e.name
+  with_thing w e.name (Effect (length w.declared.maps)) (λ id. e.name) (effect_refusals rules w.declared e.map) (with_effect w.declared e.map)
+
+-- which of two names an effect kind has, of which the first one has this id
+abbrev pub one_of : ℕ → List ℕ → List ℕ → ℕ → List ℕ
+one_of effect first second id = if id == effect then first else second
+
+-- `inverse`
+abbrev pub inverse_in : World → InverseDeclaration → Result World Refusal
+inverse_in w i = do
+  effect ← found as_effect w.names i.effect
+  back ← found as_effect w.names i.back
+  declared ← passing (one_of effect i.effect i.back) (first_of (pair_refusals w.declared effect back)) (with_pair w.declared effect back)
+  Ok (world w.names declared)
+
+-- `facet`
+abbrev pub facet_in : Rules → World → FacetDeclaration → Result World Refusal
+facet_in rules w f = do
+  enables ← all_found as_node w.names f.enables
+  free ← is_free w.names f.name
+  with_thing w f.name (Facet (length w.declared.facets)) (λ id. f.name) (facet_refusals rules w.declared f.def enables) (with_facet w.declared f.def enables)
+
+-- an input that a field provides
+abbrev pub provided_in : NameList → ProvidedDeclaration → Result Provided Refusal
+provided_in names p = do
+  facet ← found as_facet names p.facet
+  Ok (record { facet = facet; rule = p.rule })
+
+-- what a field provides
+abbrev pub all_provided : NameList → List ProvidedDeclaration → Result (List Provided) Refusal
+all_provided names ps = each_of (provided_in names) ps
+
+-- the name of a facet among those that a field provides inputs of, and else the field's own
+abbrev pub provided_name : List ℕ → List ProvidedDeclaration → List Provided → ℕ → List ℕ
+provided_name own ps qs id = option_map_or (λ (p : ProvidedDeclaration). p.facet) (option_and_then (slice_get ps) (position (λ (q : Provided). q.facet == id) qs)) own
+
+abbrev pub field_def : FieldDeclaration → List Dependency → List ℕ → FieldDef
+field_def f rs listens = record { create = f.rules.create; update = f.rules.update; compare = f.rules.compare; reads = rs; listens = listens }
+
+-- whether what a creator gives is of the shape that an updater takes
+abbrev pub creator_fits : Rules → (create update : ℕ) → Bool
+creator_fits rules create update =
+    is_rule rules.creators create && (is_rule rules.updaters update && fits (rules.create_output create) (rules.update_shape update))
+
+abbrev pub name_among : (creator_fits : Bool) → List ℕ → List ProvidedDeclaration → List Provided → ℕ → List ℕ
+name_among false own ps qs id = own
+name_among true own ps qs id = provided_name own ps qs id
+
+-- the name of what has a wrong shape: the field that is to be declared, where its creator doesn't fit; else a facet
+abbrev pub field_names : Rules → FieldDeclaration → List Provided → ℕ → List ℕ
+field_names rules f ps = name_among (creator_fits rules f.rules.create f.rules.update) f.name f.names.provides ps
+
+-- what the names of a field stand for
+pub record FieldThings : Type 0 where
+  pub reads : List Dependency
+  pub listens : List ℕ
+  pub provided : List Provided
+
+abbrev pub field_things : NameList → FieldDeclaration → Result FieldThings Refusal
+field_things names f = do
+  rs ← all_found as_read names f.names.reads
+  listens ← all_found as_effect names f.names.listens
+  provided ← all_provided names f.names.provides
+  Ok (record { reads = rs; listens = listens; provided = provided })
+
+-- a field whose names stand for these things
+abbrev pub field_with : Rules → World → FieldDeclaration → FieldThings → Result World Refusal
+field_with rules w f t =
+    with_thing w f.name (Field (length w.declared.fields) (length w.declared.nodes + length t.provided)) (field_names rules f t.provided)
+    (whole_field_refusals rules w.declared (field_def f t.reads t.listens) t.provided) (with_whole_field w.declared (field_def f t.reads t.listens) t.provided)
+
+-- `field`
+abbrev pub field_in : Rules → World → FieldDeclaration → Result World Refusal
+field_in rules w f = do
+  things ← field_things w.names f
+  free ← is_free w.names f.name
+  field_with rules w f things
+
+-- `compartment`
+abbrev pub compartment_in : World → CompartmentDeclaration → Result World Refusal
+compartment_in w c = do
+  free ← is_free w.names c.name
+  with_thing w c.name (Compartment w.declared.compartments) (λ id. c.name) (compartment_refusals w.declared) (with_compartment w.declared)
+
+-- the next node
+abbrev pub next_node : World → Named
+next_node w = Node (length w.declared.nodes)
+
+-- `input`
+abbrev pub input_in : Rules → World → InputDeclaration → Result World Refusal
+input_in rules w i = do
+  facet ← found as_facet w.names i.facet
+  free ← is_free w.names i.name
+  value ← value_of i.value
+  with_thing w i.name (next_node w) (λ id. i.facet) (input_refusals rules w.declared facet value) (with_node w.declared (nodes.Input facet) (defs.Of value))
+
+-- refusals of a computed input, or of several
+abbrev pub computed_refusals : Rules → Declarations → (many : Bool) → (facet rule : ℕ) → List Dependency → List (Option RegistryError)
+computed_refusals rules d false facet rule rs = compute_refusals rules d facet rule rs
+computed_refusals rules d true facet rule rs = compute_n_refusals rules d facet rule rs
+
+abbrev pub computed_def : (many : Bool) → ℕ → List Dependency → NodeDef Val
+computed_def false rule rs = defs.Compute rule rs
+computed_def true rule rs = defs.ComputeN rule rs
+
+-- `compute`
+abbrev pub compute_in : Rules → World → ComputeDeclaration → Result World Refusal
+compute_in rules w c = do
+  facet ← found as_facet w.names c.facet
+  rs ← all_found as_read w.names c.deps
+  free ← is_free w.names c.name
+  with_thing w c.name (next_node w) (λ id. c.facet) (computed_refusals rules w.declared c.many facet c.rule rs) (with_node w.declared (nodes.Input facet) (computed_def c.many c.rule rs))
+
+-- `from`
+abbrev pub from_in : Rules → World → FromDeclaration → Result World Refusal
+from_in rules w f = do
+  facet ← found as_facet w.names f.facet
+  field ← found as_field w.names f.field
+  free ← is_free w.names f.name
+  with_thing w f.name (next_node w) (λ id. f.facet) (from_refusals rules w.declared facet field f.rule) (with_node w.declared (nodes.Input facet) (defs.From field f.rule))
+
+-- `init`
+abbrev pub init_in : Rules → World → InitDeclaration → Result World Refusal
+init_in rules w i = do
+  field ← found as_field w.names i.field
+  free ← is_free w.names i.name
+  value ← value_of i.value
+  with_thing w i.name (next_node w) (λ id. i.field) (init_refusals rules w.declared field value) (with_node w.declared (nodes.Init field) (defs.Init value))
+
+-- `group`
+abbrev pub group_in : World → GroupDeclaration → Result World Refusal
+group_in w g = do
+  of ← all_found as_node w.names g.of
+  free ← is_free w.names g.name
+  with_thing w g.name (next_node w) (λ id. g.name) (group_refusals w.declared of) (with_node w.declared (nodes.Group of) defs.Branch)
+
+-- `prec`
+abbrev pub prec_in : World → PrecDeclaration → Result World Refusal
+prec_in w p = do
+  of ← found as_node w.names p.of
+  free ← is_free w.names p.name
+  with_thing w p.name (next_node w) (λ id. p.name) (prec_refusals w.declared of) (with_node w.declared (nodes.Prec p.at of) defs.Branch)
+
+-- `slot`
+abbrev pub slot_in : World → SlotDeclaration → Result World Refusal
+slot_in w s = do
+  compartment ← found as_compartment w.names s.compartment
+  of ← found as_node w.names s.of
+  free ← is_free w.names s.name
+  with_thing w s.name (next_node w) (λ id. s.name) (slot_refusals w.declared compartment of) (with_node w.declared (nodes.Slot compartment of) defs.Branch)
+
+-- the names and what is declared after a declaration, or its first refusal
+abbrev pub declared_in : Rules → World → Declaration → Result World Refusal
+declared_in rules w (declare.Effect e) = effect_in rules w e
+declared_in rules w (declare.Inverse i) = inverse_in w i
+declared_in rules w (declare.Facet f) = facet_in rules w f
+declared_in rules w (declare.Field f) = field_in rules w f
+declared_in rules w (declare.Compartment c) = compartment_in w c
+declared_in rules w (declare.Input i) = input_in rules w i
+declared_in rules w (declare.Compute c) = compute_in rules w c
+declared_in rules w (declare.From f) = from_in rules w f
+declared_in rules w (declare.Init i) = init_in rules w i
+declared_in rules w (declare.Group g) = group_in w g
+declared_in rules w (declare.Prec p) = prec_in w p
+declared_in rules w (declare.Slot s) = slot_in w s

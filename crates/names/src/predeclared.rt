@@ -1,0 +1,66 @@
+// The names that are taken from the start.
+ghost use Rattle.std.specs.Prelude.{◌≡◌, ◌++◌, ◌∷◌, [], IfOk, None, OnErr, OnOk};
+ghost use Rattle.std.specs.Str.{chars};
+ghost use Rattle.names.specs.Known.{IsKept};
+ghost use Rattle.names.specs.Names.{meaning_of, with_name};
+ghost use Rattle.names.specs.Predeclared.{predeclared_names};
+ghost use Rattle.registry.specs.Predeclared.{predeclared};
+
+use crate::named::Named;
+use crate::names::Names;
+use cm_plain::Str;
+use registry::{
+    ALLOW_MULTIPLE_SELECTIONS, CHANGE_FILTER, DECORATIONS, FILTER_DATA, HISTORY, HISTORY_CONFIG,
+    HISTORY_NODE, NOTE, READ_ONLY, SAVE_SEPARATOR, TAB_SIZE, TRANSACTION_EXTENDER,
+    TRANSACTION_FILTER,
+};
+use std::alloc::{AllocError, Global};
+
+impl Names {
+    /// Adds a name that is no other's.
+    fn take(&mut self, alloc: Global, name: &str, thing: Named) -> Result<(), AllocError>
+        requires { meaning_of (chars name.now) self.old ≡ None }
+        ensures { OnOk result (self.new ≡ with_name self.old (chars name.now) thing) }
+    {
+        let name = Str::of_text(alloc, name)?;
+        self.add(alloc, &name, thing)
+    }
+
+    /// The names of the document, of the selection and of what a registry has from the start. `Err`: out of memory.
+    pub fn new(alloc: Global) -> Result<Names, AllocError>
+        ensures names { IfOk result (λ names. names ≡ predeclared_names) }
+        ensures kept { IfOk result (λ names. IsKept names predeclared) }
+    {
+        let mut names = Names::empty(alloc);
+        names.take(alloc, "doc", Named::Doc)?;
+        names.take(alloc, "selection", Named::Selection)?;
+        names.take(alloc, "saveSeparator", Named::Facet(SAVE_SEPARATOR))?;
+        names.take(
+            alloc,
+            "allowMultipleSelections",
+            Named::Facet(ALLOW_MULTIPLE_SELECTIONS),
+        )?;
+        names.take(alloc, "tabSize", Named::Facet(TAB_SIZE))?;
+        names.take(alloc, "readOnly", Named::Facet(READ_ONLY))?;
+        names.take(alloc, "changeFilter", Named::Facet(CHANGE_FILTER))?;
+        names.take(alloc, "transactionFilter", Named::Facet(TRANSACTION_FILTER))?;
+        names.take(
+            alloc,
+            "transactionExtender",
+            Named::Facet(TRANSACTION_EXTENDER),
+        )?;
+        names.take(alloc, "decorations", Named::Facet(DECORATIONS))?;
+        names.take(alloc, "historyConfig", Named::Facet(HISTORY_CONFIG))?;
+        names.take(alloc, "filterData", Named::Facet(FILTER_DATA))?;
+        names.take(alloc, "note", Named::Effect(NOTE))?;
+        names.take(
+            alloc,
+            "history",
+            Named::Field {
+                field: HISTORY,
+                node: HISTORY_NODE,
+            },
+        )?;
+        Ok(names)
+    }
+}

@@ -1,0 +1,92 @@
+// Specs of a transaction with ids in place of names.
+ghost use Rattle.std.specs.Prelude.{◌≡◌};
+ghost use Rattle.script.specs.Reading.{Gives};
+ghost use Rattle.names.specs.Names.{each_of};
+ghost use Rattle.names.specs.Transacting.{effect_of, spec_of, specs_of, with_effects};
+
+use crate::finding::{Compartments, Effects, Nodes, all_found, found};
+use crate::names::Names;
+use listed::Listed;
+use requests::{NamedEffect, SpecRequest};
+use script::LineError;
+use std::alloc::Global;
+use transaction::{Effect, Spec};
+use values::Val;
+
+/// An effect with ids. `Err`: `UnknownName` of its first name that isn't declared, or is of another sort; or out of memory.
+fn effect_of(alloc: Global, names: &Names, named: &NamedEffect) -> Result<Effect<Val>, LineError>
+    ensures { Gives (λ x. x) result (effect_of names.now named.now) }
+{
+    match named {
+        NamedEffect::Kind { effect, value } => {
+            let id = found::<Effects>(names, effect)?;
+            let value = Val::Plain(value.try_copy(alloc)?);
+            Ok(Effect::Kind { id, value })
+        }
+        NamedEffect::Reconfigure { compartment, to } => {
+            let compartment = found::<Compartments>(names, compartment)?;
+            let to = found::<Nodes>(names, to)?;
+            Ok(Effect::Reconfigure { compartment, to })
+        }
+        NamedEffect::Root(to) => {
+            let nodes = all_found::<Nodes>(alloc, names, to.as_slice())?;
+            Ok(Effect::Root(Listed::new(nodes)))
+        }
+        NamedEffect::Append(to) => Ok(Effect::Append(found::<Nodes>(names, to)?)),
+    }
+}
+
+/// Some effects with ids. `Err`: that of the first one that is refused; or out of memory.
+fn effects_of(
+    alloc: Global,
+    names: &Names,
+    effects: &[NamedEffect],
+) -> Result<Vec<Effect<Val>>, LineError>
+    ensures { Gives (λ v. v.items) result (each_of (effect_of names.now) effects.now) }
+{
+    let mut known = Vec::with_capacity(alloc, effects.len())?;
+    for effect in effects {
+        known.push(effect_of(alloc, names, effect)?)?;
+    }
+    Ok(known)
+}
+
+/// A spec with these effects. Takes no memory.
+fn with_effects(request: SpecRequest, effects: Listed<Effect<Val>>) -> Spec<Val>
+    ensures { result ≡ with_effects request effects }
+{
+    Spec {
+        changes: request.changes,
+        selection: request.selection,
+        effects,
+        annotations: request.annotations,
+        user_event: request.user_event,
+        sequential: request.sequential,
+        filter: request.filter,
+    }
+}
+
+/// A spec with ids. `Err`: that of its first effect that is refused; or out of memory.
+fn spec_of(alloc: Global, names: &Names, request: SpecRequest) -> Result<Spec<Val>, LineError>
+    ensures { Gives (λ x. x) result (spec_of names.now request) }
+{
+    let effects = effects_of(alloc, names, request.effects.as_slice())?;
+    Ok(with_effects(request, Listed::new(effects)))
+}
+
+/// The specs of a transaction, in order, with ids in place of names; a plain value stays as it is, and so does the rest of a
+/// spec. (Reference Manual, TransactionSpec.) `Err`: `UnknownName` of the first name, in the order of the specs and of their
+/// effects, that isn't declared or is of another sort; or out of memory.
+pub fn specs_of(
+    alloc: Global,
+    names: &Names,
+    requests: Listed<SpecRequest>,
+) -> Result<Vec<Spec<Val>>, LineError>
+    ensures { Gives (λ v. v.items) result (specs_of names.now requests) }
+{
+    let mut specs = Vec::new(alloc);
+    for request in requests.into_vec() {
+        specs.push(spec_of(alloc, names, request)?)?;
+    }
+    Ok(specs)
+}

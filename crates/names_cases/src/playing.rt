@@ -1,0 +1,62 @@
+// Lines that declare, one after the other.
+use names::{Names, declare};
+use registry::Registry;
+use requests::Request;
+use script::{LineError, Reply, line_command, reply_text};
+use shipped_rules::Shipped;
+use std::alloc::{AllocError, Global};
+
+/// Why a line is not carried out, if it isn't.
+fn fault(
+    alloc: Global,
+    registry: &mut Registry<Shipped>,
+    names: &mut Names,
+    line: &str,
+) -> Option<LineError> {
+    match line_command::<Request>(alloc, line.as_bytes()) {
+        Err(error) => Some(error),
+        Ok(Request::Declare(declaration)) => { declare(alloc, registry, names, &declaration).err() }
+        Ok(_) => Some(LineError::NoMemory),
+    }
+}
+
+/// Whether a line is refused with this reply, or accepted where this is empty.
+fn is_answered(
+    alloc: Global,
+    registry: &mut Registry<Shipped>,
+    names: &mut Names,
+    line: &str,
+    want: &str,
+) -> Result<bool, AllocError> {
+    match fault(alloc, registry, names, line) {
+        None => Ok(want.len() == 0),
+        Some(LineError::NoMemory) => Ok(false),
+        Some(LineError::Refused(refusal)) => {
+            let reply = Reply::No(refusal);
+            Ok(reply_text(alloc, &reply)?.as_str() == want)
+        }
+    }
+}
+
+/// The place of the first line that isn't answered with its reply, among lines that are declared one after the other.
+pub(crate) fn first_wrong(alloc: Global, lines: &[(&str, &str)]) -> Result<usize, AllocError> {
+    let mut registry = Registry::new(alloc)?;
+    let mut names = Names::new(alloc)?;
+    for i in 0..lines.len() {
+        let (line, want) = lines[i];
+        if !is_answered(alloc, &mut registry, &mut names, line, want)? {
+            return Ok(i);
+        }
+    }
+    Ok(lines.len())
+}
+
+/// The names after some lines, of which some may be refused.
+pub(crate) fn named(alloc: Global, lines: &[&str]) -> Result<Names, AllocError> {
+    let mut registry = Registry::new(alloc)?;
+    let mut names = Names::new(alloc)?;
+    for line in lines {
+        fault(alloc, &mut registry, &mut names, line);
+    }
+    Ok(names)
+}
