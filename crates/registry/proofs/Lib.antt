@@ -6,6 +6,7 @@ pub mod Lists
 pub mod Pairs
 pub mod Passing
 pub mod Placing
+pub mod Registering
 pub mod Providing
 pub mod Starting
 pub mod Widening

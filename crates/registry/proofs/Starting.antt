@@ -1,35 +1,24 @@
--- What is declared from the start isn't refused.
-use Rattle.std.proofs.Common.{◌≡◌, ℕ, ◌<◌, ◌≤◌, List, [], Bool, true, false, ◌&&◌, nat_lt, nat_le, Option, None, length, refl, sym, ◌∙◌, arith}
+-- What is declared from the start is lawful, and isn't refused.
+use Rattle.std.proofs.Common.{◌≡◌, ℕ, ◌<◌, ◌≤◌, ◌+◌, List, [], ◌∷◌, ◌++◌, Bool, true, false, ◌&&◌, nat_lt, nat_le, Option, None, length, length-append, refl, arith}
 use Rattle.std.specs.List.{AllByRecursion}
 use Rattle.std.proofs.lemmas.Grind.{common_steps}
-use Rattle.std.proofs.lemmas.Option.{none-some}
 use Rattle.cm_plain.specs.Form.{fits}
 use Rattle.configuration.specs.declared.facet_def.FacetDef.{FacetDef}
 use Rattle.transaction.specs.Numbers.{IsNumber}
 use Rattle.values.specs.Rules.{Rules}
 use Rattle.values.specs.Shipped.{KeepsShipped}
-use Rattle.values.specs.Declarations.{Declarations, is_placed, max_count}
-use Rattle.values.specs.Lawful.{IsLawfulFacet}
+use Rattle.values.specs.Declarations.{Declarations, is_placed, max_count, nothing, with_effect, with_facet, with_field}
+use Rattle.values.specs.Lawful.{IsLawful, IsLawfulFacet}
 use Rattle.registry.specs.declared.id_sort.IdSort.{IdSort}
 use Rattle.registry.specs.declared.id_sort.IdSort.TheVariants.{Effect, Facet, Field, Node}
 use Rattle.registry.specs.declared.rule_sort.RuleSort.{RuleSort}
 use Rattle.registry.specs.declared.rule_sort.RuleSort.TheVariants.{Combine, Compare, Create, Update}
 use Rattle.registry.specs.declared.registry_error.RegistryError.{RegistryError}
-use Rattle.registry.specs.declared.registry_error.RegistryError.TheVariants as errors
-use Rattle.registry.specs.Predeclared.{combined_by, history_def, predeclared_facets}
-use Rattle.registry.specs.Refusals.{IsRefused, Passes, effect_refusals, facet_refusals, field_names, field_refusals, first_of, has_room, known, place_refusals, rule_known, unless}
-
--- the error of a call that isn't refused
-pub only-memory : (rs : List (Option RegistryError)) → Passes rs → (e : RegistryError) → IsRefused rs e → e ≡ errors.NoMemory
-only-memory rs p errors.NoMemory h = refl
-only-memory rs p (errors.UnknownId sort id) h = absurd (none-some (errors.UnknownId sort id) (sym p ∙ h))
-only-memory rs p (errors.UnknownRule sort number) h = absurd (none-some (errors.UnknownRule sort number) (sym p ∙ h))
-only-memory rs p (errors.StaticFacet facet) h = absurd (none-some (errors.StaticFacet facet) (sym p ∙ h))
-only-memory rs p (errors.WrongShape id) h = absurd (none-some (errors.WrongShape id) (sym p ∙ h))
-only-memory rs p (errors.AlreadyPlaced field) h = absurd (none-some (errors.AlreadyPlaced field) (sym p ∙ h))
-only-memory rs p (errors.BadInverse effect back) h = absurd (none-some (errors.BadInverse effect back) (sym p ∙ h))
-only-memory rs p (errors.InverseTaken effect) h = absurd (none-some (errors.InverseTaken effect) (sym p ∙ h))
-only-memory rs p (errors.TooMany kind) h = absurd (none-some (errors.TooMany kind) (sym p ∙ h))
+use Rattle.registry.specs.Predeclared.{combined_by, history_def, predeclared, predeclared_facets, with_facets}
+use Rattle.registry.specs.PrivateRegistered.{IsRegistered}
+use Rattle.registry.specs.Refusals.{Passes, effect_refusals, facet_refusals, field_names, field_refusals, first_of, has_room, known, place_refusals, rule_known, unless}
+use Rattle.registry.proofs.Declaring.{declare-effect, declare-facet, declare-field, declare-place, lawful-nothing}
+use Rattle.registry.proofs.Growing.{grows-same}
 
 passes-unless : (b : Bool) (e : RegistryError) → b ≡ true → unless b e ≡ None
 passes-unless true e h = refl
@@ -78,3 +67,31 @@ module _ (rules : Rules) (keeps : KeepsShipped rules) where
 
   pub history-passes : (d : Declarations) → 8 < length d.facets → length d.fields < max_count → Passes (field_refusals rules d history_def)
   history-passes d k l = rw (history-names d k, history-fits, is-room Field (length d.fields) l) refl
+
+  lawful-added : (d : Declarations) → IsLawful rules d → (defs : List FacetDef) → AllByRecursion (IsLawfulFacet rules) defs → length d.facets + length defs ≤ max_count → IsLawful rules (with_facets d defs)
+  lawful-added d h [] a l = h
+  lawful-added d h (def ∷ defs) a l =
+      let e : length (d.facets ++ def ∷ []) ≡ length d.facets + 1 = length-append d.facets (def ∷ []) in
+      lawful-added (with_facet d def []) (declare-facet rules d h def [] (facet-passes rules d def a.0 (omega (arith, l)))) defs a.1 (omega (arith, l, e))
+
+  abbrev with_all : Declarations
+  with_all = with_facets nothing predeclared_facets
+
+  abbrev with_note : Declarations
+  with_note = with_effect with_all None
+
+  abbrev with_history : Declarations
+  with_history = with_field with_note history_def
+
+  note-lawful : IsLawful rules with_note
+  note-lawful = declare-effect rules with_all (lawful-added nothing (lawful-nothing rules) predeclared_facets lawful-facets (omega arith)) None (effect-passes rules with_all (omega arith))
+
+  history-lawful : IsLawful rules with_history
+  history-lawful = declare-field rules with_note note-lawful history_def (history-passes with_note (omega arith) (omega arith))
+
+  -- what is declared from the start is lawful, and has grown from itself
+  pub starts-registered : IsRegistered rules predeclared
+  starts-registered = record {
+    lawful = declare-place rules with_history history-lawful 0 [] (place-passes with_history (omega arith) refl (omega arith));
+    grown = grows-same predeclared;
+  }

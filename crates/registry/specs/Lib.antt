@@ -2,6 +2,7 @@ pub mod Refusals
 pub mod Predeclared
 pub mod WholeFields
 pub mod PrivateUndoing
+pub mod PrivateRegistered
 pub use Rattle.configuration.specs.Present
 pub use Rattle.ext_tree.specs.Links
 pub use Rattle.ext_tree.specs.Tree

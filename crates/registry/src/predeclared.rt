@@ -1,13 +1,10 @@
 // What is declared from the start.
-ghost use Rattle.std.specs.Prelude.{◌≡◌, ◌<◌, ◌≤◌, ◌+◌, ◌∷◌, [], false, length, None, IfOk, OnOk};
-ghost use Rattle.std.specs.List.{AllByRecursion};
-ghost use Rattle.values.specs.Declarations.{is_placed, max_count, nothing, with_effect, with_facet, with_field, with_placed};
-ghost use Rattle.values.specs.Lawful.{IsLawfulFacet};
-ghost use Rattle.registry.specs.declared.registry_error.RegistryError.TheVariants.{NoMemory};
+ghost use Rattle.std.specs.Prelude.{◌≡◌, ◌<◌, ◌≤◌, ◌+◌, ◌∷◌, [], length, IfOk, OnOk};
+ghost use Rattle.values.specs.Declarations.{max_count, with_facet, with_field, with_placed};
 ghost use Rattle.registry.specs.Predeclared.{combined_by, history_def, predeclared, with_facets};
 
+use crate::parts::Parts;
 use crate::registry::Registry;
-use crate::registry_error::RegistryError;
 use configuration::{Dependency, FacetDef, FieldDef};
 use ext_tree::ExtIds;
 use listed::Listed;
@@ -62,105 +59,88 @@ fn history_reads(alloc: Global) -> Result<Listed<Dependency>, AllocError>
     Ok(reads)
 }
 
-/// The error of a call that isn't refused.
-fn out_of_memory(_error: RegistryError) -> AllocError
-    requires { _error ≡ NoMemory }
-{
-    AllocError
-}
-
-impl<M: Meanings> Registry<M> {
-    /// Declares a facet that enables nothing.
-    fn add_facet(&mut self, alloc: Global, def: FacetDef) -> Result<(), AllocError>
-        requires lawful { IsLawfulFacet M.rules def }
+impl Parts {
+    /// Adds a facet that enables nothing.
+    fn add_facet_alone(&mut self, alloc: Global, def: FacetDef) -> Result<(), AllocError>
         requires room { length self.old.facets < max_count }
+        requires fields { length self.old.fields ≤ max_count }
         ensures { OnOk result (self.new ≡ with_facet self.old def []) }
     {
-        match self.facet(def, ExtIds::of(Vec::new(alloc))) {
-            Ok(_) => Ok(()),
-            Err(error) => Err(out_of_memory(error)),
-        }
+        self.add_facet(def, ExtIds::of(Vec::new(alloc)))
     }
 
-    /// Declares facets that enable nothing.
+    /// Adds facets that enable nothing.
     fn add_facets(&mut self, alloc: Global, defs: &[FacetDef]) -> Result<(), AllocError>
-        requires lawful { AllByRecursion (IsLawfulFacet M.rules) defs.now }
         requires room { length self.old.facets + length defs.now ≤ max_count }
+        requires fields { length self.old.fields ≤ max_count }
         ensures { OnOk result (self.new ≡ with_facets self.old defs.now) }
     {
         for def in defs {
-            self.add_facet(alloc, *def)?;
+            self.add_facet_alone(alloc, *def)?;
         }
         Ok(())
     }
 
-    /// Declares an effect kind without a map.
-    fn add_note(&mut self) -> Result<(), AllocError>
-        requires { length self.old.maps < max_count }
-        ensures { OnOk result (self.new ≡ with_effect self.old None) }
-    {
-        match self.effect(None) {
-            Ok(_) => Ok(()),
-            Err(error) => Err(out_of_memory(error)),
-        }
-    }
-
-    /// Declares the field of the history.
+    /// Adds the field of the history.
     fn add_history(&mut self, alloc: Global) -> Result<(), AllocError>
-        requires reads { 8 < length self.old.facets }
         requires room { length self.old.fields < max_count }
+        requires facets { length self.old.facets ≤ max_count }
         ensures { OnOk result (self.new ≡ with_field self.old history_def) }
     {
         let reads = history_reads(alloc)?;
-        let def = FieldDef {
+        self.add_field(FieldDef {
             create: 6,
             update: 6,
             compare: 1,
             reads,
             listens: Listed::empty(alloc),
-        };
-        match self.field_declare(def) {
-            Ok(_) => Ok(()),
-            Err(error) => Err(out_of_memory(error)),
-        }
+        })
     }
 
-    /// Places the first field, which provides nothing.
+    /// Places the field of the history, which provides nothing.
     fn place_history(&mut self, alloc: Global) -> Result<(), AllocError>
-        requires known { 0 < length self.old.fields }
-        requires unplaced { is_placed self.old 0 ≡ false }
         requires room { length self.old.nodes < max_count }
+        requires placed { 0 < length self.old.placed }
+        requires provided { 0 < length self.old.links.provided }
         ensures { OnOk result (self.new ≡ with_placed self.old 0 []) }
     {
-        match self.field_place(HISTORY, ExtIds::of(Vec::new(alloc))) {
-            Ok(_) => Ok(()),
-            Err(error) => Err(out_of_memory(error)),
-        }
+        self.place(HISTORY, ExtIds::of(Vec::new(alloc)))?;
+        Ok(())
     }
+}
 
-    /// What is declared from the start. None of it is refused, whatever the rules are. `Err`: out of memory.
+/// What is declared from the start. `Err`: out of memory.
+fn predeclared(alloc: Global) -> Result<Parts, AllocError>
+    ensures { IfOk result (λ parts. parts ≡ predeclared) }
+{
+    let mut parts = Parts::empty(alloc);
+    parts.add_facets(
+        alloc,
+        &[
+            combined_by(8, true),
+            combined_by(3, true),
+            combined_by(7, false),
+            combined_by(13, false),
+            combined_by(9, false),
+            combined_by(10, false),
+            combined_by(11, false),
+            combined_by(6, false),
+            combined_by(12, false),
+            combined_by(1, false),
+        ],
+    )?;
+    parts.add_effect(None)?;
+    parts.add_history(alloc)?;
+    parts.place_history(alloc)?;
+    Ok(parts)
+}
+
+impl<M: Meanings> Registry<M> {
+    /// What is declared from the start. It is lawful, whatever the rules are. `Err`: out of memory.
     pub fn new(alloc: Global) -> Result<Self, AllocError>
         ensures { IfOk result (λ registry. registry ≡ predeclared) }
     {
-        let mut registry = Registry::empty(alloc);
-        registry.add_facets(
-            alloc,
-            &[
-                combined_by(8, true),
-                combined_by(3, true),
-                combined_by(7, false),
-                combined_by(13, false),
-                combined_by(9, false),
-                combined_by(10, false),
-                combined_by(11, false),
-                combined_by(6, false),
-                combined_by(12, false),
-                combined_by(1, false),
-            ],
-        )?;
-        registry.add_note()?;
-        registry.add_history(alloc)?;
-        registry.place_history(alloc)?;
-        Ok(registry)
+        let parts = predeclared(alloc)?;
+        Ok(Registry::started(parts))
     }
 }

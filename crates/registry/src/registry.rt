@@ -4,9 +4,10 @@ ghost use Rattle.configuration.specs.declared.node_def.NodeDef.TheVariants as de
 ghost use Rattle.ext_tree.specs.Tree.{AreLinksOlder};
 ghost use Rattle.ext_tree.specs.declared.node.Node.TheVariants as nodes;
 ghost use Rattle.values.specs.Rules.{Rules};
-ghost use Rattle.values.specs.Declarations.{AreDefs, nothing, with_compartment, with_effect, with_facet, with_field, with_node, with_pair, with_placed};
+ghost use Rattle.values.specs.Declarations.{AreDefs, with_compartment, with_effect, with_facet, with_field, with_node, with_pair, with_placed};
 ghost use Rattle.values.specs.Growth.{IsGrowth};
 ghost use Rattle.values.specs.Lawful.{IsLawful};
+ghost use Rattle.registry.specs.Predeclared.{predeclared};
 ghost use Rattle.registry.specs.PrivateUndoing.{IsBegun};
 ghost use Rattle.registry.specs.WholeFields.{inputs_refusals, provided_refusals, whole_field_refusals, with_inputs_from, with_provided, with_whole_field};
 ghost use Rattle.registry.specs.Refusals.{IsRefused, Passes, compartment_refusals, compute_n_refusals, compute_refusals, effect_refusals, facet_refusals, field_refusals, from_refusals, group_refusals, init_refusals, input_refusals, pair_refusals, place_refusals, prec_refusals, slot_refusals};
@@ -30,7 +31,8 @@ use std::marker::{Model, PhantomData};
 use transaction::EffectKinds;
 use values::{Meanings, Val};
 
-/// What was declared by number of the rules of `M`. Contracts see it as plain data, which is lawful.
+/// What was declared by number of the rules of `M`. Contracts see it as plain data, which is lawful, and has grown from what is
+/// declared from the start.
 ///
 /// Each call that declares gives the new id. It is refused with the first cause in the order that its definition lists,
 /// and then, as when out of memory, the registry is as before.
@@ -49,22 +51,32 @@ impl<M: Meanings> Model for Registry<M> {
 
     ghost coded = { Prim.hlevel (codes, coded_datum) };
 
-    ghost use Rattle.values.specs.Lawful.{IsLawful};
+    ghost use Rattle.registry.specs.PrivateRegistered.{IsRegistered};
 
     ghost view = { λ r. r.parts };
 
-    ghost invariant = { λ r. IsLawful M.rules r.parts };
+    ghost invariant = { λ r. IsRegistered M.rules r.parts };
 }
 
 impl<M: Meanings> Registry<M> {
-    /// Nothing declared. Takes no memory.
-    pub(crate) fn empty(alloc: Global) -> Self
-        ensures { result ≡ nothing }
+    /// A registry of what is declared from the start. Takes no memory.
+    pub(crate) fn started(parts: Parts) -> Self
+        requires { parts ≡ predeclared }
+        ensures { result ≡ predeclared }
     {
         Registry {
-            parts: Parts::empty(alloc),
+            parts,
             meanings: PhantomData,
         }
+    }
+
+    /// What may be relied on in a registry: what is declared is lawful, and has grown from what is declared from the start.
+    /// Takes no memory.
+    pub fn known(&self)
+        ensures lawful { IsLawful M.rules self.now }
+        ensures grown { IsGrowth predeclared self.now }
+    {
+        let _ = &self.parts;
     }
 
     /// The definitions that configurations are resolved over. Takes no memory.

@@ -1,5 +1,5 @@
 -- The state that a base comes to over a document and a selection (Reference Manual, EditorState.create).
-use Rattle.std.specs.Prelude.{◌≡◌, ◌≤◌, ◌+◌, ℕ, List, [], None, ◌⊎◌}
+use Rattle.std.specs.Prelude.{◌≡◌, ◌≤◌, ◌+◌, ℕ, List, [], ◌⊎◌}
 use Rattle.configuration.specs.Config.{ConfigView}
 use Rattle.values.specs.Declarations.{Declarations}
 use Rattle.values.specs.Rules.{Rules}
@@ -10,7 +10,6 @@ use Rattle.facet_slots.specs.Setups.{Setup}
 use Rattle.facet_slots.specs.Stepping.{State, Enter, creation, empty_state}
 use Rattle.state.specs.Cutting.{allows_several, cut}
 use Rattle.state.specs.Reconfigured.{IsConfigOf}
-use Rattle.state.specs.Refusals.{scene_refusal}
 
 -- the setup that a base comes to
 pub record IsSetupOf (d : Declarations) (base : List ℕ) (setup : Setup) : Type 0 where
@@ -28,12 +27,6 @@ created_state rules setup scene = creation rules setup (start_scene rules setup 
 -- the bound of calls of a creation
 abbrev pub creation_calls : Rules → Setup → SceneView → ℕ
 creation_calls rules setup scene = transition_calls rules Enter (empty_state (start_scene rules setup scene)) setup
-
--- Creation: nothing refuses the document and its selection, and the base comes to the setup of the state.
-pub record IsCreated (rules : Rules) (d : Declarations) (base : List ℕ) (scene : SceneView) (new : State) : Type 0 where
-  pub accepted : scene_refusal scene ≡ None
-  pub setup : IsSetupOf d base new.setup
-  pub state : new ≡ created_state rules new.setup scene
 
 -- nothing was called, or a setup that the base comes to was entered, within its bound
 abbrev pub IsCreationPaid : Rules → Declarations → List ℕ → SceneView → (before after : ℕ) → Type 0

@@ -1,4 +1,10 @@
 pub use Rattle.registry.specs.Predeclared
+pub use Rattle.resolution.specs.Resolution
+pub use Rattle.filters.specs.Extended
+pub use Rattle.filters.specs.Facets
+pub use Rattle.filters.specs.Filtered
+pub use Rattle.filters.specs.Outcomes
+pub use Rattle.filters.specs.Starts
 pub use Rattle.facet_slots.specs.Agreement
 pub use Rattle.facet_slots.specs.Due
 pub use Rattle.facet_slots.specs.FacetValues
@@ -17,6 +23,7 @@ pub mod Drafting
 pub mod Refusals
 pub mod Creating
 pub mod Steps
+pub mod Plainly
 pub mod PrivateEnds
 pub mod PrivateFound
 pub mod PrivateStepping

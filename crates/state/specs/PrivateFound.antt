@@ -4,16 +4,9 @@ use Rattle.configuration.specs.Config.{ConfigView}
 use Rattle.transaction.specs.declared.effect.Effect.{Effect}
 use Rattle.values.specs.declared.val.Val.{Val}
 use Rattle.values.specs.Declarations.{Declarations}
-use Rattle.state.specs.declared.state_error.StateError.{StateError}
 use Rattle.state.specs.Reconfigured.{configures, extensions_after, extensions_of, IsConfigOf}
-use Rattle.state.specs.Refusals.{IsConfigRefused}
 
 -- none where no effect is on the configuration, else what the extensions come to
 abbrev pub IsConfigFound : Declarations → ConfigView → List (Effect Val) → Option ConfigView → Type 0
 IsConfigFound d old effects None = configures effects ≡ false
 IsConfigFound d old effects (Some config) = (configures effects ≡ true) × IsConfigOf d (extensions_after (extensions_of old) effects) config
-
--- an effect is on the configuration, and the extensions come to none
-pub record IsNotFound (d : Declarations) (old : ConfigView) (effects : List (Effect Val)) (error : StateError) : Type 0 where
-  pub is_configured : configures effects ≡ true
-  pub refused : IsConfigRefused d (extensions_after (extensions_of old) effects) error

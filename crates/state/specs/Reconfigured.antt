@@ -55,6 +55,10 @@ abbrev pub IsConfigAfter : (is_configured : Bool) → Declarations → ConfigVie
 IsConfigAfter false d old effects config = config ≡ old
 IsConfigAfter true d old effects config = IsConfigOf d (extensions_after (extensions_of old) effects) config
 
+-- a configuration over all that is declared
+abbrev pub setup_in : Declarations → ConfigView → Setup
+setup_in d config = record { defs = definitions d; config = config }
+
 -- Setup after effects: that configuration, over all that is declared.
 pub record IsSetupAfter (d : Declarations) (old : ConfigView) (effects : List (Effect Val)) (setup : Setup) : Type 0 where
   pub defs : setup.defs ≡ definitions d

@@ -1,17 +1,15 @@
 // The first state.
-ghost use Rattle.std.specs.Prelude.{◌≡◌, ◌≢◌, ◌≤◌, ◌+◌, [], None, Some, IfErr, IfOk};
+ghost use Rattle.std.specs.Prelude.{◌≡◌, ◌≢◌, ◌≤◌, ◌+◌, [], Err, None, Ok, Some, IfErr, IfOk};
 ghost use Rattle.values.specs.Whole.{IsWhole};
-ghost use Rattle.registry.specs.Predeclared.{predeclared};
-ghost use Rattle.facet_slots.specs.Agreement.{IsGrown};
 ghost use Rattle.facet_slots.specs.Found.{scene_of};
-ghost use Rattle.facet_slots.specs.Lent.{definitions};
 ghost use Rattle.facet_slots.specs.Scenes.{IsScene};
 ghost use Rattle.facet_slots.specs.Slotted.{plain};
 ghost use Rattle.state.specs.Creating.{created_state, creation_calls};
 ghost use Rattle.state.specs.Cutting.{cut};
-ghost use Rattle.state.specs.Reconfigured.{IsConfigOf};
-ghost use Rattle.state.specs.Refusals.{scene_refusal, IsConfigRefused};
-ghost use Rattle.state.specs.PrivateStepping.{setup_in, IsEntered};
+ghost use Rattle.state.specs.Plainly.{config_from, unordered_config};
+ghost use Rattle.state.specs.Reconfigured.{setup_in, IsConfigOf};
+ghost use Rattle.state.specs.Refusals.{scene_refusal};
+ghost use Rattle.state.specs.PrivateStepping.{IsEntered};
 
 use crate::cutting::{config_allows_several, cut};
 use crate::extensions::Extensions;
@@ -68,7 +66,8 @@ pub fn resolved_base<M: Meanings>(
     base: &[ExtId],
 ) -> Result<Config, StateError>
     ensures config { IfOk result (λ config. IsConfigOf registry.now (record { base = base.now; contents = [] }) config) }
-    ensures refused { IfErr result (λ error. error ≢ StateError.NoMemory → IsConfigRefused registry.now (record { base = base.now; contents = [] }) error) }
+    ensures found { IfOk result (λ config. config_from registry.now (record { base = base.now; contents = [] }) ≡ Ok (unordered_config config)) }
+    ensures refused { IfErr result (λ error. error ≢ StateError.NoMemory → config_from registry.now (record { base = base.now; contents = [] }) ≡ Err error) }
 {
     let extensions = Extensions::base(alloc, base)?;
     resolved(alloc, registry, &extensions)
@@ -98,12 +97,12 @@ pub fn created<M: Meanings, L: Ledger>(
     calls: &mut Steps<L>,
 ) -> Result<Slots<M>, AllocError>
     requires whole { IsWhole M.rules kit.now }
-    requires predeclared { IsGrown (definitions predeclared) (definitions registry.now) }
     requires config { IsEntered registry.now (Some config) }
     requires is_scene { IsScene (scene_of scene) }
     ensures state { IfOk result (λ s. plain s ≡ created_state M.rules (setup_in registry.now config) (scene_of scene)) }
     ensures cost { calls.new ≤ calls.old + creation_calls M.rules (setup_in registry.now config) (scene_of scene) }
 {
+    registry.known();
     let several = config_allows_several(registry.defs(), &config);
     let start = cut_scene(scene, several)?;
     let defs = shared_defs(alloc, registry.defs())?;

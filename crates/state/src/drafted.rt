@@ -1,48 +1,132 @@
 // The draft of the specs of an update.
-ghost use Rattle.std.specs.Prelude.{◌≡◌, ◌≢◌, ◌≤◌, length, IfErr, IfOk, None, Some, option_map};
-ghost use Rattle.line_tree.specs.Text.{max_len};
-ghost use Rattle.change_desc.specs.Sections.{new_size, spelled};
-ghost use Rattle.transaction.specs.Merging.{IsDraft};
+ghost use Rattle.std.specs.Prelude.{◌≡◌, ◌≢◌, Err, IfErr, IfOk, Ok, Some, option_map};
+ghost use Rattle.std.specs.Result.{result_err};
+ghost use Rattle.transaction.specs.Effects.{HasMaps};
 ghost use Rattle.values.specs.Whole.{IsWhole};
+ghost use Rattle.registry.specs.Predeclared.{predeclared};
+ghost use Rattle.facet_slots.specs.Agreement.{IsGrown};
+ghost use Rattle.facet_slots.specs.Lent.{definitions};
 ghost use Rattle.facet_slots.specs.Slotted.{plain};
-ghost use Rattle.state.specs.Drafting.{draft_of, draft_refusal};
+ghost use Rattle.filters.specs.Facets.{AreFacets, facets_of};
+ghost use Rattle.filters.specs.Starts.{IsStart, StartsIn, start_of};
+ghost use Rattle.state.specs.Drafting.{draft_of, drafted_in, facets_in, merged_in, rewritten_in, start_in};
 ghost use Rattle.state.specs.Refusals.{of_transaction_error};
 
+use crate::cutting::allows_several;
 use crate::state_error::StateError;
 use facet_slots::Slots;
+use filters::{FilterFacets, Start, apply_extenders, apply_filters};
 use line_tree::MAX_LEN;
-use registry::Registry;
+use registry::{
+    CHANGE_FILTER, FILTER_DATA, Registry, TRANSACTION_EXTENDER, TRANSACTION_FILTER,
+};
 use std::alloc::Global;
 use transaction::{Draft, Frame, Spec, TransactionError, resolve};
 use values::{Kit, Meanings, Val};
 
-/// The specs merged, over the document of a state, or their first refusal.
+/// The values of the facets that filters go by.
+fn filter_facets<M: Meanings>(slots: &Slots<M>) -> FilterFacets<'_>
+    requires { IsGrown (definitions predeclared) slots.now.setup.defs }
+    ensures facets { facets_of result ≡ facets_in (plain slots.now) }
+    ensures numbers { AreFacets M.rules (facets_of result) }
+{
+    slots.known();
+    FilterFacets {
+        change_filter: slots.value(CHANGE_FILTER),
+        transaction_filter: slots.value(TRANSACTION_FILTER),
+        transaction_extender: slots.value(TRANSACTION_EXTENDER),
+        filter_data: slots.value(FILTER_DATA),
+    }
+}
+
+/// What filters go by of the state that an update starts in.
+fn start_of<'a, M: Meanings>(registry: &'a Registry<M>, slots: &'a Slots<M>) -> Start<'a>
+    requires { IsGrown (definitions predeclared) slots.now.setup.defs }
+    ensures start { start_of result ≡ start_in registry.now (plain slots.now) }
+    ensures is_start { IsStart (start_of result) }
+    ensures maps { HasMaps M.rules.effect_maps result.kinds.now.maps }
+{
+    registry.known();
+    slots.known();
+    Start {
+        document: slots.document(),
+        selection: slots.selection(),
+        allows_multiple: allows_several(slots),
+        kinds: registry.kinds(),
+        max: MAX_LEN,
+    }
+}
+
+/// The specs as one draft, or their first refusal.
 fn merged<M: Meanings>(
     alloc: Global,
     kit: &Kit<M>,
-    registry: &Registry<M>,
-    slots: &Slots<M>,
+    start: &Start<'_>,
     specs: Vec<Spec<Val>>,
 ) -> Result<Draft<Val>, TransactionError>
-    requires { IsWhole M.rules kit.now }
-    ensures draft { IfOk result (λ draft. draft ≡ draft_of M.rules registry.now (plain slots.now) specs.items) }
-    ensures is_draft { IfOk result (λ draft. IsDraft (length slots.now.scene.document) draft) }
-    ensures short { IfOk result (λ draft. new_size spelled draft.changes ≤ max_len) }
-    ensures accepted { IfOk result (λ _. draft_refusal registry.now (plain slots.now) specs.items ≡ None) }
-    ensures refused { IfErr result (λ error. error ≢ TransactionError.NoMemory → draft_refusal registry.now (plain slots.now) specs.items ≡ Some error) }
+    requires whole { IsWhole M.rules kit.now }
+    requires maps { HasMaps M.rules.effect_maps start.now.kinds.now.maps }
+    requires start { IsStart (start_of start.now) }
+    ensures draft { IfOk result (λ d. merged_in M.rules (start_of start.now) specs.items ≡ Ok d) }
+    ensures starts { IfOk result (λ d. StartsIn (start_of start.now) d) }
+    ensures refused { IfErr result (λ error. error ≢ TransactionError.NoMemory → merged_in M.rules (start_of start.now) specs.items ≡ Err error) }
 {
-    let _ = registry.defs();
-    slots.known();
     let frame = Frame {
-        len: slots.document().len(),
-        max: MAX_LEN,
-        kinds: registry.kinds(),
+        len: start.document.len(),
+        max: start.max,
+        kinds: start.kinds,
         maps: kit,
     };
     resolve(alloc, specs, &frame)
 }
 
-/// The draft of the specs of an update, in the state that it starts in, or their first refusal.
+/// What filters and then extenders make of a draft.
+fn rewritten<M: Meanings>(
+    alloc: Global,
+    kit: &Kit<M>,
+    facets: &FilterFacets<'_>,
+    start: &Start<'_>,
+    draft: Draft<Val>,
+) -> Result<Draft<Val>, TransactionError>
+    requires whole { IsWhole M.rules kit.now }
+    requires maps { HasMaps M.rules.effect_maps start.now.kinds.now.maps }
+    requires facets { AreFacets M.rules (facets_of facets.now) }
+    requires start { IsStart (start_of start.now) }
+    requires draft { StartsIn (start_of start.now) draft }
+    ensures draft { IfOk result (λ d. rewritten_in M.rules (facets_of facets.now) (start_of start.now) draft ≡ Ok d) }
+    ensures starts { IfOk result (λ d. StartsIn (start_of start.now) d) }
+    ensures refused { IfErr result (λ error. error ≢ TransactionError.NoMemory → rewritten_in M.rules (facets_of facets.now) (start_of start.now) draft ≡ Err error) }
+{
+    match apply_filters(alloc, kit, facets, start, draft) {
+        Ok(filtered) => apply_extenders(alloc, kit, facets, start, filtered),
+        Err(error) => Err(error),
+    }
+}
+
+/// The specs merged, filtered and extended, or the first refusal.
+fn drafted_in<M: Meanings>(
+    alloc: Global,
+    kit: &Kit<M>,
+    facets: &FilterFacets<'_>,
+    start: &Start<'_>,
+    specs: Vec<Spec<Val>>,
+) -> Result<Draft<Val>, TransactionError>
+    requires whole { IsWhole M.rules kit.now }
+    requires maps { HasMaps M.rules.effect_maps start.now.kinds.now.maps }
+    requires facets { AreFacets M.rules (facets_of facets.now) }
+    requires start { IsStart (start_of start.now) }
+    ensures draft { IfOk result (λ d. drafted_in M.rules (facets_of facets.now) (start_of start.now) specs.items ≡ Ok d) }
+    ensures starts { IfOk result (λ d. StartsIn (start_of start.now) d) }
+    ensures refused { IfErr result (λ error. error ≢ TransactionError.NoMemory → drafted_in M.rules (facets_of facets.now) (start_of start.now) specs.items ≡ Err error) }
+{
+    match merged(alloc, kit, start, specs) {
+        Ok(draft) => rewritten(alloc, kit, facets, start, draft),
+        Err(error) => Err(error),
+    }
+}
+
+/// The draft that the specs of an update come to in the state that it starts in, or the first refusal: of the specs, or of what
+/// filters and extenders answered.
 pub fn drafted<M: Meanings>(
     alloc: Global,
     kit: &Kit<M>,
@@ -50,12 +134,13 @@ pub fn drafted<M: Meanings>(
     slots: &Slots<M>,
     specs: Vec<Spec<Val>>,
 ) -> Result<Draft<Val>, StateError>
-    requires { IsWhole M.rules kit.now }
-    ensures draft { IfOk result (λ draft. draft ≡ draft_of M.rules registry.now (plain slots.now) specs.items) }
-    ensures is_draft { IfOk result (λ draft. IsDraft (length slots.now.scene.document) draft) }
-    ensures short { IfOk result (λ draft. new_size spelled draft.changes ≤ max_len) }
-    ensures accepted { IfOk result (λ _. draft_refusal registry.now (plain slots.now) specs.items ≡ None) }
-    ensures refused { IfErr result (λ error. error ≢ StateError.NoMemory → option_map of_transaction_error (draft_refusal registry.now (plain slots.now) specs.items) ≡ Some error) }
+    requires whole { IsWhole M.rules kit.now }
+    requires predeclared { IsGrown (definitions predeclared) slots.now.setup.defs }
+    ensures draft { IfOk result (λ d. draft_of M.rules registry.now (plain slots.now) specs.items ≡ Ok d) }
+    ensures starts { IfOk result (λ d. StartsIn (start_in registry.now (plain slots.now)) d) }
+    ensures refused { IfErr result (λ error. error ≢ StateError.NoMemory → option_map of_transaction_error (result_err (draft_of M.rules registry.now (plain slots.now) specs.items)) ≡ Some error) }
 {
-    Ok(merged(alloc, kit, registry, slots, specs)?)
+    let facets = filter_facets(slots);
+    let start = start_of(registry, slots);
+    Ok(drafted_in(alloc, kit, &facets, &start, specs)?)
 }

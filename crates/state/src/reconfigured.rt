@@ -1,12 +1,14 @@
 // What effects do to a configuration.
-ghost use Rattle.std.specs.Prelude.{◌≡◌, ◌≢◌, false, true, IfErr, IfOk, MatchOption};
-ghost use Rattle.state.specs.Reconfigured.{configures, extensions_after, extensions_of, is_configuring, IsConfigOf};
-ghost use Rattle.state.specs.Refusals.{IsConfigRefused};
-ghost use Rattle.state.specs.PrivateFound.{IsConfigFound, IsNotFound};
+ghost use Rattle.std.specs.Prelude.{◌≡◌, ◌≢◌, Err, IfErr, IfOk, Ok, option_map};
+ghost use Rattle.compartments.specs.Contents.{AreAscending};
+ghost use Rattle.configuration.specs.Resolved.{IsCause};
+ghost use Rattle.state.specs.Plainly.{config_after, config_from, unordered_config};
+ghost use Rattle.state.specs.Reconfigured.{configures, extensions_after, extensions_of, is_configuring, tree_in, IsConfigOf};
+ghost use Rattle.state.specs.PrivateFound.{IsConfigFound};
 
 use crate::extensions::Extensions;
 use crate::state_error::StateError;
-use configuration::Config;
+use configuration::{Config, ConfigError};
 use registry::Registry;
 use std::alloc::Global;
 use transaction::Effect;
@@ -34,21 +36,37 @@ fn configures(effects: &[Effect<Val>]) -> bool
 }
 
 /// The configuration that extensions come to over what is declared, or why they come to none.
+fn resolved_here<M: Meanings>(
+    alloc: Global,
+    registry: &Registry<M>,
+    extensions: &Extensions,
+) -> Result<Config, ConfigError>
+    ensures config { IfOk result (λ config. IsConfigOf registry.now extensions.now config) }
+    ensures ascending { IfOk result (λ config. AreAscending config.contents) }
+    ensures refused { IfErr result (λ error. IsCause (tree_in registry.now extensions.now) registry.now.facets registry.now.fields registry.now.node_defs extensions.now.base error) }
+{
+    let config = Config::resolve(
+        alloc,
+        registry.arena(),
+        registry.defs(),
+        extensions.base.as_slice(),
+        &extensions.contents,
+    )?;
+    let _ = config.contents().nodes();
+    Ok(config)
+}
+
+/// The configuration that extensions come to over what is declared, or why they come to none.
 pub fn resolved<M: Meanings>(
     alloc: Global,
     registry: &Registry<M>,
     extensions: &Extensions,
 ) -> Result<Config, StateError>
     ensures config { IfOk result (λ config. IsConfigOf registry.now extensions.now config) }
-    ensures refused { IfErr result (λ error. IsConfigRefused registry.now extensions.now error) }
+    ensures found { IfOk result (λ config. config_from registry.now extensions.now ≡ Ok (unordered_config config)) }
+    ensures refused { IfErr result (λ error. error ≢ StateError.NoMemory → config_from registry.now extensions.now ≡ Err error) }
 {
-    Ok(Config::resolve(
-        alloc,
-        registry.arena(),
-        registry.defs(),
-        extensions.base.as_slice(),
-        &extensions.contents,
-    )?)
+    Ok(resolved_here(alloc, registry, extensions)?)
 }
 
 /// The configuration that the extensions come to after effects.
@@ -59,7 +77,8 @@ fn resolved_after<M: Meanings>(
     effects: &[Effect<Val>],
 ) -> Result<Config, StateError>
     ensures config { IfOk result (λ found. IsConfigOf registry.now (extensions_after (extensions_of config.now) effects.now) found) }
-    ensures refused { IfErr result (λ error. error ≢ StateError.NoMemory → IsConfigRefused registry.now (extensions_after (extensions_of config.now) effects.now) error) }
+    ensures found { IfOk result (λ found. config_from registry.now (extensions_after (extensions_of config.now) effects.now) ≡ Ok (unordered_config found)) }
+    ensures refused { IfErr result (λ error. error ≢ StateError.NoMemory → config_from registry.now (extensions_after (extensions_of config.now) effects.now) ≡ Err error) }
 {
     let extensions = Extensions::after(alloc, config, effects)?;
     resolved(alloc, registry, &extensions)
@@ -74,7 +93,8 @@ pub fn reconfigured<M: Meanings>(
     effects: &[Effect<Val>],
 ) -> Result<Option<Config>, StateError>
     ensures config { IfOk result (λ found. IsConfigFound registry.now config.now effects.now found) }
-    ensures refused { IfErr result (λ error. error ≢ StateError.NoMemory → IsNotFound registry.now config.now effects.now error) }
+    ensures found { IfOk result (λ found. config_after registry.now config.now effects.now ≡ Ok (option_map unordered_config found)) }
+    ensures refused { IfErr result (λ error. error ≢ StateError.NoMemory → config_after registry.now config.now effects.now ≡ Err error) }
 {
     if configures(effects) {
         let config = resolved_after(alloc, registry, config, effects)?;

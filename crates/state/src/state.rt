@@ -1,5 +1,5 @@
 // The state of an editor.
-ghost use Rattle.std.specs.Prelude.{◌≡◌, ◌≢◌, ◌<◌, ◌≤◌, ◌+◌, IfErr, IfOk, Some, is_some, length, option_copied, slice_get};
+ghost use Rattle.std.specs.Prelude.{◌≡◌, ◌≢◌, ◌<◌, ◌≤◌, ◌+◌, Err, IfErr, IfOk, Ok, Some, is_some, length, option_copied, slice_get};
 ghost use Rattle.std.specs.Option.{unwrap_or};
 ghost use Rattle.values.specs.Whole.{IsWhole};
 ghost use Rattle.registry.specs.Predeclared.{predeclared};
@@ -53,10 +53,10 @@ impl<M: Meanings> Model for State<M> {
 }
 
 impl<M: Meanings> State<M> {
-    ghost use Rattle.state.specs.Creating.{creation_calls, IsCreated, IsCreationPaid};
     ghost use Rattle.facet_slots.specs.Lent.{definitions};
-    ghost use Rattle.state.specs.Refusals.{IsCreateRefused, IsUpdateRefused};
-    ghost use Rattle.state.specs.Steps.{calls_to, IsStep, IsStepPaid};
+    ghost use Rattle.state.specs.Creating.{creation_calls, IsCreationPaid};
+    ghost use Rattle.state.specs.Plainly.{created_from, unordered, updated_from};
+    ghost use Rattle.state.specs.Steps.{IsStepPaid, IsStepTo};
 
     /// The state that a base comes to over what is declared, with this document and this selection, which is cut to its main
     /// range unless the configuration allows several. (Reference Manual, EditorState.create.) Refused, in this order: as
@@ -72,11 +72,10 @@ impl<M: Meanings> State<M> {
         calls: &mut Steps<L>,
     ) -> Result<Self, StateError>
         requires whole { IsWhole M.rules kit.now }
-        requires predeclared { IsGrown (definitions predeclared) (definitions registry.now) }
-        ensures created { IfOk result (λ s. IsCreated M.rules registry.now base.now (record { document = document.characters; selection = selection }) (plain s)) }
+        ensures created { IfOk result (λ s. created_from M.rules registry.now base.now (record { document = document.characters; selection = selection }) ≡ Ok (unordered (plain s))) }
         ensures grown { IfOk result (λ s. IsGrown s.setup.defs (definitions registry.now)) }
         ensures cost { IfOk result (λ s. calls.new ≤ calls.old + creation_calls M.rules s.setup (record { document = document.characters; selection = selection })) }
-        ensures refused { IfErr result (λ error. error ≢ StateError.NoMemory → IsCreateRefused registry.now base.now (record { document = document.characters; selection = selection }) error) }
+        ensures refused { IfErr result (λ error. error ≢ StateError.NoMemory → created_from M.rules registry.now base.now (record { document = document.characters; selection = selection }) ≡ Err error) }
         ensures uncalled { IfErr result (λ error. error ≢ StateError.NoMemory → calls.new ≡ calls.old) }
         ensures paid { IsCreationPaid M.rules registry.now base.now (record { document = document.characters; selection = selection }) calls.old calls.new }
     {
@@ -102,10 +101,10 @@ impl<M: Meanings> State<M> {
     ) -> Result<Self, StateError>
         requires whole { IsWhole M.rules kit.now }
         requires grown { IsGrown self.now.setup.defs (definitions registry.now) }
-        ensures step { IfOk result (λ s. IsStep M.rules registry.now (plain self.now) specs.items (plain s)) }
+        ensures updated { IfOk result (λ s. updated_from M.rules registry.now (unordered (plain self.now)) specs.items ≡ Ok (unordered (plain s))) }
         ensures grown { IfOk result (λ s. IsGrown s.setup.defs (definitions registry.now)) }
-        ensures cost { IfOk result (λ s. calls.new ≤ calls.old + calls_to M.rules registry.now (plain self.now) specs.items s.setup) }
-        ensures refused { IfErr result (λ error. error ≢ StateError.NoMemory → IsUpdateRefused M.rules registry.now (plain self.now) specs.items error) }
+        ensures cost { IfOk result (λ s. IsStepTo M.rules registry.now (plain self.now) specs.items s.setup calls.old calls.new) }
+        ensures refused { IfErr result (λ error. error ≢ StateError.NoMemory → updated_from M.rules registry.now (unordered (plain self.now)) specs.items ≡ Err error) }
         ensures uncalled { IfErr result (λ error. error ≢ StateError.NoMemory → calls.new ≡ calls.old) }
         ensures paid { IsStepPaid M.rules registry.now (plain self.now) specs.items calls.old calls.new }
     {

@@ -1,8 +1,5 @@
 // One step of the values.
 ghost use Rattle.std.specs.Prelude.{◌≡◌, ◌<◌, ◌≤◌, ◌+◌, length, IfOk, Some};
-ghost use Rattle.line_tree.specs.Text.{max_len};
-ghost use Rattle.change_desc.specs.Sections.{new_size, spelled};
-ghost use Rattle.transaction.specs.Merging.{IsDraft};
 ghost use Rattle.values.specs.Whole.{IsWhole};
 ghost use Rattle.registry.specs.declared.predeclared.TheConstants.{ALLOW_MULTIPLE_SELECTIONS};
 ghost use Rattle.facet_slots.specs.Agreement.{IsGrown};
@@ -14,8 +11,10 @@ ghost use Rattle.facet_slots.specs.Slotted.{plain};
 ghost use Rattle.facet_slots.specs.Stepping.{step, Becomes};
 ghost use Rattle.state.specs.Moving.{transaction_of};
 ghost use Rattle.facet_slots.specs.Lent.{definitions};
-ghost use Rattle.state.specs.Steps.{step_calls};
-ghost use Rattle.state.specs.PrivateStepping.{entered_target, IsEntered};
+ghost use Rattle.filters.specs.Starts.{StartsIn};
+ghost use Rattle.state.specs.Drafting.{start_in};
+ghost use Rattle.state.specs.Steps.{entered_target, step_calls};
+ghost use Rattle.state.specs.PrivateStepping.{IsEntered};
 
 use crate::definitions::definitions_now;
 use crate::moved::transaction_of;
@@ -105,8 +104,7 @@ pub fn after_draft<M: Meanings, L: Ledger>(
     requires grown { IsGrown slots.now.setup.defs (definitions registry.now) }
     requires several { ALLOW_MULTIPLE_SELECTIONS < length slots.now.setup.defs.facets }
     requires config { IsEntered registry.now config }
-    requires draft { IsDraft (length slots.now.scene.document) draft }
-    requires short { new_size spelled draft.changes ≤ max_len }
+    requires starts { StartsIn (start_in registry.now (plain slots.now)) draft }
     ensures state { IfOk result (λ s. plain s ≡ step M.rules (plain slots.now) (entered_target registry.now slots.now.setup.config config) (transaction_of registry.now (plain slots.now) draft)) }
     ensures cost { calls.new ≤ calls.old + step_calls M.rules (plain slots.now) (entered_target registry.now slots.now.setup.config config) (transaction_of registry.now (plain slots.now) draft) }
 {

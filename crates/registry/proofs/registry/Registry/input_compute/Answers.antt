@@ -6,6 +6,7 @@ use Rattle.std.proofs.lemmas.Result.{err_from_is_err_and}
 use Rattle.registry.specs.Refusals.{IsRefused, Passes, compute_refusals}
 use Rattle.registry.proofs.Declaring.{declare-compute}
 use Rattle.registry.proofs.Growing.{grows-node}
+use Rattle.registry.proofs.Registering.{still-registered}
 use Rattle.registry.proofs.registry.Registry.input_compute.Goals as goal
 
 pub returns-in_err-compute_refusal-clause-refused : goal.returns-in_err-compute_refusal-clause-refused
@@ -20,7 +21,7 @@ pub invariant_of-self-2 : goal.invariant_of-self-2
 invariant_of-self-2 g c =
     let e : Passes (compute_refusals g.M.Meanings.rules c.self.inside.parts c.args.facet c.args.rule c.args.reads) =
     subst (λ (rs : List Dependency). Passes (compute_refusals g.M.Meanings.rules c.self.inside.parts c.args.facet c.args.rule rs)) c.as_slice.ensures c.in_ok-compute_refusal.ensures.passes in
-    rw c.in_ok-id.ensures.added (declare-compute g.M.Meanings.rules c.self.inside.parts c.self.invariant c.args.facet c.args.rule c.args.reads e)
+    rw c.in_ok-id.ensures.added (still-registered g.M.Meanings.rules c.self.inside.parts _ c.self.invariant (declare-compute g.M.Meanings.rules c.self.inside.parts c.self.invariant.lawful c.args.facet c.args.rule c.args.reads e) (grows-node c.self.inside.parts (nodes.Input c.args.facet) (defs.Compute c.args.rule c.args.reads)))
 
 pub returns-clause-grows : goal.returns-clause-grows
 returns-clause-grows g c = rw (c.in_ok-id.ensures.added, ← c.self.view_is) (grows-node c.self.inside.parts (nodes.Input c.args.facet) (defs.Compute c.args.rule c.args.reads))
