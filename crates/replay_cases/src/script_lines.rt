@@ -1,5 +1,6 @@
 use cm_plain::Plain;
-use script::{Answer, Command, LineError, Refusal, Reply, command_of, reply_text};
+use replies::{Answer, Reply, reply_text};
+use script::{Command, LineError, Refusal, command_of};
 use selection::{Range, Selection};
 use serde_json::Value;
 use std::alloc::{AllocError, Global};
