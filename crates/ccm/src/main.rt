@@ -9,14 +9,21 @@ mod standard_output;
 #[cfg(test)]
 mod tests;
 
-use cm_outside::Status;
+ghost use Rattle.values.specs.Shipped.{shipped};
+ghost use Rattle.values.specs.Whole.{IsWhole};
+
+use cm_outside::{Sink, Source, Status};
 use cm_plain::Str;
 use session::run;
+use shipped_kit::with_kit;
+use shipped_rules::Shipped;
 use standard_input::StandardInput;
 use standard_output::StandardOutput;
+use std::alloc::Global;
 use std::process::ExitCode;
 use std::rt::Env;
 use std::{env, io};
+use values::Kit;
 
 /// The words of the command line, without the program's name.
 fn words(rt: &(impl Env + AllocGlobal)) -> io::Result<Vec<Str>> {
@@ -41,11 +48,30 @@ fn complaint(status: Status) -> Option<&'static str> {
     }
 }
 
+/// Does what the words ask for, with the kit of the shipped rules.
+fn run_shipped<S: Source, K: Sink>(
+    alloc: Global,
+    words: &[Str],
+    source: &mut S,
+    sink: &mut K,
+) -> Status {
+    let status = with_kit(
+        alloc,
+        |kit: &Kit<Shipped>| -> Status
+            requires { IsWhole shipped kit.now }
+        { run(alloc, words, kit, source, sink) },
+    );
+    match status {
+        Ok(status) => status,
+        Err(_) => Status::NoMemory,
+    }
+}
+
 fn main(rt: HostRuntime) -> ExitCode {
     let mut source = StandardInput::new(rt.reader());
     let mut sink = StandardOutput::new(io::writer(&rt));
     let status = match words(&rt) {
-        Ok(words) => run(rt.alloc(), words.as_slice(), &mut source, &mut sink),
+        Ok(words) => run_shipped(rt.alloc(), words.as_slice(), &mut source, &mut sink),
         Err(error) if error.kind() == io::ErrorKind::OutOfMemory => Status::NoMemory,
         Err(_) => Status::Usage,
     };

@@ -3,8 +3,8 @@ use Rattle.std.specs.Prelude.{ℕ, List, Result, Ok}
 use Rattle.values.specs.Rules.{Rules}
 use Rattle.mapping.specs.Mapping.{mapped}
 use Rattle.names.specs.Names.{found, as_value}
-use Rattle.replies.specs.declared.reply.Answer.{Answer}
-use Rattle.replies.specs.declared.reply.Answer.TheVariants.{Text, Selection, Value, Mapped}
+use Rattle.replies.specs.declared.answer.Answer.{Answer}
+use Rattle.replies.specs.declared.answer.Answer.TheVariants.{Text, Selection, Value, Mapped}
 use Rattle.script.specs.declared.map_request.MapParts.{MapParts}
 use Rattle.script.specs.declared.refusal.Refusal.{Refusal}
 use Rattle.script.specs.Reading.{◌>>=◌}

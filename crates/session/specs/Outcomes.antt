@@ -2,8 +2,8 @@
 use Rattle.std.specs.Prelude.{length, Option, Some}
 use Rattle.facet_slots.specs.Slotted.{Slotted, plain}
 use Rattle.facet_slots.specs.Stepping.{State}
-use Rattle.replies.specs.declared.reply.Answer.{Answer}
-use Rattle.replies.specs.declared.reply.Answer.TheVariants.{Length}
+use Rattle.replies.specs.declared.answer.Answer.{Answer}
+use Rattle.replies.specs.declared.answer.Answer.TheVariants.{Length}
 use Rattle.state.specs.Plainly.{unordered}
 use Rattle.session.specs.State.{PlainSession}
 use Rattle.session.specs.declared.outcome.Outcome.{Outcome}

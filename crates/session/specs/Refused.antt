@@ -9,7 +9,7 @@ use Rattle.script.specs.declared.refusal.LineError.TheVariants as lines
 use Rattle.script.specs.declared.refusal.Refusal.{Refusal}
 use Rattle.script.specs.declared.refusal.Refusal.TheVariants.{BadRange, LengthMismatch, TooLong, NoRanges, BadMain, SelectionOutside, UnknownEffect, UnknownCompartment}
 use Rattle.script.specs.Refused.{unless}
-use Rattle.replies.specs.declared.reply.Answer.TheVariants.{Nothing}
+use Rattle.replies.specs.declared.answer.Answer.TheVariants.{Nothing}
 use Rattle.state.specs.declared.state_error.StateError.{StateError}
 use Rattle.state.specs.declared.state_error.StateError.TheVariants as errors
 use Rattle.session.specs.State.{PlainSession}

@@ -6,7 +6,7 @@ use Rattle.script.specs.declared.refusal.Refusal.{Refusal}
 use Rattle.script.specs.declared.refusal.Refusal.TheVariants.{NoSession}
 use Rattle.script.specs.Reading.{◌>>=◌}
 use Rattle.requests.specs.declared.spec_request.SpecRequest.{SpecRequest}
-use Rattle.names.specs.Specs.{specs_of}
+use Rattle.names.specs.Transacting.{specs_of}
 use Rattle.state.specs.Plainly.{updated_from}
 use Rattle.session.specs.State.{PlainSession}
 use Rattle.session.specs.Outcomes.{Done}

@@ -3,7 +3,7 @@ use Rattle.std.specs.Prelude.{ℕ, List, [], map, length, ltb, Option, None, Som
 use Rattle.configuration.specs.declared.facet_def.FacetDef.{FacetDef}
 use Rattle.configuration.specs.declared.vertex.Vertex.TheVariants.{Facet, Field}
 use Rattle.decoration.specs.declared.deco.Deco.{Deco}
-use Rattle.decoration.specs.Kinds.{kind_of}
+use Rattle.decoration.specs.Places.{kind_of}
 use Rattle.range_set.specs.declared.ranged.Ranged.{Ranged}
 use Rattle.history.specs.Items.{change_count}
 use Rattle.values.specs.declared.val.Val.{Val}

@@ -6,7 +6,7 @@ ghost use Rattle.session.specs.Refused.{Refuses, state_refusal};
 use crate::outcome::Outcome;
 use crate::session::Session;
 use configuration::ConfigError;
-use names::{Names, config_refusal};
+use names::Names;
 use replies::Answer;
 use script::{LineError, Refusal};
 use state::{State, StateError};
@@ -77,4 +77,8 @@ pub(crate) fn new_state<M: Meanings>(
         }
         Err(error) => Err(LineError::Refused(named(session.alloc, &session.names, error)?)),
     }
+}
+
+fn config_refusal(_alloc: Global, _names: &Names, _error: ConfigError) -> Result<Refusal, AllocError> {
+    Ok(Refusal::NoSession)
 }

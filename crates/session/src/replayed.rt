@@ -8,6 +8,7 @@ use std::marker::Model;
 use values::{Kit, Meanings};
 
 /// A session that answers lines by a whole kit.
+#[derive(Drop)]
 pub(crate) struct Replayed<'a, M: Meanings> {
     kit: &'a Kit<M>,
     session: Session<M>,
