@@ -11,7 +11,11 @@ pub enum ExtensionRefusal {
         second: Str,
     },
     /// A compartment is part of its own content: the slots from the one that has it to the one in it.
-    CompartmentLoop { path: Listed<Str> },
+    CompartmentLoop {
+        path: Listed<Str>,
+    },
     /// Facets and fields depend on one another: each member on the next, and the last on the first.
-    Cycle { members: Listed<Str> },
+    Cycle {
+        members: Listed<Str>,
+    },
 }
