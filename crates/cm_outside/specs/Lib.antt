@@ -9,3 +9,6 @@ pub mod Filling
 pub mod Files
 pub mod MemFiles
 pub mod Times
+pub mod Answering
+pub mod Runs
+pub mod Responding

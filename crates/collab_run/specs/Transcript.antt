@@ -1,5 +1,6 @@
--- What a line does to a world of clients and an authority, and the replies to a list of lines.
-use Rattle.std.specs.Prelude.{◌≡◌, refl, ℕ, List, [], ◌∷◌, ◌++◌, Option, Some, None, Result, Ok, Err}
+-- What a line does to a world of clients and an authority, and the reply to it.
+use Rattle.std.specs.Prelude.{ℕ, List, Option, Some, None, Result, Ok, Err}
+use Rattle.cm_outside.specs.Answering.{Machine}
 use Rattle.collab.specs.Worlds.{WorldView}
 use Rattle.script.specs.declared.refusal.Refusal.{Refusal}
 use Rattle.replies.specs.declared.answer.Reply.{Reply}
@@ -44,12 +45,6 @@ after line p = left_by p (outcome line p.world)
 unfoldable pub reply : List ℕ → PlainPlay → List ℕ
 reply line p = reply_text (reply_of (outcome line p.world))
 
--- the replies to some lines, one after the other
-unfoldable pub transcript : PlainPlay → List (List ℕ) → List ℕ
-transcript p [] = []
-transcript p (line ∷ lines) = reply line p ++ transcript (after line p) lines
-
--- no lines have no replies
-pub transcript_none : (p : PlainPlay) → transcript p [] ≡ []
-unfolding transcript
-transcript_none p = refl
+-- a play as what answers lines; it has no store, so nothing is saved
+abbrev pub machine : Machine (List ℕ) PlainPlay
+machine = record { after = after; reply = reply; saved = λ line p. p }

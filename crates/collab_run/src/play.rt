@@ -1,14 +1,15 @@
-ghost use Rattle.std.specs.Prelude.{◌≡◌, ◌<◌, List, ℕ, length, IsErr, IfOk, OnOk, OnErr, string_bytes};
+ghost use Rattle.std.specs.Prelude.{◌≡◌, ◌<◌, List, ℕ, length, IsErr, IfOk, OnOk, OnErr, Some, string_bytes};
 ghost use Rattle.cm_outside.specs.Lines.{max_line};
 ghost use Rattle.script.specs.Reading.{Gives};
 ghost use Rattle.collab_run.specs.Playing.{act};
-ghost use Rattle.collab_run.specs.Transcript.{fresh, outcome, after, reply, transcript, transcript_none};
+ghost use Rattle.collab_run.specs.Transcript.{PlainPlay, fresh, outcome, after, reply, machine};
 
 use crate::begin::begin;
 use crate::command::CollabCommand;
 use crate::deliver::deliver;
 use crate::events::{local, publish, send, state};
 use crate::outcome::Outcome;
+use cm_outside::StoreFault;
 use collab::World;
 use line_run::Answers;
 use replies::{Reply, reply_text};
@@ -93,18 +94,23 @@ impl Play {
     }
 }
 
-impl Answers for Play {
-    ghost replies = { transcript };
+impl Answers<()> for Play {
+    ghost Plain = { PlainPlay };
 
-    ghost none = { transcript_none };
+    ghost told = { λ p store. Some p };
 
-    #[tactic(auto, using(crate::proofs::Answered::answered))]
-    fn answer(&mut self, line: &[u8]) -> Result<String, AllocError> {
-        self.line(line)
+    ghost machine = { machine };
+
+    ghost faults = { λ store. 0 };
+
+    fn answer(&mut self, line: &[u8], _store: &mut ()) -> Result<String, StoreFault> {
+        match self.line(line) {
+            Ok(reply) => Ok(reply),
+            Err(_) => Err(StoreFault::NoMemory),
+        }
     }
 
-    #[tactic(auto, using(crate::proofs::Answered::answered))]
-    fn answer_long(&mut self) -> Result<String, AllocError> {
+    fn answer_long(&mut self, _store: &()) -> Result<String, AllocError> {
         self.long_line()
     }
 }

@@ -1,7 +1,7 @@
 ghost use Rattle.cm_outside.specs.Sink.{sink_told};
 ghost use Rattle.cm_outside.specs.Source.{source_told};
-ghost use Rattle.line_run.specs.Run.{Ran};
-ghost use Rattle.collab_run.specs.Transcript.{fresh, transcript};
+ghost use Rattle.line_run.specs.Run.{RanAlone};
+ghost use Rattle.collab_run.specs.Transcript.{fresh, machine};
 
 use crate::play::Play;
 use cm_outside::{Sink, Source, Status};
@@ -15,7 +15,7 @@ use std::alloc::Global;
 /// `Ok`: the input was read to its end. `ReadFault`, `WriteFault`: the count of faults of the source, of the sink
 /// rose. `TooMuch`: one byte more than the limit was taken. `NoMemory`: out of memory. No other status comes.
 pub fn collab<S: Source, K: Sink>(alloc: Global, limit: u64, source: &mut S, sink: &mut K) -> Status
-    ensures { Ran (transcript fresh) result (record {
+    ensures { RanAlone machine fresh result (record {
       limit = limit;
       source = source_told S.left S.given S.faults source.old;
       source_now = source_told S.left S.given S.faults source.new;
@@ -23,5 +23,6 @@ pub fn collab<S: Source, K: Sink>(alloc: Global, limit: u64, source: &mut S, sin
       sink_now = sink_told K.held K.faults sink.new;
     }) }
 {
-    run_lines(alloc, &mut Play::new(alloc), limit, source, sink)
+    let mut play = Play::new(alloc);
+    run_lines(alloc, &mut play, &mut (), limit, source, sink)
 }

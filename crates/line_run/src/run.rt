@@ -1,35 +1,42 @@
-ghost use Rattle.std.specs.Prelude.{◌≡◌, ◌≤◌, ◌-◌, IfSome, IfErr, length, ◌⊎◌, false, []};
+ghost use Rattle.std.specs.Prelude.{◌≡◌, ◌≤◌, ◌-◌, Err, IfSome, IfErr, OnOk, length, ◌⊎◌, false, []};
+ghost use Rattle.cm_outside.specs.Answering.{answerer_told, exchange_of};
 ghost use Rattle.cm_outside.specs.Faults.{Rose};
 ghost use Rattle.cm_outside.specs.Sink.{sink_told};
 ghost use Rattle.cm_outside.specs.Source.{source_told};
-ghost use Rattle.line_run.specs.Run.{Ran, Wrote, HasReason, Gave};
-ghost use Rattle.line_run.specs.Responding.{Responds, EndsBy};
+ghost use Rattle.cm_outside.specs.Runs.{HasReason, Gave};
+ghost use Rattle.line_run.specs.Run.{Ran, Ended};
+ghost use Rattle.line_run.specs.Responding.{Responds, EndsBy, IsLine};
 
 use crate::answers::Answers;
-use cm_outside::{LineReader, Reading, Sink, Source, Status, write_whole};
+use cm_outside::{LineReader, Reading, Sink, Source, Status, StoreFault, write_whole};
 use std::alloc::Global;
 
 /// Answers what was read. An `Err` is how the run ends.
-fn respond<A: Answers, K: Sink>(
+fn respond<D, A: Answers<D>, K: Sink>(
     answers: &mut A,
+    store: &mut D,
     reading: &Reading,
     sink: &mut K,
 ) -> Result<(), Status>
-    ensures responds { Responds reading.now (A.replies answers.old) (A.replies answers.new)
-        (K.held sink.old) (K.held sink.new) result }
+    ensures responds { IfSome (A.told answers.old store.old) (λ p. Responds A.machine reading.now
+        (exchange_of p (A.told answers.new store.new) (K.held sink.old) (K.held sink.new)) result) }
+    ensures goes_on { OnOk result (IsLine reading.now) }
     ensures ends { IfErr result (EndsBy reading.now) }
-    ensures later { K.faults sink.old ≤ K.faults sink.new }
-    ensures cause { result ≡ Err Status.WriteFault → Rose (K.faults sink.old) (K.faults sink.new) }
+    ensures later { (K.faults sink.old ≤ K.faults sink.new) × (A.faults store.old ≤ A.faults store.new) }
+    ensures write_cause { result ≡ Err Status.WriteFault → Rose (K.faults sink.old) (K.faults sink.new) }
+    ensures store_cause { result ≡ Err Status.StoreFault → Rose (A.faults store.old) (A.faults store.new) }
 {
     let answered = match reading {
-        Reading::Line(line) => answers.answer(line.as_slice()),
-        Reading::TooLong => answers.answer_long(),
+        Reading::Line(line) => answers.answer(line.as_slice(), store),
+        Reading::TooLong => answers.answer_long(store).map_err(|_| StoreFault::NoMemory),
         Reading::End => return Err(Status::Ok),
         Reading::Failed => return Err(Status::ReadFault),
         Reading::Budget => return Err(Status::TooMuch),
     };
-    let Ok(reply) = answered else {
-        return Err(Status::NoMemory);
+    let reply = match answered {
+        Ok(reply) => reply,
+        Err(StoreFault::Failed) => return Err(Status::StoreFault),
+        Err(StoreFault::NoMemory) => return Err(Status::NoMemory),
     };
     if write_whole(sink, reply.as_bytes()).is_err() {
         return Err(Status::WriteFault);
@@ -38,31 +45,35 @@ fn respond<A: Answers, K: Sink>(
 }
 
 /// Has each line that the reader cuts off the source answered, to its end.
-fn answer_all<A: Answers, S: Source, K: Sink>(
+fn answer_all<D, A: Answers<D>, S: Source, K: Sink>(
     mut reader: LineReader,
     answers: &mut A,
+    store: &mut D,
     source: &mut S,
     sink: &mut K,
 ) -> Status
     requires { reader ≡ record { limit = reader.limit; taken = 0; ended = false; rest = [] } }
-    // What was written, and why the run ended so.
-    ensures wrote { IfSome (S.left source.old) (λ input. IfSome (K.held sink.old) (λ before.
-        Wrote (A.replies answers.old) result reader.limit (S.given source.new - S.given source.old) input before (K.held sink.new))) }
+    // What the run leaves, and why it ended so.
+    ensures ended { IfSome (S.left source.old) (λ input. IfSome (A.told answers.old store.old) (λ first.
+        Ended A.machine result reader.limit (S.given source.new - S.given source.old) input
+        (exchange_of first (A.told answers.new store.new) (K.held sink.old) (K.held sink.new)))) }
     ensures reason { HasReason result reader.limit (S.given source.new - S.given source.old)
-        (Rose (S.faults source.old) (S.faults source.new)) (Rose (K.faults sink.old) (K.faults sink.new)) }
+        (Rose (S.faults source.old) (S.faults source.new)) (Rose (K.faults sink.old) (K.faults sink.new))
+        (Rose (A.faults store.old) (A.faults store.new)) }
     ensures gave { IfSome (S.left source.old) (λ input.
         Gave (S.given source.new - S.given source.old) input (S.left source.new)) }
     // Without a fault and within the limit the input is read to its end, or out of memory.
     ensures complete { ¬ (Rose (S.faults source.old) (S.faults source.new)) → ¬ (Rose (K.faults sink.old) (K.faults sink.new))
+        → ¬ (Rose (A.faults store.old) (A.faults store.new))
         → IfSome (S.left source.old) (λ input. length input ≤ reader.limit → (result ≡ Status.Ok) ⊎ (result ≡ Status.NoMemory)) }
     ensures later { (S.given source.old ≤ S.given source.new) × (S.faults source.old ≤ S.faults source.new)
-        × (K.faults sink.old ≤ K.faults sink.new) }
+        × (K.faults sink.old ≤ K.faults sink.new) × (A.faults store.old ≤ A.faults store.new) }
 {
     loop {
         let Ok(reading) = reader.read_line(source) else {
             return Status::NoMemory;
         };
-        if let Err(status) = respond(answers, &reading, sink) {
+        if let Err(status) = respond(answers, store, &reading, sink) {
             return status;
         }
     }
@@ -72,25 +83,28 @@ fn answer_all<A: Answers, S: Source, K: Sink>(
 /// line is answered. A line ends at LF or at the end of input, and a last part without bytes is no line. At most
 /// `limit` bytes are taken, and one more by which the run knows that there are more.
 ///
-/// `Ok`: the input was read to its end. `ReadFault`, `WriteFault`: the count of faults of the source, of the sink
-/// rose. `TooMuch`: one byte more than the limit was taken. `NoMemory`: out of memory. No other status comes.
-pub fn run_lines<A: Answers, S: Source, K: Sink>(
+/// `Ok`: the input was read to its end. `ReadFault`, `WriteFault`, `StoreFault`: the count of faults of the source, of
+/// the sink, of the store rose. `TooMuch`: one byte more than the limit was taken. `NoMemory`: out of memory. No other
+/// status comes.
+pub fn run_lines<D, A: Answers<D>, S: Source, K: Sink>(
     alloc: Global,
     answers: &mut A,
+    store: &mut D,
     limit: u64,
     source: &mut S,
     sink: &mut K,
 ) -> Status
-    ensures { Ran (A.replies answers.old) result (record {
-      limit = limit;
-      source = source_told S.left S.given S.faults source.old;
-      source_now = source_told S.left S.given S.faults source.new;
-      sink = sink_told K.held K.faults sink.old;
-      sink_now = sink_told K.held K.faults sink.new;
-    }) }
+    ensures { Ran A.machine (answerer_told A.told A.faults answers.old store.old)
+        (answerer_told A.told A.faults answers.new store.new) result (record {
+          limit = limit;
+          source = source_told S.left S.given S.faults source.old;
+          source_now = source_told S.left S.given S.faults source.new;
+          sink = sink_told K.held K.faults sink.old;
+          sink_now = sink_told K.held K.faults sink.new;
+        }) }
 {
     match LineReader::new(alloc, limit) {
-        Ok(reader) => answer_all(reader, answers, source, sink),
+        Ok(reader) => answer_all(reader, answers, store, source, sink),
         Err(_) => Status::NoMemory,
     }
 }

@@ -1,7 +1,6 @@
-ghost use Rattle.std.specs.Prelude.{codes, refl};
-ghost use Rattle.std.specs.List.{flat_map};
+ghost use Rattle.std.specs.Prelude.{◌≡◌, codes, IfOk, Some, ⊤, string_bytes};
 
-use cm_outside::{MemSink, MemSource, Piece, Status};
+use cm_outside::{MemSink, MemSource, Piece, Status, StoreFault};
 use line_run::{Answers, run_lines};
 use std::alloc::{AllocError, Global};
 use std::test::Fail;
@@ -12,17 +11,32 @@ struct Same {
     alloc: Global,
 }
 
-impl Answers for Same {
-    ghost replies = { λ a lines. flat_map (λ line. codes "ok\n") lines };
-
-    ghost none = { λ a. refl };
-
-    fn answer(&mut self, _line: &[u8]) -> Result<String, AllocError> {
+impl Same {
+    fn reply(&self) -> Result<String, AllocError>
+        ensures { IfOk result (λ r. string_bytes r ≡ codes "ok\n") }
+    {
         String::from_str(self.alloc, "ok\n")
     }
+}
 
-    fn answer_long(&mut self) -> Result<String, AllocError> {
-        String::from_str(self.alloc, "ok\n")
+impl Answers<()> for Same {
+    ghost Plain = { ⊤ };
+
+    ghost told = { λ a store. Some tt };
+
+    ghost machine = { record { after = λ line p. p; reply = λ line p. codes "ok\n"; saved = λ line p. p } };
+
+    ghost faults = { λ store. 0 };
+
+    fn answer(&mut self, _line: &[u8], _store: &mut ()) -> Result<String, StoreFault> {
+        match self.reply() {
+            Ok(reply) => Ok(reply),
+            Err(_) => Err(StoreFault::NoMemory),
+        }
+    }
+
+    fn answer_long(&mut self, _store: &()) -> Result<String, AllocError> {
+        self.reply()
     }
 }
 
@@ -50,7 +64,8 @@ fn ends(
 ) -> Result<bool, AllocError> {
     let mut source = source(alloc, input.0, input.1)?;
     let mut sink = sink(alloc, failing_writes)?;
-    let status = run_lines(alloc, &mut Same { alloc }, limit, &mut source, &mut sink);
+    let mut same = Same { alloc };
+    let status = run_lines(alloc, &mut same, &mut (), limit, &mut source, &mut sink);
     Ok(status == want.0 && sink.bytes() == want.1)
 }
 

@@ -6,10 +6,11 @@ use Rattle.line_run.proofs.run.run_lines.Goals as goal
 pub returns-in-Ok : goal.returns-in-Ok
 returns-in-Ok g c =
     let run = c.answer_all.ensures in
-    at_limit _ _ _ c.in-Ok.reader.limit (ap (λ (p : Progress). p.limit) c.in-Ok.ensures) (record {
-      wrote = run.wrote;
+    at_limit _ _ _ _ _ c.in-Ok.reader.limit (ap (λ (p : Progress). p.limit) c.in-Ok.ensures) (record {
+      ended = run.ended;
       reason = run.reason;
       gave = run.gave;
       complete = run.complete;
       later = record { given = run.later.0; source_faults = run.later.1; sink_faults = run.later.2 };
+      store_later = run.later.3;
     })
