@@ -1,11 +1,12 @@
 pub mod Several
 pub mod Shapes
 pub mod KnownMaps
-pub mod Ends
 pub mod Steps
 pub mod Creations
 pub mod Entering
 pub mod Presence
 pub mod Registered
 pub mod Drafts
+pub mod RuleLists
+pub mod Configurations
 pub mod Views

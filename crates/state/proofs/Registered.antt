@@ -15,8 +15,7 @@ use Rattle.facet_slots.specs.Resolving.{IsResolved}
 use Rattle.facet_slots.specs.Setups.{Definitions, Setup}
 use Rattle.facet_slots.proofs.Declared.{later-lawful, lent-are, setup-lawful, setup-resolved}
 use Rattle.state.specs.declared.extensions.Extensions.{Extensions}
-use Rattle.state.specs.Reconfigured.{IsConfigOf}
-use Rattle.state.specs.PrivateStepping.{setup_in}
+use Rattle.state.specs.Reconfigured.{IsConfigOf, setup_in}
 
 module _ (rules : Rules) (d : Declarations) (lawful : AreLawfulDeclarations rules d) (defs : Defs Val) (is : AreDefs defs d) where
   lent-config : (e : Extensions) (config : ConfigView) → IsConfigOf d e config → IsConfig (tree_of d.nodes e.contents defs.links) defs.facets defs.fields defs.node_defs e.base config

@@ -27,11 +27,11 @@ use Rattle.facet_slots.specs.Scenes.{SceneView, Values}
 use Rattle.facet_slots.specs.Setups.{PresentFacet, facet_at, input_node, inputs_at}
 use Rattle.facet_slots.specs.Stepping.{Enter, creation, empty_state, rule_of}
 use Rattle.facet_slots.proofs.Held.{settled-at}
+use Rattle.filters.specs.Shown.{allowed}
 use Rattle.state.specs.declared.extensions.Extensions.{Extensions}
 use Rattle.state.specs.Creating.{start_scene}
-use Rattle.state.specs.Cutting.{allows_several, config_allows_several, cut, is_true_input, some_input_true}
-use Rattle.state.specs.Reconfigured.{IsConfigOf}
-use Rattle.state.specs.PrivateStepping.{setup_in}
+use Rattle.state.specs.Cutting.{allows_several, config_allows_several, is_true_input, some_input_true}
+use Rattle.state.specs.Reconfigured.{IsConfigOf, setup_in}
 
 -- an input with a value of its own
 abbrev IsGiven : Option (NodeDef Val) → Type 0
@@ -122,10 +122,10 @@ allows-config rules keeps d lawful known e config is ordered scene =
     ∙ some-true rules scene values d.node_defs inputs (config-given rules d lawful known e config is)
 
 abbrev cut_of : SceneView → Bool → SceneView
-cut_of scene b = record { document = scene.document; selection = cut b scene.selection }
+cut_of scene b = record { document = scene.document; selection = allowed b scene.selection }
 
 -- so the selection that is cut by the configuration is the one that the first state is made over
 pub start-is : (rules : Rules) → KeepsShipped rules → (d : Declarations) → IsLawful rules d → slice_get d.facets 1 ≡ Some several_def → (e : Extensions) (config : ConfigView) → IsConfigOf d e config → IsOrdered (setup_in d config) → (scene : SceneView) (several : Bool) (node_defs : List (NodeDef Val))
-    → node_defs ≡ d.node_defs → several ≡ config_allows_several node_defs config → record { document = scene.document; selection = cut several scene.selection } ≡ start_scene rules (setup_in d config) scene
+    → node_defs ≡ d.node_defs → several ≡ config_allows_several node_defs config → record { document = scene.document; selection = allowed several scene.selection } ≡ start_scene rules (setup_in d config) scene
 start-is rules keeps d lawful known e config is ordered scene several node_defs defs same =
     ap (cut_of scene) (same ∙ ap (λ (xs : List (NodeDef Val)). config_allows_several xs config) defs ∙ sym (allows-config rules keeps d lawful known e config is ordered scene))

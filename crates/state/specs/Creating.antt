@@ -8,7 +8,8 @@ use Rattle.facet_slots.specs.Lent.{definitions}
 use Rattle.facet_slots.specs.Scenes.{SceneView}
 use Rattle.facet_slots.specs.Setups.{Setup}
 use Rattle.facet_slots.specs.Stepping.{State, Enter, creation, empty_state}
-use Rattle.state.specs.Cutting.{allows_several, cut}
+use Rattle.filters.specs.Shown.{allowed}
+use Rattle.state.specs.Cutting.{allows_several}
 use Rattle.state.specs.Reconfigured.{IsConfigOf}
 
 -- the setup that a base comes to
@@ -18,7 +19,7 @@ pub record IsSetupOf (d : Declarations) (base : List ℕ) (setup : Setup) : Type
 
 -- the document with its selection, cut to the main range unless the configuration allows several
 abbrev pub start_scene : Rules → Setup → SceneView → SceneView
-start_scene rules setup scene = record { document = scene.document; selection = cut (allows_several (creation rules setup scene)) scene.selection }
+start_scene rules setup scene = record { document = scene.document; selection = allowed (allows_several (creation rules setup scene)) scene.selection }
 
 -- Created: the state of a setup over a document and a selection, which is cut first.
 abbrev pub created_state : Rules → Setup → SceneView → State

@@ -2,7 +2,6 @@
 use Rattle.std.specs.Prelude.{◌||◌, ℕ, List, Bool, true, false, Option, Some, slice_get, get_or, []}
 use Rattle.std.specs.Option.{unwrap_or}
 use Rattle.std.specs.List.{list_any}
-use Rattle.selection.specs.Selections.{SelectionView, single_of}
 use Rattle.configuration.specs.Config.{ConfigView}
 use Rattle.configuration.specs.declared.node_def.NodeDef.{NodeDef}
 use Rattle.configuration.specs.declared.node_def.NodeDef.TheVariants.{Of}
@@ -16,11 +15,6 @@ use Rattle.facet_slots.specs.Stepping.{State}
 -- Several: whether selections may have several ranges in a state, which is the value of a facet.
 abbrev pub allows_several : State → Bool
 allows_several s = is_true (unwrap_or (s.values (Facet ALLOW_MULTIPLE_SELECTIONS)) nothing)
-
--- Cut: the selection as it is where several ranges are allowed, else its main range alone.
-abbrev pub cut : (several : Bool) → SelectionView → SelectionView
-cut true selection = selection
-cut false selection = single_of selection
 
 -- an input that is true
 abbrev pub is_true_input : Option (NodeDef Val) → Bool

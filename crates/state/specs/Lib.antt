@@ -4,6 +4,7 @@ pub use Rattle.filters.specs.Extended
 pub use Rattle.filters.specs.Facets
 pub use Rattle.filters.specs.Filtered
 pub use Rattle.filters.specs.Outcomes
+pub use Rattle.filters.specs.Shown
 pub use Rattle.filters.specs.Starts
 pub use Rattle.facet_slots.specs.Agreement
 pub use Rattle.facet_slots.specs.Due
@@ -24,6 +25,5 @@ pub mod Refusals
 pub mod Creating
 pub mod Steps
 pub mod Plainly
-pub mod PrivateEnds
 pub mod PrivateFound
 pub mod PrivateStepping

@@ -5,7 +5,7 @@ ghost use Rattle.facet_slots.specs.Found.{scene_of};
 ghost use Rattle.facet_slots.specs.Scenes.{IsScene};
 ghost use Rattle.facet_slots.specs.Slotted.{plain};
 ghost use Rattle.state.specs.Creating.{created_state, creation_calls};
-ghost use Rattle.state.specs.Cutting.{cut};
+ghost use Rattle.filters.specs.Shown.{allowed};
 ghost use Rattle.state.specs.Plainly.{config_from, unordered_config};
 ghost use Rattle.state.specs.Reconfigured.{setup_in, IsConfigOf};
 ghost use Rattle.state.specs.Refusals.{scene_refusal};
@@ -77,7 +77,7 @@ pub fn resolved_base<M: Meanings>(
 fn cut_scene(scene: Scene, several: bool) -> Result<Scene, AllocError>
     requires { IsScene (scene_of scene) }
     ensures is_scene { IfOk result (λ start. IsScene (scene_of start)) }
-    ensures cut { IfOk result (λ start. scene_of start ≡ record { document = scene.document.characters; selection = cut several scene.selection }) }
+    ensures cut { IfOk result (λ start. scene_of start ≡ record { document = scene.document.characters; selection = allowed several scene.selection }) }
 {
     let selection = cut(scene.selection, several)?;
     selection.known();

@@ -3,7 +3,8 @@ ghost use Rattle.std.specs.Prelude.{◌≡◌, ◌<◌, ℕ, get_or, length, sli
 ghost use Rattle.selection.specs.Selections.{LieIn};
 ghost use Rattle.values.specs.Combining.{is_true};
 ghost use Rattle.facet_slots.specs.Slotted.{plain};
-ghost use Rattle.state.specs.Cutting.{allows_several, config_allows_several, cut, is_true_input, some_input_true};
+ghost use Rattle.filters.specs.Shown.{allowed};
+ghost use Rattle.state.specs.Cutting.{allows_several, config_allows_several, is_true_input, some_input_true};
 
 use cm_plain::Plain;
 use configuration::{Config, Defs, NodeDef};
@@ -62,7 +63,7 @@ pub fn config_allows_several(defs: &Defs<Val>, config: &Config) -> bool
 
 /// The selection as it is where several ranges are allowed, else its main range alone. `Err`: out of memory.
 pub fn cut(selection: Selection, several: bool) -> Result<Selection, AllocError>
-    ensures selection { IfOk result (λ s. s ≡ cut several selection) }
+    ensures selection { IfOk result (λ s. s ≡ allowed several selection) }
     ensures inside { IfOk result (λ s. (len : ℕ) → LieIn len selection.ranges → LieIn len s.ranges) }
 {
     if several {

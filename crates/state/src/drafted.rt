@@ -9,53 +9,17 @@ ghost use Rattle.facet_slots.specs.Lent.{definitions};
 ghost use Rattle.facet_slots.specs.Slotted.{plain};
 ghost use Rattle.filters.specs.Facets.{AreFacets, facets_of};
 ghost use Rattle.filters.specs.Starts.{IsStart, StartsIn, start_of};
-ghost use Rattle.state.specs.Drafting.{draft_of, drafted_in, facets_in, merged_in, rewritten_in, start_in};
+ghost use Rattle.state.specs.Drafting.{draft_of, drafted_in, merged_in, rewritten_in, start_in};
 ghost use Rattle.state.specs.Refusals.{of_transaction_error};
 
-use crate::cutting::allows_several;
+use crate::start::{filter_facets, start_of};
 use crate::state_error::StateError;
 use facet_slots::Slots;
 use filters::{FilterFacets, Start, apply_extenders, apply_filters};
-use line_tree::MAX_LEN;
-use registry::{
-    CHANGE_FILTER, FILTER_DATA, Registry, TRANSACTION_EXTENDER, TRANSACTION_FILTER,
-};
+use registry::Registry;
 use std::alloc::Global;
 use transaction::{Draft, Frame, Spec, TransactionError, resolve};
 use values::{Kit, Meanings, Val};
-
-/// The values of the facets that filters go by.
-fn filter_facets<M: Meanings>(slots: &Slots<M>) -> FilterFacets<'_>
-    requires { IsGrown (definitions predeclared) slots.now.setup.defs }
-    ensures facets { facets_of result ≡ facets_in (plain slots.now) }
-    ensures numbers { AreFacets M.rules (facets_of result) }
-{
-    slots.known();
-    FilterFacets {
-        change_filter: slots.value(CHANGE_FILTER),
-        transaction_filter: slots.value(TRANSACTION_FILTER),
-        transaction_extender: slots.value(TRANSACTION_EXTENDER),
-        filter_data: slots.value(FILTER_DATA),
-    }
-}
-
-/// What filters go by of the state that an update starts in.
-fn start_of<'a, M: Meanings>(registry: &'a Registry<M>, slots: &'a Slots<M>) -> Start<'a>
-    requires { IsGrown (definitions predeclared) slots.now.setup.defs }
-    ensures start { start_of result ≡ start_in registry.now (plain slots.now) }
-    ensures is_start { IsStart (start_of result) }
-    ensures maps { HasMaps M.rules.effect_maps result.kinds.now.maps }
-{
-    registry.known();
-    slots.known();
-    Start {
-        document: slots.document(),
-        selection: slots.selection(),
-        allows_multiple: allows_several(slots),
-        kinds: registry.kinds(),
-        max: MAX_LEN,
-    }
-}
 
 /// The specs as one draft, or their first refusal.
 fn merged<M: Meanings>(

@@ -13,9 +13,11 @@ mod drafted;
 mod extensions;
 mod moved;
 mod reconfigured;
+mod start;
 mod state;
 mod state_error;
 mod stepped;
+mod updated;
 
 pub use state::State;
 pub use state_error::StateError;

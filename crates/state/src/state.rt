@@ -11,10 +11,8 @@ ghost use Rattle.facet_slots.specs.Setups.{field_at};
 ghost use Rattle.facet_slots.specs.Slotted.{plain};
 
 use crate::created::{accepted, created, resolved_base};
-use crate::drafted::drafted;
-use crate::reconfigured::reconfigured;
 use crate::state_error::StateError;
-use crate::stepped::after_draft;
+use crate::updated::updated;
 use configuration::{Config, Vertex};
 use ext_tree::ExtId;
 use facet_slots::Slots;
@@ -83,14 +81,17 @@ impl<M: Meanings> State<M> {
             document,
             selection,
         })?;
+        registry.known();
         let config = resolved_base(alloc, registry, base)?;
         let slots = created(alloc, kit, registry, config, scene, calls)?;
         Ok(State { slots })
     }
 
-    /// The state after a transaction of specs. This one stays as it is. (Reference Manual, EditorState.update.) Refused, in this
-    /// order: as the specs are, in the transaction's order; then, where an effect is on the configuration, as `UnknownExt`; as
-    /// `CompartmentLoop` or `DuplicateCompartment`; as `Cycle`. A refused call calls no rule.
+    /// The state after a transaction of specs, of which filters and extenders are asked what they make. This one stays as it is.
+    /// (Reference Manual, EditorState.update.) Refused, in this order: as the specs are, in the transaction's order; as `TooLong`
+    /// for what change filters leave; as the specs are that transaction filters give; as the effects are that extenders give;
+    /// then, where an effect is on the configuration, as `UnknownExt`; as `CompartmentLoop` or `DuplicateCompartment`; as `Cycle`.
+    /// A refused call counts no call of a rule.
     pub fn update<L: Ledger>(
         &self,
         alloc: Global,
@@ -108,14 +109,7 @@ impl<M: Meanings> State<M> {
         ensures uncalled { IfErr result (λ error. error ≢ StateError.NoMemory → calls.new ≡ calls.old) }
         ensures paid { IsStepPaid M.rules registry.now (plain self.now) specs.items calls.old calls.new }
     {
-        let draft = drafted(alloc, kit, registry, &self.slots, specs)?;
-        let config = reconfigured(
-            alloc,
-            registry,
-            self.slots.config(),
-            draft.effects.as_slice(),
-        )?;
-        let slots = after_draft(alloc, kit, registry, &self.slots, config, draft, calls)?;
+        let slots = updated(alloc, kit, registry, &self.slots, specs, calls)?;
         Ok(State { slots })
     }
 

@@ -8,8 +8,9 @@ use Rattle.facet_slots.specs.Resolving.{IsResolved}
 use Rattle.facet_slots.specs.Setups.{Setup}
 use Rattle.facet_slots.specs.Slotted.{plain}
 use Rattle.facet_slots.specs.Stepping.{Becomes, Stays, Target, Update, next, step}
-use Rattle.state.specs.Steps.{step_calls}
-use Rattle.state.specs.PrivateStepping.{IsEntered, entered_target, setup_in}
+use Rattle.state.specs.Steps.{entered_target, step_calls}
+use Rattle.state.specs.Reconfigured.{setup_in}
+use Rattle.state.specs.PrivateStepping.{IsEntered}
 use Rattle.state.proofs.Registered.{later-in, lawful-in, resolved-in, setup-is, setup_with}
 use Rattle.state.proofs.stepped.stepped.Goals as goal
 

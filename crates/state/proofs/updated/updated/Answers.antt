@@ -1,0 +1,24 @@
+use Rattle.std.proofs.Common.{inr}
+use Rattle.facet_slots.specs.Slotted.{plain}
+use Rattle.state.proofs.Steps.{found-entered, new-defs, not-found, paid-found, specs-refused, step-is, step-paid}
+use Rattle.state.proofs.updated.updated.Goals as goal
+
+pub returns-in_err-slots-clause-paid : goal.returns-in_err-slots-clause-paid
+returns-in_err-slots-clause-paid g c =
+    inr (_, paid-found g.M.Meanings.rules c.args.registry.now (plain c.args.slots.now) c.args.specs.items c.in_ok-draft.draft c.in_ok-draft.ensures.draft c.in_ok-config.config c.in_ok-config.ensures.config c.args.calls.now c.after_draft.new.calls c.in_err-slots.ensures.cost)
+
+pub returns-clause-updated : goal.returns-clause-updated
+returns-clause-updated g c =
+    step-is g.M.Meanings.rules c.args.registry.now (plain c.args.slots.now) c.args.specs.items c.in_ok-draft.draft c.in_ok-draft.ensures.draft c.in_ok-config.config c.in_ok-config.ensures.config (plain c.in_ok-slots.slots) c.in_ok-slots.ensures.state c.in_ok-config.ensures.found
+
+pub returns-clause-defs : goal.returns-clause-defs
+returns-clause-defs g c =
+    new-defs g.M.Meanings.rules c.args.registry.now (plain c.args.slots.now) c.args.specs.items c.in_ok-draft.draft c.in_ok-draft.ensures.draft c.in_ok-config.config c.in_ok-config.ensures.config (plain c.in_ok-slots.slots) c.in_ok-slots.ensures.state
+
+pub returns-clause-cost : goal.returns-clause-cost
+returns-clause-cost g c =
+    step-paid g.M.Meanings.rules c.args.registry.now (plain c.args.slots.now) c.args.specs.items c.in_ok-draft.draft c.in_ok-draft.ensures.draft c.in_ok-config.config c.in_ok-config.ensures.config (plain c.in_ok-slots.slots) c.in_ok-slots.ensures.state c.args.calls.now c.after_draft.new.calls c.in_ok-slots.ensures.cost
+
+pub returns-clause-paid : goal.returns-clause-paid
+returns-clause-paid g c =
+    inr (_, paid-found g.M.Meanings.rules c.args.registry.now (plain c.args.slots.now) c.args.specs.items c.in_ok-draft.draft c.in_ok-draft.ensures.draft c.in_ok-config.config c.in_ok-config.ensures.config c.args.calls.now c.after_draft.new.calls c.in_ok-slots.ensures.cost)
