@@ -1,19 +1,14 @@
 -- Why there is no state, as a refusal of a line, with ids written as names.
-use Rattle.std.specs.Prelude.{◌≡◌, ⊤, ℕ, List, Option, None, Some, Result, Ok, Err}
-use Rattle.facet_slots.specs.Stepping.{State}
+use Rattle.std.specs.Prelude.{◌≡◌, ⊤, ℕ, List, Option, None, Some}
+use Rattle.configuration.specs.declared.config_error.ConfigError.TheVariants as configs
 use Rattle.names.specs.Names.{NameList}
 use Rattle.names.specs.ConfigRefusals.{config_refusal}
-use Rattle.configuration.specs.declared.config_error.ConfigError.TheVariants as configs
 use Rattle.script.specs.declared.refusal.LineError.{LineError}
 use Rattle.script.specs.declared.refusal.LineError.TheVariants as lines
 use Rattle.script.specs.declared.refusal.Refusal.{Refusal}
 use Rattle.script.specs.declared.refusal.Refusal.TheVariants.{BadRange, LengthMismatch, TooLong, NoRanges, BadMain, SelectionOutside, UnknownEffect, UnknownCompartment}
-use Rattle.script.specs.Refused.{unless}
-use Rattle.replies.specs.declared.answer.Answer.TheVariants.{Nothing}
 use Rattle.state.specs.declared.state_error.StateError.{StateError}
 use Rattle.state.specs.declared.state_error.StateError.TheVariants as errors
-use Rattle.session.specs.State.{PlainSession}
-use Rattle.session.specs.Outcomes.{Done, answered, put}
 
 -- the refusal of a state; out of memory is none
 abbrev pub state_refusal : NameList → StateError → Option Refusal
@@ -30,12 +25,6 @@ state_refusal names (errors.DuplicateCompartment compartment first second) = con
 state_refusal names (errors.CompartmentLoop path) = config_refusal names (configs.CompartmentLoop path)
 state_refusal names (errors.Cycle members) = config_refusal names (configs.Cycle members)
 state_refusal names errors.NoMemory = None
-
--- A new state takes the place of the one before, or its refusal is answered. The definition of a state is never out of memory;
--- that would change nothing.
-abbrev pub new_state : PlainSession → Result State StateError → Result Done Refusal
-new_state s (Ok new) = Ok (put s new)
-new_state s (Err error) = unless (state_refusal s.world.names error) (answered s Nothing)
 
 -- an error of a line is why there is no state, or out of memory
 abbrev pub Refuses : NameList → StateError → LineError → Type 0

@@ -12,8 +12,7 @@ use Rattle.requests.specs.declared.new_state.NewState.{NewState}
 use Rattle.names.specs.Names.{all_found, as_node}
 use Rattle.state.specs.Plainly.{created_from}
 use Rattle.session.specs.State.{PlainSession}
-use Rattle.session.specs.Outcomes.{Done}
-use Rattle.session.specs.Refused.{new_state}
+use Rattle.session.specs.Outcomes.{Done, put_started}
 
 -- the selection that ranges make, in normal form, or their refusal
 abbrev pub created : SelectionSpec → Result SelectionView Refusal
@@ -24,4 +23,4 @@ abbrev pub start : Rules → PlainSession → NewState → Result Done Refusal
 start rules s request = do
   base ← all_found as_node s.world.names request.extensions
   selection ← created request.selection
-  new_state s (created_from rules s.world.declared base (record { document = cut request.doc; selection = selection }))
+  put_started s (created_from rules s.world.declared base (record { document = cut request.doc; selection = selection }))

@@ -2,7 +2,7 @@ ghost use Rattle.script.specs.Reading.{Gives};
 ghost use Rattle.session.specs.Asked.{selection, text};
 
 use crate::session::Session;
-use crate::stepping::started;
+use crate::started::started;
 use change_set::InsertedText;
 use replies::Answer;
 use script::LineError;

@@ -10,7 +10,7 @@ ghost use Rattle.session.specs.Outcomes.{plain_state};
 ghost use Rattle.session.specs.Values.{shown, shown_range, shown_ranges, unfilled, value_of};
 
 use crate::session::Session;
-use crate::stepping::started;
+use crate::started::started;
 use cm_plain::Str;
 use configuration::FacetDef;
 use decoration::{DecoSet, Deco};

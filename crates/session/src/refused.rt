@@ -1,20 +1,15 @@
 // Why there is no state, as a refusal of a line.
-ghost use Rattle.std.specs.Prelude.{◌≡◌, IfErr, IfOk, Some};
-ghost use Rattle.session.specs.Outcomes.{done_by, plain_state, put};
-ghost use Rattle.session.specs.Refused.{Refuses, state_refusal};
+ghost use Rattle.std.specs.Prelude.{◌≡◌, IfOk, Some};
+ghost use Rattle.session.specs.Refused.{state_refusal};
 
-use crate::outcome::Outcome;
-use crate::session::Session;
 use configuration::ConfigError;
 use names::Names;
-use replies::Answer;
-use script::{LineError, Refusal};
-use state::{State, StateError};
+use script::Refusal;
+use state::StateError;
 use std::alloc::{AllocError, Global};
-use values::Meanings;
 
 /// The refusal of a state under its name, with names in place of ids. `Err`: out of memory.
-fn named(alloc: Global, names: &Names, error: StateError) -> Result<Refusal, AllocError>
+pub(crate) fn named(alloc: Global, names: &Names, error: StateError) -> Result<Refusal, AllocError>
     ensures { IfOk result (λ r. state_refusal names.now error ≡ Some r) }
 {
     match error {
@@ -59,23 +54,6 @@ fn named(alloc: Global, names: &Names, error: StateError) -> Result<Refusal, All
         StateError::Cycle { members } => {
             config_refusal(alloc, names, ConfigError::Cycle { members })
         }
-    }
-}
-
-/// A new state is answered by the length of its document; else its refusal. The only other error is out of memory.
-pub(crate) fn new_state<M: Meanings>(
-    session: &Session<M>,
-    state: Result<State<M>, StateError>,
-) -> Result<Outcome<State<M>>, LineError>
-    ensures done { IfOk result (λ outcome. IfOk state (λ new. done_by session.now outcome ≡ put session.now (plain_state new))) }
-    ensures refused { IfErr result (λ error. IfErr state (λ cause. Refuses session.now.world.names cause error)) }
-{
-    match state {
-        Ok(state) => {
-            let len = state.doc().len();
-            Ok(Outcome::Changed(Answer::Length(len), state))
-        }
-        Err(error) => Err(LineError::Refused(named(session.alloc, &session.names, error)?)),
     }
 }
 

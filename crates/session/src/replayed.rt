@@ -1,7 +1,9 @@
 // A session with the kit by which it answers lines.
-ghost use Rattle.session.specs.Transcript.{transcript, transcript_none};
+ghost use Rattle.session.specs.Headline.{desk_of};
+ghost use Rattle.session.specs.Transcript.{machine};
 
 use crate::session::Session;
+use cm_outside::{Store, StoreFault};
 use line_run::Answers;
 use std::alloc::AllocError;
 use std::marker::Model;
@@ -38,18 +40,22 @@ impl<'a, M: Meanings> Replayed<'a, M> {
     }
 }
 
-impl<'a, M: Meanings> Answers for Replayed<'a, M> {
-    ghost replies = { λ session. transcript M.rules session };
+impl<'a, M: Meanings, D: Store> Answers<D> for Replayed<'a, M> {
+    ghost use Rattle.session.specs.State.{Desk};
 
-    ghost none = { λ session. transcript_none M.rules session };
+    ghost Plain = { Desk };
 
-    #[tactic(auto, using(crate::proofs::Answered::answered))]
-    fn answer(&mut self, line: &[u8]) -> Result<String, AllocError> {
-        self.session.line(self.kit, line)
+    ghost told = { λ session store. desk_of session (D.files store) };
+
+    ghost machine = { machine M.rules };
+
+    ghost faults = { D.faults };
+
+    fn answer(&mut self, line: &[u8], store: &mut D) -> Result<String, StoreFault> {
+        self.session.line(self.kit, store, line)
     }
 
-    #[tactic(auto, using(crate::proofs::Answered::answered))]
-    fn answer_long(&mut self) -> Result<String, AllocError> {
+    fn answer_long(&mut self, _store: &D) -> Result<String, AllocError> {
         self.session.long_line()
     }
 }

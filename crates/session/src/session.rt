@@ -1,30 +1,51 @@
-ghost use Rattle.std.specs.Prelude.{◌≡◌, ◌<◌, List, ℕ, false, length, IsErr, IfOk, OnOk, OnErr, string_bytes};
-ghost use Rattle.cm_outside.specs.Lines.{max_line};
+ghost use Rattle.std.specs.Prelude.{◌≡◌, ◌≤◌, Err, Result, true, IfOk, IfSome, string_bytes};
+ghost use Rattle.cm_outside.specs.Answering.{Answered};
+ghost use Rattle.cm_outside.specs.Faults.{Rose};
+ghost use Rattle.cm_outside.specs.Files.{Files};
 ghost use Rattle.replies.specs.Replies.{reply_text};
+ghost use Rattle.replies.specs.declared.answer.Reply.TheVariants as replies;
+ghost use Rattle.script.specs.declared.refusal.Refusal.{Refusal as RefusalData};
+ghost use Rattle.script.specs.declared.refusal.Refusal.TheVariants.{LineTooLong};
+ghost use Rattle.script.specs.Reading.{Gives};
 ghost use Rattle.values.specs.Whole.{IsWhole};
-ghost use Rattle.session.specs.Session.{act, declare, declares, left_by, reply_of, IsRefusalText};
+ghost use Rattle.session.specs.Headline.{desk_of};
+ghost use Rattle.session.specs.Outcomes.{Done, done_by};
+ghost use Rattle.session.specs.PrivateSession.{DoneWith, IsGrownIn, IsRefusalText, is_inner};
+ghost use Rattle.session.specs.Session.{act, declare};
 ghost use Rattle.session.specs.State.{fresh};
-ghost use Rattle.session.specs.Transcript.{after, outcome, reply};
+ghost use Rattle.session.specs.Transcript.{machine};
 
-use crate::outcome::Outcome;
+use crate::filing::{opened, saved};
+use crate::keys::Keys;
+use crate::outcome::{Next, Outcome};
 use crate::outcomes::outcome_of;
-use names::{Names, declare};
+use cm_outside::{Store, StoreFault};
+use cm_plain::Str;
+use names::{Names, Nodes, all_found, declare};
 use registry::Registry;
 use replies::{Answer, Reply, reply_text};
-use requests::{Declaration, Request};
+use requests::{Declaration, OpenRequest, Request};
 use script::{LineError, Refusal, line_command};
 use state::State;
 use std::alloc::{AllocError, Global};
 use std::marker::Model;
 use values::{Kit, Meanings};
+use viewport::Viewport;
 
-/// A session: lines declare facets, fields and effects, start a state over them, change it and ask for it.
+/// The size of a session's first window.
+const ROWS: u32 = 24;
+const COLS: u32 = 80;
+
+/// A session: lines declare facets, fields and effects, start a state over them, change it, show it in a window and ask for it.
 #[derive(Drop)]
 pub struct Session<M: Meanings> {
     pub(crate) alloc: Global,
     pub(crate) names: Names,
     pub(crate) registry: Registry<M>,
+    pub(crate) keys: Keys<M>,
     pub(crate) state: Option<State<M>>,
+    pub(crate) count: u64,
+    pub(crate) window: Viewport,
 }
 
 impl<M: Meanings> Model for Session<M> {
@@ -38,7 +59,7 @@ impl<M: Meanings> Model for Session<M> {
 
     ghost Value = { PlainSession };
 
-    ghost view = { λ s. record { world = world s.names s.registry; state = option_map plain_state s.state } };
+    ghost view = { λ s. record { world = world s.names s.registry; state = option_map plain_state s.state; count = s.count; window = s.window } };
 
     ghost invariant = { λ s. IfSome s.state (λ (state : Slotted). IsGrown state.setup.defs (definitions s.registry)) };
 }
@@ -53,57 +74,122 @@ fn refusal_text(alloc: Global, error: LineError) -> Result<String, AllocError>
     }
 }
 
+/// A window of the first size.
+fn first_window() -> Result<Viewport, AllocError> {
+    match Viewport::new(ROWS, COLS) {
+        Ok(window) => Ok(window),
+        Err(_) => Err(AllocError),
+    }
+}
+
 impl<M: Meanings> Session<M> {
-    /// A session in which no document was started, with what is declared from the start. `Err`: out of memory.
+    /// A session in which no document was started, with what is declared from the start and a window of 24 rows and 80 columns.
+    /// `Err`: out of memory.
     pub fn new(alloc: Global) -> Result<Session<M>, AllocError>
         ensures { IfOk result (λ s. s ≡ fresh) }
     {
         let names = Names::new(alloc)?;
         let registry = Registry::new(alloc)?;
+        let keys = Keys::new(alloc)?;
+        let window = first_window()?;
         Ok(Session {
             alloc,
             names,
             registry,
+            keys,
             state: None,
+            count: 0,
+            window,
         })
     }
 
-    /// Does what a line, without its LF, asks for, and gives the reply with its LF. The only error is out of memory.
-    /// A refused line changes nothing, and neither does out of memory.
-    #[tactic(auto, unfolding(crate::specs::Transcript::after, crate::specs::Transcript::reply))]
-    pub fn line(&mut self, kit: &Kit<M>, line: &[u8]) -> Result<String, AllocError>
+    /// Does what a line, without its LF, asks for, and gives the reply with its LF. A refused line changes nothing. `Failed` comes
+    /// only where the store's count of faults rose, and leaves all as before but for a file that was to be saved, which may be as
+    /// asked; `NoMemory` changes nothing.
+    pub fn line<D: Store>(
+        &mut self,
+        kit: &Kit<M>,
+        store: &mut D,
+        line: &[u8],
+    ) -> Result<String, StoreFault>
         requires whole { IsWhole M.rules kit.now }
-        ensures reply { IfOk result (λ r. string_bytes r ≡ reply M.rules line.now self.old) }
-        ensures after { OnOk result (self.new ≡ after M.rules line.now self.old) }
-        ensures refused { IsErr (outcome M.rules line.now self.old) → self.new ≡ self.old }
-        ensures err { OnErr result (self.new ≡ self.old) }
+        ensures answered { IfSome (desk_of self.old (D.files store.old)) (λ d. Answered (machine M.rules) line.now d (desk_of self.new (D.files store.new)) result) }
+        ensures later { D.faults store.old ≤ D.faults store.new }
+        ensures cause { result ≡ Err StoreFault.Failed → Rose (D.faults store.old) (D.faults store.new) }
     {
         match line_command(self.alloc, line) {
-            Err(error) => refusal_text(self.alloc, error),
-            Ok(request) => self.request(kit, request),
+            Err(error) => refusal_text(self.alloc, error).map_err(|_| StoreFault::NoMemory),
+            Ok(request) => self.request(kit, store, request),
         }
     }
 
     /// Does what is asked for.
-    fn request(&mut self, kit: &Kit<M>, request: Request) -> Result<String, AllocError>
+    fn request<D: Store>(
+        &mut self,
+        kit: &Kit<M>,
+        store: &mut D,
+        request: Request,
+    ) -> Result<String, StoreFault>
         requires whole { IsWhole M.rules kit.now }
-        ensures reply { IfOk result (λ r. string_bytes r ≡ reply_text (reply_of (act M.rules request self.old))) }
-        ensures after { OnOk result (self.new ≡ left_by self.old (act M.rules request self.old)) }
-        ensures refused { IsErr (act M.rules request self.old) → self.new ≡ self.old }
-        ensures err { OnErr result (self.new ≡ self.old) }
+    {
+        match request {
+            Request::Open(request) => self.open(kit, store, &request),
+            Request::Save(name) => self.save(store, &name),
+            other => self.inner(kit, other).map_err(|_| StoreFault::NoMemory),
+        }
+    }
+
+    /// The command `open`. The file is loaded once its extensions are known.
+    fn open<D: Store>(
+        &mut self,
+        kit: &Kit<M>,
+        store: &mut D,
+        request: &OpenRequest,
+    ) -> Result<String, StoreFault>
+        requires whole { IsWhole M.rules kit.now }
+    {
+        let base = all_found::<Nodes>(self.alloc, &self.names, request.extensions.as_slice());
+        let base = match base {
+            Ok(base) => base,
+            Err(error) => return refusal_text(self.alloc, error).map_err(|_| StoreFault::NoMemory),
+        };
+        let found = store.load(&request.file)?;
+        let outcome = opened(self, kit, &request.file, base.as_slice(), found);
+        self.settle(outcome).map_err(|_| StoreFault::NoMemory)
+    }
+
+    /// The command `save`. The reply is made first.
+    fn save<D: Store>(&mut self, store: &mut D, name: &Str) -> Result<String, StoreFault> {
+        let bytes = match saved(self) {
+            Ok(bytes) => bytes,
+            Err(error) => return refusal_text(self.alloc, error).map_err(|_| StoreFault::NoMemory),
+        };
+        let answer = Answer::Bytes(bytes.len() as u64);
+        let Ok(reply) = reply_text(self.alloc, &Reply::Ok(answer)) else {
+            return Err(StoreFault::NoMemory);
+        };
+        store.save(name, bytes.as_slice())?;
+        Ok(reply)
+    }
+
+    /// Does what is asked for without the store.
+    fn inner(&mut self, kit: &Kit<M>, request: Request) -> Result<String, AllocError>
+        requires whole { IsWhole M.rules kit.now }
+        requires inner { is_inner request ≡ true }
+        ensures { (files : Files) → DoneWith (act M.rules request self.old files) self.old self.new result }
     {
         match request {
             Request::Declare(declaration) => self.declare(&declaration),
-            other => self.carry_out(kit, other),
+            other => {
+                let outcome = outcome_of(self, kit, other);
+                self.settle(outcome)
+            }
         }
     }
 
     /// Declares something, whole or not at all. The answer is made first.
     fn declare(&mut self, declaration: &Declaration) -> Result<String, AllocError>
-        ensures reply { IfOk result (λ r. string_bytes r ≡ reply_text (reply_of (declare M.rules self.old declaration.now))) }
-        ensures after { OnOk result (self.new ≡ left_by self.old (declare M.rules self.old declaration.now)) }
-        ensures refused { IsErr (declare M.rules self.old declaration.now) → self.new ≡ self.old }
-        ensures err { OnErr result (self.new ≡ self.old) }
+        ensures { DoneWith (declare M.rules self.old declaration.now) self.old self.new result }
     {
         let done = reply_text(self.alloc, &Reply::Ok(Answer::Nothing))?;
         match declare(self.alloc, &mut self.registry, &mut self.names, declaration) {
@@ -112,31 +198,37 @@ impl<M: Meanings> Session<M> {
         }
     }
 
-    /// Does what is asked for, which declares nothing. The reply is made first.
-    fn carry_out(&mut self, kit: &Kit<M>, request: Request) -> Result<String, AllocError>
-        requires whole { IsWhole M.rules kit.now }
-        requires other { declares request ≡ false }
-        ensures reply { IfOk result (λ r. string_bytes r ≡ reply_text (reply_of (act M.rules request self.old))) }
-        ensures after { OnOk result (self.new ≡ left_by self.old (act M.rules request self.old)) }
-        ensures refused { IsErr (act M.rules request self.old) → self.new ≡ self.old }
-        ensures err { OnErr result (self.new ≡ self.old) }
+    /// Puts in place what a command makes, or answers with its refusal. The reply is made first.
+    fn settle(&mut self, outcome: Result<Outcome<State<M>>, LineError>) -> Result<String, AllocError>
+        requires grown { IfOk outcome (λ done. IsGrownIn self.old done) }
+        ensures { (out : Result Done Refusal) → Gives (done_by self.old) outcome out → DoneWith out self.old self.new result }
     {
-        match outcome_of(self, kit, request) {
+        match outcome {
             Err(error) => refusal_text(self.alloc, error),
             Ok(Outcome::Answered(answer)) => reply_text(self.alloc, &Reply::Ok(answer)),
-            Ok(Outcome::Changed(answer, state)) => {
+            Ok(Outcome::Changed(answer, next)) => {
                 let reply = reply_text(self.alloc, &Reply::Ok(answer))?;
+                let Next {
+                    state,
+                    count,
+                    window,
+                } = next;
                 self.state = Some(state);
+                self.count = count;
+                self.window = window;
+                Ok(reply)
+            }
+            Ok(Outcome::Viewed(window)) => {
+                let reply = reply_text(self.alloc, &Reply::Ok(Answer::Nothing))?;
+                self.window = window;
                 Ok(reply)
             }
         }
     }
 
     /// The reply to a line of more bytes than a line may have, which changes nothing.
-    #[tactic(auto, unfolding(crate::specs::Transcript::after, crate::specs::Transcript::reply, crate::specs::Transcript::outcome, script::specs::Lines::line_command))]
     pub(crate) fn long_line(&self) -> Result<String, AllocError>
-        ensures reply { IfOk result (λ r. (line : List ℕ) → max_line < length line → string_bytes r ≡ reply M.rules line self.now) }
-        ensures after { (line : List ℕ) → max_line < length line → self.now ≡ after M.rules line self.now }
+        ensures reply { IfOk result (λ r. string_bytes r ≡ reply_text (replies.No LineTooLong)) }
     {
         reply_text(self.alloc, &Reply::No(Refusal::LineTooLong))
     }
