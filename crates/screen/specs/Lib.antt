@@ -1,2 +1,3 @@
 pub mod Screen
+pub mod Head
 pub mod Reveal

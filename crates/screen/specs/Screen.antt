@@ -1,12 +1,10 @@
 -- What a screen shows, and how many of its rows differ from those drawn last.
-use Rattle.std.specs.Prelude.{◌≡◌, ℕ, zero, suc, ◌+◌, ◌-◌, ◌≤◌, Bool, ◌&&◌, nat_eq, List, [], ◌∷◌, Option, Some, None, slice_get, if◌then◌else◌}
+use Rattle.std.specs.Prelude.{ℕ, zero, suc, ◌+◌, Bool, ◌&&◌, nat_eq, List, [], ◌∷◌, Option, Some, None, is_some, slice_get, if◌then◌else◌}
 use Rattle.range_set.specs.declared.ranged.Ranged.{Ranged}
 use Rattle.decoration.specs.declared.deco.Deco.{Deco}
-use Rattle.selection.specs.declared.range.Range.{Range}
 use Rattle.selection.specs.Selections.{SelectionView}
 use Rattle.line_tree.specs.declared.line.Line as lines
 use Rattle.viewport.specs.Window.{Window}
-use Rattle.viewport.specs.Reveal.{Shows}
 use Rattle.blocks.specs.Hiding.{blocks_of}
 use Rattle.pieces.specs.Edge.{cut_at}
 use Rattle.pieces.specs.declared.edge.Edge.{Edge}
@@ -14,7 +12,7 @@ use Rattle.pieces.specs.Piece.{PiecesView}
 use Rattle.pieces.specs.Rules.{pieces_of}
 use Rattle.pieces.specs.SamePieces.{same_pieces}
 use Rattle.pieces.specs.Styles.{plain}
-use Rattle.line_rows.specs.Column.{column_of}
+use Rattle.line_rows.specs.declared.cursor.Cursor.{Cursor}
 use Rattle.line_rows.specs.Row.{row_of}
 use Rattle.line_rows.specs.declared.rows.StyledCell.{StyledCell}
 use Rattle.screen.specs.declared.view.View.{View}
@@ -84,44 +82,19 @@ rendered_from v number (suc n) =
 abbrev pub rendered : ViewView → List (List StyledCell)
 rendered v = rendered_from v v.window.top v.window.rows
 
--- the main range, and the block in which its head stands
-pub record IsHeadAt (v : ViewView) (main : Range) (block : lines.Line) : Type 0 where
-  pub is_main : slice_get v.selection.ranges v.selection.main ≡ Some main
-  pub is_block : block_at v block.number ≡ Some block
-  pub starts : block.from ≤ main.head
-  pub ends : main.head ≤ block.to
+-- how many of so many rows, the first of which shows the block of a number, show a block
+unfoldable pub shown_from : ViewView → ℕ → ℕ → ℕ
+shown_from v number zero = 0
+shown_from v number (suc n) = (if is_some (block_at v number) then 1 else 0) + shown_from v (number + 1) n
 
--- the column of the main range's head
-abbrev pub head_column : ViewView → Range → lines.Line → ℕ
-head_column v main block = (column_of v.tab (main.head - block.from) 0 (block_pieces v block).pieces).0
+-- Shown rows: how many rows of the window show a block.
+abbrev pub shown_count : ViewView → ℕ
+shown_count v = shown_from v v.window.top v.window.rows
 
--- where the main range's head stands: the number of its block, its column, and the width of the piece that stands there
-pub record IsPlaced (v : ViewView) (number column width : ℕ) : Type 0 where
-  pub main : Range
-  pub block : lines.Line
-  pub head : IsHeadAt v main block
-  pub number_is : number ≡ block.number
-  pub column_is : column ≡ head_column v main block
-  pub width_is : width ≡ (column_of v.tab (main.head - block.from) 0 (block_pieces v block).pieces).1
-  pub some : 1 ≤ width
-
--- the window shows the block and the column of the main range's head
-abbrev pub ShowsHead : ViewView → Type 0
-ShowsHead v = (main : Range) (block : lines.Line) → IsHeadAt v main block → Shows v.window block.number (head_column v main block) 1
-
--- Cursor: the row and the column in the window of the main range's head, from 0.
-pub record IsCursor (v : ViewView) (row column : ℕ) : Type 0 where
-  pub main : Range
-  pub block : lines.Line
-  pub head : IsHeadAt v main block
-  pub row_is : row ≡ block.number - v.window.top
-  pub column_is : column ≡ head_column v main block - v.window.left
-
--- what contracts see of a screen: what its rows were laid out from, and the cursor's row and column
+-- what contracts see of a screen: what its rows were laid out from, and where the cursor stands
 pub record ScreenView : Type 0 where
   pub rows : List RowKey
-  pub row : ℕ
-  pub column : ℕ
+  pub cursor : Cursor
 
 -- 1 where a row differs from the old one in its place, or has none there
 abbrev pub cost : Option RowKey → RowKey → ℕ

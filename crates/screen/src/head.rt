@@ -1,10 +1,11 @@
 // Where the main range's head stands, and the window that shows it.
-ghost use Rattle.std.specs.Prelude.{◌≡◌, ◌-◌, ◌<◌, ◌≤◌, length, min, IfOk};
+ghost use Rattle.std.specs.Prelude.{◌≡◌, ◌<◌, ◌≤◌, length, IfOk, Some};
 ghost use Rattle.selection.specs.Selections.{LieIn};
-ghost use Rattle.viewport.specs.Reveal.{Shows, revealed};
+ghost use Rattle.viewport.specs.Reveal.{Shows};
 ghost use Rattle.blocks.specs.Hiding.{blocks_of};
-ghost use Rattle.screen.specs.Screen.{IsPlaced, ShowsHead, shown_view};
-ghost use Rattle.screen.specs.Reveal.{IsRevealed};
+ghost use Rattle.screen.specs.Screen.{shown_view};
+ghost use Rattle.screen.specs.Head.{ShowsHead, head_place, place_from};
+ghost use Rattle.screen.specs.Reveal.{moved_to, revealed_window};
 
 use crate::view::View;
 use line_rows::{Blocks, Cursor, column_of, piece_at};
@@ -26,7 +27,7 @@ pub fn reveal(alloc: Global, view: &View<'_>) -> Result<Viewport, AllocError>
     requires positive { 0 < (shown_view view.now).tab }
     requires small { (shown_view view.now).tab ≤ 16 }
     requires inside { LieIn (length (shown_view view.now).text) (shown_view view.now).selection.ranges }
-    ensures moved { IfOk result (λ window. IsRevealed (shown_view view.now) window) }
+    ensures value { IfOk result (λ window. window ≡ revealed_window (shown_view view.now)) }
     ensures shows { IfOk result (λ window. ShowsHead (record (shown_view view.now) { window = window })) }
 {
     let blocks = Blocks::of(alloc, view.doc, view.layers)?;
@@ -38,7 +39,7 @@ pub fn reveal(alloc: Global, view: &View<'_>) -> Result<Viewport, AllocError>
 fn moved(window: &Viewport, place: HeadPlace) -> Viewport
     requires { 1 ≤ place.width }
     ensures shows { Shows result place.number place.column 1 }
-    ensures value { result ≡ revealed window.now place.number place.column (min place.width window.now.cols) }
+    ensures value { result ≡ moved_to window.now place }
 {
     let mut moved = window.copy();
     let cols = moved.cols();
@@ -57,7 +58,8 @@ pub(crate) fn head_place(
     requires small { (shown_view view.now).tab ≤ 16 }
     requires inside { LieIn (length (shown_view view.now).text) (shown_view view.now).selection.ranges }
     requires blocks { blocks.now ≡ record { text = (shown_view view.now).text; blocks = blocks_of (shown_view view.now).text (shown_view view.now).layers } }
-    ensures { IfOk result (λ place. IsPlaced (shown_view view.now) place.number place.column place.width) }
+    ensures value { IfOk result (λ place. head_place (shown_view view.now) ≡ Some place) }
+    ensures some { IfOk result (λ place. 1 ≤ place.width) }
 {
     let main = view.selection.main();
     let block = blocks.at(main.head);
@@ -83,8 +85,7 @@ pub(crate) fn head_place(
 /// Where a place stands in the window that shows it.
 pub(crate) fn cursor_at(window: &Viewport, place: HeadPlace) -> Cursor
     requires { Shows window.now place.number place.column 1 }
-    ensures row { result.row ≡ place.number - window.now.top }
-    ensures column { result.column ≡ place.column - window.now.left }
+    ensures { result ≡ place_from window.now place }
 {
     let _rows = window.rows();
     let _cols = window.cols();

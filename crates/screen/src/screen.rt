@@ -5,7 +5,8 @@ ghost use Rattle.selection.specs.Selections.{LieIn};
 ghost use Rattle.blocks.specs.Hiding.{blocks_of};
 ghost use Rattle.pieces.specs.Edge.{cut_at};
 ghost use Rattle.pieces.specs.Rules.{pieces_of};
-ghost use Rattle.screen.specs.Screen.{IsCursor, RowKey, ShowsHead, block_at, changed, cost, drawn, edge_of, key_at, pieces_at, rendered, row_cells, shown_view};
+ghost use Rattle.screen.specs.Head.{ShowsHead, cursor_in};
+ghost use Rattle.screen.specs.Screen.{RowKey, block_at, changed, cost, drawn, edge_of, key_at, pieces_at, rendered, row_cells, shown_view};
 
 use crate::drawn_row::DrawnRow;
 use crate::head::{cursor_at, head_place};
@@ -29,13 +30,13 @@ impl Model for Screen {
 
     ghost Value = { ScreenView };
 
-    ghost view = { λ s. record { rows = s.rows.items; row = s.cursor.row; column = s.cursor.column } };
+    ghost view = { λ s. record { rows = s.rows.items; cursor = s.cursor } };
 }
 
 impl Screen {
     /// A screen without rows.
     pub fn blank(alloc: Global) -> Screen
-        ensures { result ≡ record { rows = []; row = 0; column = 0 } }
+        ensures { result ≡ record { rows = []; cursor = record { row = 0; column = 0 } } }
     {
         Screen {
             rows: Vec::new(alloc),
@@ -56,7 +57,7 @@ impl Screen {
         requires shows { ShowsHead (shown_view view.now) }
         ensures drawn { OnOk result (self.new.rows ≡ drawn (shown_view view.now)) }
         ensures rendered { OnOk result (map row_cells self.new.rows ≡ rendered (shown_view view.now)) }
-        ensures cursor { OnOk result (IsCursor (shown_view view.now) self.new.row self.new.column) }
+        ensures cursor { OnOk result (self.new.cursor ≡ cursor_in (shown_view view.now)) }
         ensures failed { OnErr result (self.new ≡ self.old) }
         ensures bound { laid.new ≤ laid.old + changed self.old.rows (drawn (shown_view view.now)) }
         ensures most { laid.new ≤ laid.old + (shown_view view.now).window.rows }
@@ -80,8 +81,7 @@ impl Screen {
 
     /// Where the cursor stands.
     pub fn cursor(&self) -> Cursor
-        ensures row { result.row ≡ self.now.row }
-        ensures column { result.column ≡ self.now.column }
+        ensures { result ≡ self.now.cursor }
     {
         self.cursor
     }

@@ -1,6 +1,7 @@
 ghost use Rattle.std.specs.Prelude.{◌≡◌, ◌<◌, ◌≤◌, length};
 ghost use Rattle.selection.specs.Selections.{LieIn};
-ghost use Rattle.screen.specs.Screen.{ShowsHead, shown_view};
+ghost use Rattle.screen.specs.Head.{ShowsHead};
+ghost use Rattle.screen.specs.Screen.{shown_view};
 
 use cm_plain::Str;
 use decoration::{Color, Deco, DecoSet, Inclusive, Layers, Style};

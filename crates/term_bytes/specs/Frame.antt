@@ -1,5 +1,5 @@
 -- The bytes that draw rows of runs (ECMA-48: cursor position, erase in line, select graphic rendition).
-use Rattle.std.specs.Prelude.{ℕ, ◌+◌, Bool, List, [], ◌∷◌, ◌++◌, codes, encode_utf8_all, Option, Some, None, if◌then◌else◌}
+use Rattle.std.specs.Prelude.{ℕ, ◌+◌, Bool, List, [], ◌∷◌, ◌++◌, codes, drop, encode_utf8_all, Option, Some, None, if◌then◌else◌}
 use Rattle.std.specs.Fmt.{decimal}
 use Rattle.line_rows.specs.Run.{RunView}
 use Rattle.pieces.specs.Styles.{is_plain, same_style, plain}
@@ -28,6 +28,10 @@ abbrev pub style_codes : Style → List ℕ
 style_codes s =
     flag_code s.bold (codes ";1") ++ flag_code s.underline (codes ";4") ++ flag_code s.reverse (codes ";7")
     ++ color_code (codes ";3") s.fg ++ color_code (codes ";4") s.bg
+
+-- the same codes without the semicolon before the first; none where there is no style
+abbrev pub separated_codes : Style → List ℕ
+separated_codes s = drop 1 (style_codes s)
 
 -- ESC [ 0, the codes of the style, and m
 abbrev pub style_bytes : Style → List ℕ
