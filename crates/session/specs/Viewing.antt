@@ -5,7 +5,8 @@ use Rattle.facet_slots.specs.Stepping.{State}
 use Rattle.replies.specs.declared.answer.Answer.{Answer}
 use Rattle.replies.specs.declared.answer.Answer.TheVariants.{Nothing, Screen, Summary}
 use Rattle.requests.specs.declared.view_request.ViewRequest.{ViewRequest}
-use Rattle.screen.specs.Shown.{shown_count, shown_screen}
+use Rattle.screen.specs.Screen.{shown_count}
+use Rattle.screen_reply.specs.Shown.{shown_screen_of}
 use Rattle.script.specs.declared.refusal.Refusal.{Refusal}
 use Rattle.script.specs.declared.refusal.Refusal.TheVariants as refusals
 use Rattle.script.specs.declared.window_refusal.WindowRefusal.{WindowRefusal}
@@ -36,7 +37,7 @@ view s r = do
 
 -- Screen: what the window shows
 abbrev pub screen : PlainSession → Result Answer Refusal
-screen s = started s.state >>= λ state. Ok (Screen (shown_screen (view_of state s.window)))
+screen s = started s.state >>= λ state. Ok (Screen (shown_screen_of (view_of state s.window)))
 
 -- Summary: the counts of the session
 abbrev pub summary : PlainSession → Result Answer Refusal

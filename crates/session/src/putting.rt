@@ -1,17 +1,23 @@
 // A new state in place of the one before.
-ghost use Rattle.std.specs.Prelude.{◌≡◌, ◌≤◌, IfErr, IfOk, length, option_map};
-ghost use Rattle.facet_slots.specs.Agreement.{IsGrown};
-ghost use Rattle.facet_slots.specs.Lent.{definitions};
-ghost use Rattle.screen.specs.Screen.{ShowsHead, shown_view};
-ghost use Rattle.selection.specs.Selections.{LieIn};
-ghost use Rattle.session.specs.Outcomes.{counted, done_by, plain_state, put, shown_in};
-ghost use Rattle.session.specs.PrivateSession.{Refuses};
-ghost use Rattle.session.specs.Views.{view_of};
+ghost use Rattle.std.specs.Prelude.{◌≡◌, true, IfErr, IfOk, Ok, Result};
+ghost use Rattle.screen.specs.Screen.{shown_view};
+ghost use Rattle.facet_slots.specs.Stepping.{State as StateData};
+ghost use Rattle.replies.specs.declared.answer.Answer.TheVariants.{Length};
+ghost use Rattle.script.specs.Reading.{Gives};
+ghost use Rattle.state.specs.declared.state_error.StateError.{StateError as StateErrorData};
+ghost use Rattle.session.specs.Doing.{said};
+ghost use Rattle.session.specs.Outcomes.{counted, done_by, plain_state, put_started, put_stepped, shown_in};
+ghost use Rattle.session.specs.PrivateSession.{Finds};
+ghost use Rattle.session.specs.Refused.{Refuses};
+ghost use Rattle.session.specs.State.{window_of};
+ghost use Rattle.session.specs.Views.{facet_in, tab_in, view_of};
+ghost use Rattle.typed_keys.specs.Read.{layers_in};
 
 use crate::outcome::{Next, Outcome};
 use crate::refused::named;
 use crate::session::Session;
 use decoration::Layers;
+use registry::{DECORATIONS, TAB_SIZE};
 use replies::Answer;
 use screen::{View, reveal};
 use script::LineError;
@@ -26,7 +32,11 @@ pub(crate) fn view<'a, M: Meanings>(
     layers: &'a Layers,
     tab: u8,
     window: &'a Viewport,
-) -> View<'a> {
+) -> View<'a>
+    requires layers { layers.now ≡ layers_in (facet_in (plain_state state.now) DECORATIONS) }
+    requires tab { tab ≡ tab_in (facet_in (plain_state state.now) TAB_SIZE) }
+    ensures { shown_view result ≡ view_of (plain_state state.now) window.now }
+{
     View {
         doc: state.doc(),
         selection: state.selection(),
@@ -48,6 +58,16 @@ pub(crate) fn shown_in<M: Meanings>(
     let tab = session.keys.tab_size(session.alloc, state)?;
     state.known();
     reveal(session.alloc, &view(state, &layers, tab, window))
+}
+
+/// A window of the same size at the first block and column.
+fn rewound(window: &Viewport) -> Viewport
+    ensures { result ≡ window_of window.now.rows window.now.cols }
+{
+    match Viewport::new(window.rows(), window.cols()) {
+        Ok(window) => window,
+        Err(_) => unreachable!(),
+    }
 }
 
 /// A count of transactions goes on by one.
@@ -88,8 +108,10 @@ fn next<M: Meanings>(
 pub(crate) fn started_as<M: Meanings>(
     session: &Session<M>,
     state: Result<State<M>, StateError>,
-) -> Result<Outcome<State<M>>, LineError> {
-    let next = next(session, state, 0, &first_window(&session.window))?;
+) -> Result<Outcome<State<M>>, LineError>
+    ensures { (out : Result StateData StateErrorData) → Finds out state → Gives (done_by session.now) result (put_started session.now out) }
+{
+    let next = next(session, state, 0, &rewound(&session.window))?;
     Ok(Outcome::Changed(Answer::Length(next.state.doc().len()), next))
 }
 
@@ -97,7 +119,9 @@ pub(crate) fn started_as<M: Meanings>(
 pub(crate) fn updated_to<M: Meanings>(
     session: &Session<M>,
     state: Result<State<M>, StateError>,
-) -> Result<Outcome<State<M>>, LineError> {
+) -> Result<Outcome<State<M>>, LineError>
+    ensures { (out : Result StateData StateErrorData) → Finds out state → Gives (done_by session.now) result (put_stepped Length session.now out) }
+{
     let next = next(session, state, counted(session.count), &session.window)?;
     Ok(Outcome::Changed(Answer::Length(next.state.doc().len()), next))
 }
@@ -106,7 +130,9 @@ pub(crate) fn updated_to<M: Meanings>(
 pub(crate) fn done_to<M: Meanings>(
     session: &Session<M>,
     state: Result<State<M>, StateError>,
-) -> Result<Outcome<State<M>>, LineError> {
+) -> Result<Outcome<State<M>>, LineError>
+    ensures { (out : Result StateData StateErrorData) → Finds out state → Gives (done_by session.now) result (put_stepped (said true) session.now out) }
+{
     let next = next(session, state, counted(session.count), &session.window)?;
     let length = next.state.doc().len();
     Ok(Outcome::Changed(Answer::Done { done: true, length }, next))

@@ -12,7 +12,7 @@ ghost use Rattle.session.specs.Headline.{desk_of};
 ghost use Rattle.session.specs.Outcomes.{Done, done_by};
 ghost use Rattle.session.specs.PrivateSession.{DoneWith, IsGrownIn, IsRefusalText, is_inner};
 ghost use Rattle.session.specs.Session.{act, declare};
-ghost use Rattle.session.specs.State.{fresh};
+ghost use Rattle.session.specs.State.{fresh, window_of};
 ghost use Rattle.session.specs.Transcript.{machine};
 
 use crate::filing::{opened, saved};
@@ -75,10 +75,12 @@ fn refusal_text(alloc: Global, error: LineError) -> Result<String, AllocError>
 }
 
 /// A window of the first size.
-fn first_window() -> Result<Viewport, AllocError> {
+fn first_window() -> Viewport
+    ensures { result ≡ window_of 24 80 }
+{
     match Viewport::new(ROWS, COLS) {
-        Ok(window) => Ok(window),
-        Err(_) => Err(AllocError),
+        Ok(window) => window,
+        Err(_) => unreachable!(),
     }
 }
 
@@ -91,7 +93,7 @@ impl<M: Meanings> Session<M> {
         let names = Names::new(alloc)?;
         let registry = Registry::new(alloc)?;
         let keys = Keys::new(alloc)?;
-        let window = first_window()?;
+        let window = first_window();
         Ok(Session {
             alloc,
             names,

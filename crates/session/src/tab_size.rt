@@ -12,7 +12,7 @@ use values::Val;
 
 /// The number of columns that a tab goes on to a multiple of, from 1 to 16 where a value carries it. (Reference Manual,
 /// EditorState.tabSize.)
-#[derive(Clone, Copy, Drop)]
+#[derive(Drop)]
 pub struct TabSize {
     columns: u8,
 }
