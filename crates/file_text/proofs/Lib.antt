@@ -1,0 +1,3 @@
+pub mod Utf8
+pub mod SavedPieces
+pub mod Lengths
