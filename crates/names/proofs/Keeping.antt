@@ -23,7 +23,9 @@ use Rattle.requests.specs.declared.declaration.Declaration.TheVariants as declar
 use Rattle.script.specs.declared.refusal.Refusal.{Refusal}
 use Rattle.script.specs.Reading.{◌>>=◌}
 use Rattle.script.specs.Refused.{unless}
-use Rattle.names.specs.Declaring.{World, world, declared_in, field_def, next_node, passing, with_thing}
+use Rattle.names.specs.Declaring.{World, world, computed, declared_in, definition_of, field_def, in_tree, node_in, node_refusals, passing, with_new_node, with_thing}
+use Rattle.names.specs.declared.new_node.NewNode.{NewNode}
+use Rattle.names.specs.declared.new_node.NewNode.TheVariants as new
 use Rattle.names.proofs.Naming.{named_compartment, named_effect, named_facet, named_field, named_node, named_pair}
 use Rattle.names.specs.Known.{AreKnown, AreNamed, IsKept, IsKnown}
 use Rattle.names.specs.Names.{NameList, with_name}
@@ -111,9 +113,10 @@ paired w v effect back ids rs h = on (passing ids (first_of rs) (with_pair w.dec
   on (Err e) is h = absurd (true≢false (sym (ap is_ok h)))
 
 -- a declaration of a node
-node_next : (w v : World) (name : List ℕ) (ids : ℕ → List ℕ) (rs : List (Option RegistryError)) (node : Extension) (def : NodeDef Val) → with_thing w name (next_node w) ids rs (with_node w.declared node def) ≡ Ok v → Steps w v
-node_next w v name ids rs node def h =
-    named_next w v name (next_node w) ids rs (with_node w.declared node def) (next_place w.declared.nodes node) (λ n. named_node w.names name w.declared node def n) h
+node_next : (rules : Rules) (w v : World) (name other : List ℕ) (node : NewNode) → node_in rules w name other node ≡ Ok v → Steps w v
+node_next rules w v name other node h =
+    named_next w v name (Node (length w.declared.nodes)) (λ id. other) (node_refusals rules w.declared node) (with_new_node w.declared node) (next_place w.declared.nodes (in_tree node))
+    (λ n. named_node w.names name w.declared (in_tree node) (definition_of node) n) h
 
 steps : (rules : Rules) (w v : World) (declaration : Declaration) → declared_in rules w declaration ≡ Ok v → Steps w v
 steps rules w v (declare.Effect e) h = read_on _ _ v (λ free h. named_next w v _ _ _ _ _ (next_place w.declared.maps e.map) (λ n. named_effect w.names e.name w.declared e.map n) h) h
@@ -123,17 +126,17 @@ steps rules w v (declare.Facet f) h =
 steps rules w v (declare.Field f) h =
     read_on _ _ v
     (λ things h. read_on _ _ v
-        (λ free h.
-            named_next w v _ _ _ _ _ (field_known w.declared (field_def f things.reads things.listens) things.provided)
-            (λ n. named_field w.names f.name w.declared (field_def f things.reads things.listens) things.provided n) h) h) h
+    (λ free h.
+    named_next w v _ _ _ _ _ (field_known w.declared (field_def f things.reads things.listens) things.provided)
+    (λ n. named_field w.names f.name w.declared (field_def f things.reads things.listens) things.provided n) h) h) h
 steps rules w v (declare.Compartment c) h = read_on _ _ v (λ free h. named_next w v _ _ _ _ _ (omega arith) (λ n. named_compartment w.names c.name w.declared n) h) h
-steps rules w v (declare.Input i) h = read_on _ _ v (λ facet h. read_on _ _ v (λ free h. read_on _ _ v (λ value h. node_next w v _ _ _ _ _ h) h) h) h
-steps rules w v (declare.Compute c) h = read_on _ _ v (λ facet h. read_on _ _ v (λ rs h. read_on _ _ v (λ free h. node_next w v _ _ _ _ _ h) h) h) h
-steps rules w v (declare.From f) h = read_on _ _ v (λ facet h. read_on _ _ v (λ field h. read_on _ _ v (λ free h. node_next w v _ _ _ _ _ h) h) h) h
-steps rules w v (declare.Init i) h = read_on _ _ v (λ field h. read_on _ _ v (λ free h. read_on _ _ v (λ value h. node_next w v _ _ _ _ _ h) h) h) h
-steps rules w v (declare.Group g) h = read_on _ _ v (λ of h. read_on _ _ v (λ free h. node_next w v _ _ _ _ _ h) h) h
-steps rules w v (declare.Prec p) h = read_on _ _ v (λ of h. read_on _ _ v (λ free h. node_next w v _ _ _ _ _ h) h) h
-steps rules w v (declare.Slot s) h = read_on _ _ v (λ compartment h. read_on _ _ v (λ of h. read_on _ _ v (λ free h. node_next w v _ _ _ _ _ h) h) h) h
+steps rules w v (declare.Input i) h = read_on _ _ v (λ facet h. read_on _ _ v (λ free h. read_on _ _ v (λ value h. node_next rules w v i.name i.facet (new.Input facet value) h) h) h) h
+steps rules w v (declare.Compute c) h = read_on _ _ v (λ facet h. read_on _ _ v (λ rs h. read_on _ _ v (λ free h. node_next rules w v c.name c.facet (computed c.many facet c.rule rs) h) h) h) h
+steps rules w v (declare.From f) h = read_on _ _ v (λ facet h. read_on _ _ v (λ field h. read_on _ _ v (λ free h. node_next rules w v f.name f.facet (new.From facet field f.rule) h) h) h) h
+steps rules w v (declare.Init i) h = read_on _ _ v (λ field h. read_on _ _ v (λ free h. read_on _ _ v (λ value h. node_next rules w v i.name i.field (new.Init field value) h) h) h) h
+steps rules w v (declare.Group g) h = read_on _ _ v (λ of h. read_on _ _ v (λ free h. node_next rules w v g.name g.name (new.Group of) h) h) h
+steps rules w v (declare.Prec p) h = read_on _ _ v (λ of h. read_on _ _ v (λ free h. node_next rules w v p.name p.name (new.Prec p.at of) h) h) h
+steps rules w v (declare.Slot s) h = read_on _ _ v (λ compartment h. read_on _ _ v (λ of h. read_on _ _ v (λ free h. node_next rules w v s.name s.name (new.Slot compartment of) h) h) h) h
 
 -- what the names and the registry keep
 pub still_kept : (rules : Rules) (w v : World) (declaration : Declaration) → declared_in rules w declaration ≡ Ok v → IsGrowth w.declared v.declared → IsKept w.names w.declared → IsKept v.names v.declared

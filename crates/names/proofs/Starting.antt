@@ -8,7 +8,7 @@ use Rattle.registry.specs.declared.id_sort.IdSort.TheVariants as sorts
 use Rattle.registry.specs.Predeclared.{predeclared}
 
 known : AreKnown predeclared_names predeclared
-known = (tt, (tt, (omega arith, (omega arith, (omega arith, (omega arith, (omega arith, (omega arith, (omega arith, (omega arith, (omega arith, (omega arith, (omega arith, ((omega arith, omega arith), tt)))))))))))))
+known = (tt, (tt, (omega arith, (omega arith, (omega arith, (omega arith, (omega arith, (omega arith, (omega arith, (omega arith, (omega arith, (omega arith, (omega arith, ((omega arith, omega arith), tt))))))))))))))
 
 facets : (id : ℕ) → id < 10 → HasName predeclared_names sorts.Facet id
 facets zero h = refl

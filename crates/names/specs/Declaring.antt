@@ -9,6 +9,7 @@ use Rattle.configuration.specs.declared.facet_def.FacetDef.{FacetDef}
 use Rattle.configuration.specs.declared.field_def.FieldDef.{FieldDef}
 use Rattle.configuration.specs.declared.node_def.NodeDef.{NodeDef}
 use Rattle.configuration.specs.declared.node_def.NodeDef.TheVariants as defs
+use Rattle.ext_tree.specs.declared.node.Node.{Node as TreeNode}
 use Rattle.ext_tree.specs.declared.node.Node.TheVariants as nodes
 use Rattle.values.specs.declared.val.Val.{Val}
 use Rattle.values.specs.Declarations.{Declarations, with_compartment, with_effect, with_facet, with_node, with_pair}
@@ -35,6 +36,8 @@ use Rattle.requests.specs.declared.value_declarations.InputDeclaration.{InputDec
 use Rattle.names.specs.Names.{NameList, with_name, as_effect, as_compartment, as_facet, as_field, as_node, as_read, found, all_found, each_of, is_free}
 use Rattle.names.specs.Sets.{value_of}
 use Rattle.names.specs.declared.named.Named.{Named}
+use Rattle.names.specs.declared.new_node.NewNode.{NewNode}
+use Rattle.names.specs.declared.new_node.NewNode.TheVariants as new
 use Rattle.names.specs.declared.named.Named.TheVariants.{Compartment, Effect, Facet, Field, Node}
 use Rattle.script.specs.declared.refusal.Refusal.{Refusal}
 use Rattle.script.specs.Reading.{◌>>=◌}
@@ -146,9 +149,46 @@ compartment_in w c = do
   free ← is_free w.names c.name
   with_thing w c.name (Compartment w.declared.compartments) (λ id. c.name) (compartment_refusals w.declared) (with_compartment w.declared)
 
--- the next node
-abbrev pub next_node : World → Named
-next_node w = Node (length w.declared.nodes)
+-- refusals of a node that is to be declared
+abbrev pub node_refusals : Rules → Declarations → NewNode → List (Option RegistryError)
+node_refusals rules d (new.Input facet value) = input_refusals rules d facet value
+node_refusals rules d (new.Compute facet rule rs) = compute_refusals rules d facet rule rs
+node_refusals rules d (new.ComputeN facet rule rs) = compute_n_refusals rules d facet rule rs
+node_refusals rules d (new.From facet field rule) = from_refusals rules d facet field rule
+node_refusals rules d (new.Init field value) = init_refusals rules d field value
+node_refusals rules d (new.Group of) = group_refusals d of
+node_refusals rules d (new.Prec at of) = prec_refusals d of
+node_refusals rules d (new.Slot compartment of) = slot_refusals d compartment of
+
+-- what it is in the extension tree
+abbrev pub in_tree : NewNode → TreeNode
+in_tree (new.Input facet value) = nodes.Input facet
+in_tree (new.Compute facet rule rs) = nodes.Input facet
+in_tree (new.ComputeN facet rule rs) = nodes.Input facet
+in_tree (new.From facet field rule) = nodes.Input facet
+in_tree (new.Init field value) = nodes.Init field
+in_tree (new.Group of) = nodes.Group of
+in_tree (new.Prec at of) = nodes.Prec at of
+in_tree (new.Slot compartment of) = nodes.Slot compartment of
+
+-- how it gives a value
+abbrev pub definition_of : NewNode → NodeDef Val
+definition_of (new.Input facet value) = defs.Of value
+definition_of (new.Compute facet rule rs) = defs.Compute rule rs
+definition_of (new.ComputeN facet rule rs) = defs.ComputeN rule rs
+definition_of (new.From facet field rule) = defs.From field rule
+definition_of (new.Init field value) = defs.Init value
+definition_of (new.Group of) = defs.Branch
+definition_of (new.Prec at of) = defs.Branch
+definition_of (new.Slot compartment of) = defs.Branch
+
+-- with the next node
+abbrev pub with_new_node : Declarations → NewNode → Declarations
+with_new_node d node = with_node d (in_tree node) (definition_of node)
+
+-- a node of this name; where it is refused, ids are written as the other name
+abbrev pub node_in : Rules → World → (name other : List ℕ) → NewNode → Result World Refusal
+node_in rules w name other node = with_thing w name (Node (length w.declared.nodes)) (λ id. other) (node_refusals rules w.declared node) (with_new_node w.declared node)
 
 -- `input`
 abbrev pub input_in : Rules → World → InputDeclaration → Result World Refusal
@@ -156,16 +196,12 @@ input_in rules w i = do
   facet ← found as_facet w.names i.facet
   free ← is_free w.names i.name
   value ← value_of i.value
-  with_thing w i.name (next_node w) (λ id. i.facet) (input_refusals rules w.declared facet value) (with_node w.declared (nodes.Input facet) (defs.Of value))
+  node_in rules w i.name i.facet (new.Input facet value)
 
--- refusals of a computed input, or of several
-abbrev pub computed_refusals : Rules → Declarations → (many : Bool) → (facet rule : ℕ) → List Dependency → List (Option RegistryError)
-computed_refusals rules d false facet rule rs = compute_refusals rules d facet rule rs
-computed_refusals rules d true facet rule rs = compute_n_refusals rules d facet rule rs
-
-abbrev pub computed_def : (many : Bool) → ℕ → List Dependency → NodeDef Val
-computed_def false rule rs = defs.Compute rule rs
-computed_def true rule rs = defs.ComputeN rule rs
+-- an input that a rule computes, or several
+abbrev pub computed : (many : Bool) → (facet rule : ℕ) → List Dependency → NewNode
+computed false facet rule rs = new.Compute facet rule rs
+computed true facet rule rs = new.ComputeN facet rule rs
 
 -- `compute`
 abbrev pub compute_in : Rules → World → ComputeDeclaration → Result World Refusal
@@ -173,7 +209,7 @@ compute_in rules w c = do
   facet ← found as_facet w.names c.facet
   rs ← all_found as_read w.names c.deps
   free ← is_free w.names c.name
-  with_thing w c.name (next_node w) (λ id. c.facet) (computed_refusals rules w.declared c.many facet c.rule rs) (with_node w.declared (nodes.Input facet) (computed_def c.many c.rule rs))
+  node_in rules w c.name c.facet (computed c.many facet c.rule rs)
 
 -- `from`
 abbrev pub from_in : Rules → World → FromDeclaration → Result World Refusal
@@ -181,7 +217,7 @@ from_in rules w f = do
   facet ← found as_facet w.names f.facet
   field ← found as_field w.names f.field
   free ← is_free w.names f.name
-  with_thing w f.name (next_node w) (λ id. f.facet) (from_refusals rules w.declared facet field f.rule) (with_node w.declared (nodes.Input facet) (defs.From field f.rule))
+  node_in rules w f.name f.facet (new.From facet field f.rule)
 
 -- `init`
 abbrev pub init_in : Rules → World → InitDeclaration → Result World Refusal
@@ -189,29 +225,29 @@ init_in rules w i = do
   field ← found as_field w.names i.field
   free ← is_free w.names i.name
   value ← value_of i.value
-  with_thing w i.name (next_node w) (λ id. i.field) (init_refusals rules w.declared field value) (with_node w.declared (nodes.Init field) (defs.Init value))
+  node_in rules w i.name i.field (new.Init field value)
 
 -- `group`
-abbrev pub group_in : World → GroupDeclaration → Result World Refusal
-group_in w g = do
+abbrev pub group_in : Rules → World → GroupDeclaration → Result World Refusal
+group_in rules w g = do
   of ← all_found as_node w.names g.of
   free ← is_free w.names g.name
-  with_thing w g.name (next_node w) (λ id. g.name) (group_refusals w.declared of) (with_node w.declared (nodes.Group of) defs.Branch)
+  node_in rules w g.name g.name (new.Group of)
 
 -- `prec`
-abbrev pub prec_in : World → PrecDeclaration → Result World Refusal
-prec_in w p = do
+abbrev pub prec_in : Rules → World → PrecDeclaration → Result World Refusal
+prec_in rules w p = do
   of ← found as_node w.names p.of
   free ← is_free w.names p.name
-  with_thing w p.name (next_node w) (λ id. p.name) (prec_refusals w.declared of) (with_node w.declared (nodes.Prec p.at of) defs.Branch)
+  node_in rules w p.name p.name (new.Prec p.at of)
 
 -- `slot`
-abbrev pub slot_in : World → SlotDeclaration → Result World Refusal
-slot_in w s = do
+abbrev pub slot_in : Rules → World → SlotDeclaration → Result World Refusal
+slot_in rules w s = do
   compartment ← found as_compartment w.names s.compartment
   of ← found as_node w.names s.of
   free ← is_free w.names s.name
-  with_thing w s.name (next_node w) (λ id. s.name) (slot_refusals w.declared compartment of) (with_node w.declared (nodes.Slot compartment of) defs.Branch)
+  node_in rules w s.name s.name (new.Slot compartment of)
 
 -- the names and what is declared after a declaration, or its first refusal
 abbrev pub declared_in : Rules → World → Declaration → Result World Refusal
@@ -224,6 +260,6 @@ declared_in rules w (declare.Input i) = input_in rules w i
 declared_in rules w (declare.Compute c) = compute_in rules w c
 declared_in rules w (declare.From f) = from_in rules w f
 declared_in rules w (declare.Init i) = init_in rules w i
-declared_in rules w (declare.Group g) = group_in w g
-declared_in rules w (declare.Prec p) = prec_in w p
-declared_in rules w (declare.Slot s) = slot_in w s
+declared_in rules w (declare.Group g) = group_in rules w g
+declared_in rules w (declare.Prec p) = prec_in rules w p
+declared_in rules w (declare.Slot s) = slot_in rules w s

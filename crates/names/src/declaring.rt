@@ -5,11 +5,11 @@ ghost use Rattle.values.specs.Growth.{IsGrowth};
 ghost use Rattle.names.specs.Declaring.{declared_in, world};
 ghost use Rattle.names.specs.Known.{IsKept};
 
-use crate::declare_computed::{declare_compute, declare_from};
 use crate::declare_field::declare_field;
 use crate::declare_kinds::{declare_compartment, declare_effect, declare_facet, declare_inverse};
 use crate::declare_nodes::{
-    declare_group, declare_init, declare_input, declare_prec, declare_slot,
+    declare_compute, declare_from, declare_group, declare_init, declare_input, declare_prec,
+    declare_slot,
 };
 use crate::names::Names;
 use registry::Registry;

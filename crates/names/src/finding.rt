@@ -1,9 +1,9 @@
 // Names as what they stand for.
-ghost use Rattle.std.specs.Prelude.{◌≡◌, ℕ, Option};
+ghost use Rattle.std.specs.Prelude.{◌≡◌, Option, option_and_then};
 ghost use Rattle.configuration.specs.declared.dependency.Dependency.{Dependency as DependencyData};
 ghost use Rattle.script.specs.Reading.{Gives};
 ghost use Rattle.names.specs.declared.named.Named.{Named as NamedData};
-ghost use Rattle.names.specs.Names.{all_found, as_compartment, as_effect, as_facet, as_field, as_node, as_read, as_value, found};
+ghost use Rattle.names.specs.Names.{all_found, as_compartment, as_effect, as_facet, as_field, as_node, as_read, as_value, found, meaning_of};
 
 use crate::named::Named;
 use crate::names::Names;
@@ -143,12 +143,22 @@ impl Sought for Values {
     }
 }
 
+/// By what a name's thing is known, if the name is declared and its thing is of the sort. Takes no memory.
+fn sought<S: Sought>(names: &Names, name: &Str) -> Option<S::Id>
+    ensures { result ≡ option_and_then S.as_sort (meaning_of name.now names.now) }
+{
+    match names.get(name) {
+        Some(thing) => S::of(thing),
+        None => None,
+    }
+}
+
 /// What a name stands for, as a thing of the sort. `Err`: `UnknownName` where the name isn't declared, or is of another sort; or
 /// out of memory.
 pub fn found<S: Sought>(names: &Names, name: &Str) -> Result<S::Id, LineError>
     ensures { Gives (λ x. x) result (found S.as_sort names.now name.now) }
 {
-    match names.get(name).and_then(S::of) {
+    match sought::<S>(names, name) {
         Some(id) => Ok(id),
         None => Err(LineError::Refused(Refusal::UnknownName {
             name: name.try_copy()?,

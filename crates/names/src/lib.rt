@@ -6,7 +6,6 @@
 //! both are as before.
 #![tactic(auto)]
 
-mod declare_computed;
 mod declare_field;
 mod declare_kinds;
 mod declare_nodes;
@@ -14,6 +13,7 @@ mod declaring;
 mod finding;
 mod named;
 mod names;
+mod new_node;
 mod predeclared;
 mod refusing;
 mod sets;

@@ -51,7 +51,8 @@ fn form_at(alloc: Global, line: &str, place: usize) -> Result<Option<(u32, u32, 
 
 #[test]
 fn each_form_of_an_effect_has_ids(rt: HostRuntime) -> Result<(), Fail> {
-    let line = "{\"update\":[{\"effects\":[{\"effect\":\"e\",\"value\":[1]},{\"reconfigure\":{\"compartment\":\"c\",\"to\":\"g\"}},{\"root\":[\"g\",\"i\"]},{\"append\":\"history\"}]}]}";
+    let line =
+        "{\"update\":[{\"effects\":[{\"effect\":\"e\",\"value\":[1]},{\"reconfigure\":{\"compartment\":\"c\",\"to\":\"g\"}},{\"root\":[\"g\",\"i\"]},{\"append\":\"history\"}]}]}";
     let cases = [(0, 1, 0), (1, 0, 2), (2, 2, 1), (3, 0, 0)];
     for i in 0..cases.len() {
         assert!(rt; form_at(rt.alloc(), line, i)? == Some(cases[i]));
@@ -92,10 +93,7 @@ fn names_of_effects_are_looked_up_in_order(rt: HostRuntime) -> Result<(), Fail> 
             "{\"update\":[{\"effects\":[{\"root\":[\"g\",\"tabSize\",\"q\"]}]}]}",
             "tabSize",
         ),
-        (
-            "{\"update\":[{\"effects\":[{\"append\":\"doc\"}]}]}",
-            "doc",
-        ),
+        ("{\"update\":[{\"effects\":[{\"append\":\"doc\"}]}]}", "doc"),
     ];
     for (line, name) in cases {
         assert!(rt; is_unknown(rt.alloc(), line, name)?, "{name}");
