@@ -1,6 +1,6 @@
 -- Cutting a buffer at its first LF.
-use Rattle.std.proofs.Common.{◌≡◌, ℕ, ◌-◌, ◌+◌, ◌<◌, List, ◌∷◌, ◌++◌, length, take, drop, ap, subst, ◌∙◌, arith}
-use Rattle.std.proofs.lemmas.List.{drop-drop, drop-take, length-take}
+use Rattle.std.proofs.Common.{◌≡◌, ℕ, suc, ◌-◌, ◌+◌, ◌<◌, List, ◌∷◌, ◌++◌, length, get_or, take, drop, drop-cons, ap, subst, ◌∙◌, arith}
+use Rattle.std.proofs.lemmas.List.{drop-drop, drop-take, length-drop, length-take}
 use Rattle.cm_outside.specs.Lines.{HasNoBreak}
 use Rattle.cm_outside.specs.Filling.{CutsLine}
 
@@ -24,3 +24,13 @@ cut_at line new_line buffer bytes rest part from to at same is_rest found is_par
       bytes = is_rest ∙ f.2 ∙ ap (λ r. take at ready ++ 10 ∷ r) (after_break buffer from to at f.0);
       kept = kept ∙ ap (λ p. take 1048577 (line ++ p)) (is_part ∙ ap (λ b. take at (take (to - from) (drop from b))) same);
     }
+
+-- the first of the bytes that stand ready, and those after it
+pub first_ready : (buffer : List ℕ) (from to : ℕ) → 0 < length (take (to - from) (drop from buffer))
+    → take (to - from) (drop from buffer) ≡ get_or buffer from 0 ∷ take (to - (from + 1)) (drop (from + 1) buffer)
+first_ready buffer from to h =
+    let some : 0 < (to - from) = omega (arith, h, length-take (to - from) (drop from buffer)) in
+    let within : from < length buffer = omega (arith, h, length-take (to - from) (drop from buffer), length-drop from buffer) in
+    let total : to - from ≡ suc (to - (from + 1)) = omega arith in
+    let next : suc from ≡ from + 1 = omega arith in
+    ap (λ n. take n (drop from buffer)) total ∙ ap (take (suc (to - (from + 1)))) (drop-cons buffer from 0 within ∙ ap (λ n. get_or buffer from 0 ∷ drop n buffer) next)

@@ -6,6 +6,7 @@ pub mod Sink
 pub mod Memory
 pub mod Progress
 pub mod Filling
+pub mod NextBytes
 pub mod Files
 pub mod MemFiles
 pub mod Times

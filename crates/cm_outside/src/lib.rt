@@ -1,5 +1,5 @@
 //! The outside of the editor core: traits for where bytes come from and go to, for files, each with a count of faults
-//! that never falls, and for the clock; forms of them in memory; and a reader that cuts the bytes of a source into lines.
+//! that never falls, and for the clock; forms of them in memory; and a reader of a source, by lines or by bytes.
 //!
 //! The layer above may rely on this: a line reader answers the lines of exactly the bytes that the source gave, takes
 //! no byte past its limit but one, and answers a failure only where the source's count of faults rose; a whole
@@ -14,6 +14,7 @@ mod mem_clock;
 mod mem_sink;
 mod mem_source;
 mod mem_store;
+mod next_byte;
 mod piece;
 mod reading;
 mod sink;
@@ -30,6 +31,7 @@ pub use mem_clock::MemClock;
 pub use mem_sink::MemSink;
 pub use mem_source::MemSource;
 pub use mem_store::MemStore;
+pub use next_byte::NextByte;
 pub use piece::Piece;
 pub use reading::{MAX_LINE, Reading};
 pub use sink::{Sink, write_whole};

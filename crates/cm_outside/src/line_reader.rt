@@ -1,11 +1,13 @@
-ghost use Rattle.std.specs.Prelude.{◌≡◌, Ok, ◌+◌, ◌-◌, ◌≤◌, ◌<◌, ◌++◌, [], ◌∷◌, true, false, take, drop, length, vec_len, IfOk, IfSome, OnOk, OnErr, MatchOption, MatchBool};
+ghost use Rattle.std.specs.Prelude.{◌≡◌, ◌⊎◌, Ok, ◌+◌, ◌-◌, ◌≤◌, ◌<◌, ◌++◌, [], ◌∷◌, true, false, take, drop, length, vec_len, IfOk, IfSome, OnOk, OnErr, MatchOption, MatchBool};
 ghost use Rattle.cm_outside.specs.Faults.{Rose, HasCause};
 ghost use Rattle.cm_outside.specs.Lines.{line_feed, max_line, HasNoBreak};
 ghost use Rattle.cm_outside.specs.Source.{Gives, count_of};
 ghost use Rattle.cm_outside.specs.Progress.{Reads, Advances, TakesOf, KeepsLimit, ReadsLate, read_room};
+ghost use Rattle.cm_outside.specs.NextBytes.{TakesByte, TakesByteFrom};
 ghost use Rattle.cm_outside.specs.Filling.{SameCounts, CutsLine, TakesRest, Fills, FillsFrom, IsLineOrTooLong};
 
 use crate::failed::Failed;
+use crate::next_byte::NextByte;
 use crate::reading::{MAX_LINE, Reading};
 use crate::source::Source;
 use memchr::memchr;
@@ -226,6 +228,42 @@ impl LineReader {
                 Filled::Failing => return Ok(Reading::Failed),
                 Filled::Past => return Ok(Reading::Budget),
             }
+        }
+    }
+    /// The first of the bytes that stand ready.
+    #[tactic(auto, using(crate::proofs::Cutting::first_ready))]
+    fn take_ready(&mut self) -> u8
+        requires { 0 < length self.old.rest }
+        ensures counts { SameCounts self.old self.new }
+        ensures bytes { self.old.rest ≡ result ∷ self.new.rest }
+    {
+        let byte = self.buffer[self.from];
+        self.from += 1;
+        byte
+    }
+
+    /// Takes the next byte, with one read of the source, of at most 8,192 bytes, where no byte is left among those that
+    /// were taken. `Failed` comes only where the source's count of faults rose, `Budget` exactly where one byte more
+    /// than the limit was taken. After `Budget` it isn't to be called again.
+    pub fn read_byte<S: Source>(&mut self, source: &mut S) -> NextByte
+        requires within { self.old.taken ≤ self.old.limit }
+        ensures limit { self.new.limit ≡ self.old.limit }
+        ensures counted { (self.old.taken ≤ self.new.taken)
+            × (S.given source.new + self.old.taken ≡ S.given source.old + self.new.taken) }
+        ensures takes { TakesByte result self.old self.new }
+        ensures told { IfSome (S.left source.old) (λ input. TakesByteFrom result self.old self.new input (S.left source.new)) }
+        ensures late { (source.new ≡ source.old) ⊎ (self.old.rest ≡ []) }
+        ensures later { S.faults source.old ≤ S.faults source.new }
+        ensures cause { result ≡ NextByte.Failed → Rose (S.faults source.old) (S.faults source.new) }
+    {
+        if self.from < self.to {
+            return NextByte::Byte(self.take_ready());
+        }
+        match self.fill(source) {
+            Filled::More => NextByte::Byte(self.take_ready()),
+            Filled::Ended => NextByte::End,
+            Filled::Failing => NextByte::Failed,
+            Filled::Past => NextByte::Budget,
         }
     }
 }

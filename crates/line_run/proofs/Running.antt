@@ -1,5 +1,5 @@
 -- A run over lines: what was answered so far, and how it ends.
-use Rattle.std.proofs.Common.{◌≡◌, ℕ, ◌+◌, ◌-◌, ◌<◌, ◌≤◌, List, [], ◌∷◌, ◌++◌, length, take, drop, Option, Some, None, IfSome, refl, sym, ap, subst, ◌∙◌, append_assoc, arith}
+use Rattle.std.proofs.Common.{◌≡◌, ℕ, ◌+◌, ◌-◌, ◌<◌, ◌≤◌, List, [], ◌∷◌, ◌++◌, ◌⊎◌, length, take, drop, Option, Some, None, IfSome, false, inr, refl, sym, ap, subst, ◌∙◌, append_assoc, arith}
 use Rattle.std.proofs.lemmas.List.{drop-drop, length-drop}
 use Rattle.std.specs.declared.result.Result.TheVariants as result
 use Rattle.cm_outside.specs.Answering.{Machine, AnswererTold, Exchange, exchange_of, after_all, AllAnswered, EndedBetween}
@@ -12,6 +12,8 @@ use Rattle.cm_outside.specs.declared.status.Status.{Status}
 use Rattle.cm_outside.specs.declared.status.Status.TheVariants as statuses
 use Rattle.cm_outside.proofs.Exchanges as exchanges
 use Rattle.cm_outside.specs.Runs.{Run, Gave}
+use Rattle.cm_outside.specs.Sink.{SinkTold}
+use Rattle.cm_outside.specs.Source.{SourceTold}
 use Rattle.line_run.specs.Run.{Ran, Ended}
 use Rattle.line_run.specs.Responding.{Responds, IsLine}
 use Rattle.line_run.proofs.Cuts.{Cuts, cuts_nothing, next_line, all_lines, whole_at_failure, whole_at_budget}
@@ -149,6 +151,26 @@ gave_more (Some input) left left_now p q taken g later is takes =
 pub gave_nothing : (told : Option (List ℕ)) (taken : ℕ) → taken ≡ 0 → IfSome told (λ i. Gave taken i told)
 gave_nothing None taken e = tt
 gave_nothing (Some input) taken e = (omega (arith, e), ap (λ n. Some (drop n input)) (sym e))
+
+nothing_answered : {P : Type 0} (m : Machine (List ℕ) P) (told : Option (List ℕ)) (first : Option P) (held : Option (List ℕ)) → IfSome told (λ input. IfSome first (λ f. EndedBetween m (lines_of input) (exchange_of f first held held)))
+nothing_answered m None first held = tt
+nothing_answered m (Some input) None held = tt
+nothing_answered m (Some input) (Some f) held = record { done = []; others = lines_of input; cut = refl; answered = exchanges.begins m f held }
+
+-- a run that ends before it reads
+pub nothing_done : {P : Type 0} (m : Machine (List ℕ) P) (old : AnswererTold P) (limit : ℕ) (source : SourceTold) (sink : SinkTold)
+    → Ran m old old statuses.NoMemory (record { limit = limit; source = source; source_now = source; sink = sink; sink_now = sink })
+nothing_done m old limit source sink = record {
+  ended = nothing_answered m source.left old.plain sink.held;
+  reason = omega arith;
+  gave = gave_nothing source.left (source.given - source.given) (omega arith);
+  complete = λ _ _ _. complete source.left;
+  later = record { given = omega arith; source_faults = omega arith; sink_faults = omega arith };
+  store_later = omega arith;
+} where
+  complete : (told : Option (List ℕ)) → IfSome told (λ input. length input ≤ limit → (statuses.NoMemory ≡ statuses.Ok) ⊎ (statuses.NoMemory ≡ statuses.NoMemory))
+  complete None = tt
+  complete (Some input) = λ _. inr refl
 
 -- a line that was read keeps the limit
 pub kept : (r : Reading) (q : Progress) → IsLine r → KeepsLimit r q → q.taken ≤ q.limit

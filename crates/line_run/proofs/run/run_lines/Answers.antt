@@ -1,6 +1,6 @@
 use Rattle.std.proofs.Common.{ap}
 use Rattle.cm_outside.specs.Progress.{Progress}
-use Rattle.line_run.proofs.Running.{at_limit}
+use Rattle.line_run.proofs.Running.{at_limit, nothing_done}
 use Rattle.line_run.proofs.run.run_lines.Goals as goal
 
 pub returns-in-Ok : goal.returns-in-Ok
@@ -14,3 +14,6 @@ returns-in-Ok g c =
       later = record { given = run.later.0; source_faults = run.later.1; sink_faults = run.later.2 };
       store_later = run.later.3;
     })
+
+pub returns-in-Err : goal.returns-in-Err
+returns-in-Err g c = nothing_done _ _ _ _ _
