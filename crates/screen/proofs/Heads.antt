@@ -14,7 +14,7 @@ use Rattle.pieces.specs.Widths.{is_before, width_of}
 use Rattle.line_rows.specs.Column.{column_of}
 use Rattle.screen.specs.declared.head.HeadPlace.{HeadPlace}
 use Rattle.screen.specs.Screen.{ViewView}
-use Rattle.screen.specs.Head.{ShowsHead, block_with, head_place, place_in, placed, stands_in}
+use Rattle.screen.specs.Head.{ShowsHead, block_with, cursor_in, head_place, place_from, place_in, placed, stands_in}
 use Rattle.screen.specs.Reveal.{moved_to, revealed_window}
 
 stands : (p : ℕ) (b : lines.Line) → b.from ≤ p → p ≤ b.to → stands_in p b ≡ true
@@ -54,6 +54,10 @@ head_found v main b is_main is_block =
 -- the window that shows the head
 pub revealed_is : (v : ViewView) (p : HeadPlace) → head_place v ≡ Some p → moved_to v.window p ≡ revealed_window v
 revealed_is v p is = rw is refl
+
+-- the cursor
+pub cursor_is : (v : ViewView) (p : HeadPlace) → head_place v ≡ Some p → place_from v.window p ≡ cursor_in v
+cursor_is v p is = rw is refl
 
 -- a window that shows a place of the head shows the head
 pub shows_head : (v : ViewView) (w : Window) (p : HeadPlace) → head_place v ≡ Some p → Shows w p.number p.column 1 → ShowsHead (record v { window = w })
