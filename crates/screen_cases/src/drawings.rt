@@ -8,7 +8,7 @@ use decoration::{Color, Deco, DecoSet, Inclusive, Layers, Style};
 use line_rows::{Block, Blocks, Run, runs_of};
 use line_tree::{Text, cut_len};
 use range_set::{RangeSet, Ranged};
-use screen::{Screen, View, reveal};
+use screen::{Screen, View, reveal, shown_rows};
 use selection::{Selection, first_outside};
 use std::alloc::{AllocError, Global};
 use std::marker::Brand;
@@ -20,7 +20,7 @@ use viewport::Viewport;
 
 /// What a decoration of a case does.
 #[derive(Clone, Copy)]
-enum Kind {
+pub(crate) enum Kind {
     Mark,
     Widget(i32),
     Replace,
@@ -28,16 +28,16 @@ enum Kind {
 }
 
 /// A decoration of a case: its kind, its range, its text and its style.
-type Given = (Kind, u32, u32, &'static str, Style);
+pub(crate) type Given = (Kind, u32, u32, &'static str, Style);
 
 /// A case: a document, the decorations of its layers, the anchor and the head of its selection, and the rows and columns
 /// of its window.
 #[derive(Clone, Copy, Drop)]
-struct Case<'a> {
-    doc: &'a str,
-    layers: &'a [&'a [Given]],
-    selection: (u32, u32),
-    size: (u32, u32),
+pub(crate) struct Case<'a> {
+    pub(crate) doc: &'a str,
+    pub(crate) layers: &'a [&'a [Given]],
+    pub(crate) selection: (u32, u32),
+    pub(crate) size: (u32, u32),
 }
 
 const NEITHER: Inclusive = Inclusive {
@@ -45,18 +45,18 @@ const NEITHER: Inclusive = Inclusive {
     end: false,
 };
 
-fn plain() -> Style {
+pub(crate) fn plain() -> Style {
     Style::plain()
 }
 
-fn fg(color: Color) -> Style {
+pub(crate) fn fg(color: Color) -> Style {
     Style {
         fg: Some(color),
         ..Style::plain()
     }
 }
 
-fn bold() -> Style {
+pub(crate) fn bold() -> Style {
     Style {
         bold: true,
         ..Style::plain()
@@ -116,8 +116,8 @@ fn runs_of_rows(alloc: Global, screen: &Screen) -> Result<Vec<Vec<Run>>, AllocEr
     Ok(rows)
 }
 
-/// The frame of a view that is drawn twice.
-fn drawn<L: Ledger>(alloc: Global, view: &View<'_>, blank: Blank) -> Result<String, AllocError>
+/// A screen on which a view is drawn twice.
+fn drawn<L: Ledger>(alloc: Global, view: &View<'_>, blank: Blank) -> Result<Screen, AllocError>
     requires name { blank.name ≡ L.name }
     requires parts { blank.parts ≡ L.parts }
     requires some { 0 < blank.parts }
@@ -130,18 +130,17 @@ fn drawn<L: Ledger>(alloc: Global, view: &View<'_>, blank: Blank) -> Result<Stri
     let mut screen = Screen::blank(alloc);
     screen.draw(view, &mut laid)?;
     screen.draw(view, &mut laid)?;
-    let rows = runs_of_rows(alloc, &screen)?;
-    frame(alloc, rows.as_slice(), screen.cursor())
+    Ok(screen)
 }
 
-/// The frame that shows a document, once the window shows the selection's head.
-fn frame_of(
+/// The screen that shows a document, once the window shows the selection's head, and how many of its rows show a block.
+fn screen_of(
     alloc: Global,
     doc: &Text,
     layers: &Layers,
     selection: &Selection,
     window: &Viewport,
-) -> Result<String, AllocError>
+) -> Result<(Screen, u32), AllocError>
     requires { LieIn (length doc.now.characters) selection.now.ranges }
 {
     let view = View {
@@ -159,10 +158,13 @@ fn frame_of(
         tab: 4,
         window: &window,
     };
-    drawn::<Brand>(alloc, &view, Blank::new(1))
+    let rows = shown_rows(alloc, &view)?;
+    let screen = drawn::<Brand>(alloc, &view, Blank::new(1))?;
+    Ok((screen, rows))
 }
 
-fn shown(alloc: Global, case: &Case<'_>) -> Result<String, Fail> {
+/// The screen that shows a case, and how many of its rows show a block.
+pub(crate) fn screen_and_rows(alloc: Global, case: &Case<'_>) -> Result<(Screen, u32), Fail> {
     let doc = document(alloc, case.doc)?;
     let layers = layers_of(alloc, case.layers)?;
     let selection = Selection::single(alloc, case.selection.0, case.selection.1)?;
@@ -172,12 +174,19 @@ fn shown(alloc: Global, case: &Case<'_>) -> Result<String, Fail> {
     if first_outside(selection.ranges(), doc.len()).is_some() {
         return Err("a selection of the document".into());
     }
-    Ok(frame_of(alloc, &doc, &layers, &selection, &window)?)
+    Ok(screen_of(alloc, &doc, &layers, &selection, &window)?)
+}
+
+/// The frame of a screen.
+fn frame_of(alloc: Global, screen: &Screen) -> Result<String, AllocError> {
+    let rows = runs_of_rows(alloc, screen)?;
+    frame(alloc, rows.as_slice(), screen.cursor())
 }
 
 /// Whether the case's frame is this one, where `^` stands for ESC and `[`.
 fn shows(alloc: Global, case: &Case<'_>, want: &str) -> Result<bool, Fail> {
-    let frame = shown(alloc, case)?;
+    let (screen, _) = screen_and_rows(alloc, case)?;
+    let frame = frame_of(alloc, &screen)?;
     let want = want.replace(alloc, "^", "\x1b[")?;
     Ok(frame.as_str() == want.as_str())
 }

@@ -1,3 +1,4 @@
+pub mod Codes
 pub mod FrameText
 pub mod Laid
 pub mod ReadBack

@@ -1,5 +1,5 @@
 // The bytes that set a style (ECMA-48, select graphic rendition).
-ghost use Rattle.std.specs.Prelude.{◌≡◌, ◌++◌, chars, IfOk, OnOk};
+ghost use Rattle.std.specs.Prelude.{◌≡◌, ◌<◌, ◌++◌, chars, drop, slice_index, IfOk, OnOk};
 ghost use Rattle.std.specs.String.{string_bytes};
 ghost use Rattle.term_bytes.specs.Frame.{color_code, flag_code, separated_codes, style_bytes, style_codes};
 
@@ -13,10 +13,18 @@ pub fn separated_codes(alloc: Global, style: Style) -> Result<String, AllocError
 {
     let mut codes = String::new(alloc);
     push_codes(&mut codes, style)?;
-    if !codes.is_empty() {
-        codes.remove(0);
-    }
+    remove_first(&mut codes);
     Ok(codes)
+}
+
+/// Removes the first character, if there is one.
+fn remove_first(text: &mut String)
+    requires ascii { slice_index (string_bytes text.old) 0 < 128 }
+    ensures { string_bytes text.new ≡ drop 1 (string_bytes text.old) }
+{
+    if !text.is_empty() {
+        text.remove(0);
+    }
 }
 
 /// `ESC [ 0`, the codes of a style and `m`.

@@ -1,8 +1,15 @@
 use Rattle.std.proofs.Common.{List, map, ap, ◌∙◌, arith}
 use Rattle.screen.specs.Screen.{RowKey, row_cells, shown_view}
 use Rattle.screen.proofs.Changes.{rendered_is}
+use Rattle.screen.proofs.Heads.{cursor_is, shows_place}
 use Rattle.screen.proofs.Kept.{changed_rows}
 use Rattle.screen.proofs.screen.Screen.draw.Goals as goal
+
+pub cursor_at-cursor-requires : goal.cursor_at-cursor-requires
+cursor_at-cursor-requires g c = shows_place (shown_view c.args.view.now) c.in_ok-place.place c.in_ok-place.ensures.value c.requires.shows
+
+pub returns-clause-cursor : goal.returns-clause-cursor
+returns-clause-cursor g c = c.cursor_at-cursor.ensures ∙ cursor_is (shown_view c.args.view.now) c.in_ok-place.place c.in_ok-place.ensures.value
 
 pub returns-clause-rendered : goal.returns-clause-rendered
 returns-clause-rendered g c =
