@@ -7,13 +7,15 @@
 #![tactic(auto)]
 
 mod declare_field;
+mod declare_inverse;
 mod declare_kinds;
+mod declare_new;
 mod declare_nodes;
 mod declaring;
 mod finding;
 mod named;
 mod names;
-mod new_node;
+mod new_thing;
 mod predeclared;
 mod refusing;
 mod sets;
