@@ -12,8 +12,8 @@ use Rattle.collab.specs.Worlds.{WorldView, begun, taken_name}
 use Rattle.collab.specs.Stepping.{is_push, step_refusal, stepped}
 use Rattle.script.specs.declared.refusal.Refusal.{Refusal}
 use Rattle.script.specs.declared.refusal.Refusal.TheVariants.{UnknownName, NameTaken, NoSession, TooLong}
-use Rattle.script.specs.declared.reply.Answer.{Answer}
-use Rattle.script.specs.declared.reply.Answer.TheVariants.{Version, Message, Client, Authority}
+use Rattle.replies.specs.declared.answer.Answer.{Answer}
+use Rattle.replies.specs.declared.answer.Answer.TheVariants.{Version, Message, Client, Authority}
 use Rattle.script.specs.Reading.{◌>>=◌, bad}
 use Rattle.script.specs.Refused.{unless}
 use Rattle.collab_run.specs.Refused.{collab_refusal}

@@ -2,11 +2,11 @@
 use Rattle.std.specs.Prelude.{◌≡◌, refl, ℕ, List, [], ◌∷◌, ◌++◌, Option, Some, None, Result, Ok, Err}
 use Rattle.collab.specs.Worlds.{WorldView}
 use Rattle.script.specs.declared.refusal.Refusal.{Refusal}
-use Rattle.script.specs.declared.reply.Reply.{Reply}
-use Rattle.script.specs.declared.reply.Reply.TheVariants as replies
+use Rattle.replies.specs.declared.answer.Reply.{Reply}
+use Rattle.replies.specs.declared.answer.Reply.TheVariants as replies
 use Rattle.script.specs.Reading.{◌>>=◌}
 use Rattle.script.specs.Lines.{line_command}
-use Rattle.script.specs.Replies.{reply_text}
+use Rattle.replies.specs.Replies.{reply_text}
 use Rattle.collab_run.specs.declared.outcome.Outcome.{Outcome}
 use Rattle.collab_run.specs.declared.outcome.Outcome.TheVariants.{Answered, Changed}
 use Rattle.collab_run.specs.Commands.{command_named}

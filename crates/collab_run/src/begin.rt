@@ -9,7 +9,8 @@ use crate::outcome::Outcome;
 use cm_plain::Str;
 use collab::{World, first_taken};
 use line_tree::{MAX_LEN, Text, cut_len};
-use script::{Answer, LineError, Refusal};
+use replies::Answer;
+use script::{LineError, Refusal};
 use std::alloc::Global;
 
 /// No name stands twice.

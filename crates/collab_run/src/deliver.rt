@@ -7,7 +7,8 @@ use crate::naming::{begun, client_of};
 use crate::outcome::Outcome;
 use cm_plain::Str;
 use collab::{Event, World};
-use script::{Answer, LineError, refused};
+use replies::Answer;
+use script::{LineError, refused};
 use std::alloc::Global;
 
 /// Whether a message is a Push, where it was sent.

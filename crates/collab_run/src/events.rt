@@ -10,7 +10,8 @@ use change_set::{Change, InsertedText};
 use cm_plain::Str;
 use collab::{Client, Event, World};
 use listed::Listed;
-use script::{Answer, LineError, refused};
+use replies::Answer;
+use script::{LineError, refused};
 use std::alloc::{AllocError, Global};
 
 /// The world after an event. The only other error than its refusal is out of memory, which also comes where there are too many

@@ -1,5 +1,5 @@
 use collab::World;
-use script::Answer;
+use replies::Answer;
 
 /// What a line does that isn't refused.
 #[derive(Drop)]

@@ -11,7 +11,8 @@ use crate::events::{local, publish, send, state};
 use crate::outcome::Outcome;
 use collab::World;
 use line_run::Answers;
-use script::{LineError, Refusal, Reply, line_command, reply_text};
+use replies::{Reply, reply_text};
+use script::{LineError, Refusal, line_command};
 use std::alloc::{AllocError, Global};
 use std::marker::Model;
 

@@ -12,9 +12,9 @@ use Rattle.script.specs.declared.map_request.MapOp.{MapOp}
 use Rattle.script.specs.declared.map_request.MapOp.TheVariants.{Of, Compose, Map, MapBefore, Invert, Filter}
 use Rattle.script.specs.declared.map_request.MapPlace.{MapPlace}
 use Rattle.script.specs.declared.map_request.MapParts.{MapParts}
-use Rattle.script.specs.declared.mapped.MappedParts.{MappedParts}
-use Rattle.script.specs.declared.mapped.MappedPlace.{MappedPlace}
-use Rattle.script.specs.declared.mapped.MappedPlace.TheVariants.{NotAsked, Deleted, At}
+use Rattle.replies.specs.declared.mapped.MappedParts.{MappedParts}
+use Rattle.replies.specs.declared.mapped.MappedPlace.{MappedPlace}
+use Rattle.replies.specs.declared.mapped.MappedPlace.TheVariants.{NotAsked, Deleted, At}
 use Rattle.script.specs.Reading.{◌>>=◌, bad}
 use Rattle.mapping.specs.Changes.{set_of}
 

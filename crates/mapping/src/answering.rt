@@ -12,10 +12,8 @@ use crate::changes::set_of;
 use change_set::{ChangeSet, InsertedText};
 use cm_plain::Str;
 use line_tree::Text;
-use script::{
-    LineError, MapOp, MapParts, MapPlace, MapRequest, Mapped, MappedParts, MappedPlace, Refusal,
-    cut_text,
-};
+use replies::{Mapped, MappedParts, MappedPlace};
+use script::{LineError, MapOp, MapParts, MapPlace, MapRequest, Refusal, cut_text};
 use std::alloc::{AllocError, Global};
 
 /// A set and the text that is answered with it.

@@ -8,6 +8,8 @@ mod maps;
 #[cfg(test)]
 mod replaying;
 #[cfg(test)]
+mod replies_written;
+#[cfg(test)]
 mod runs;
 #[cfg(test)]
 mod script_lines;

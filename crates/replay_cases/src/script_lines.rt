@@ -1,6 +1,5 @@
 use cm_plain::Plain;
-use script::{Answer, Command, LineError, Refusal, Reply, command_of, reply_text};
-use selection::{Range, Selection};
+use script::{Command, LineError, Refusal, command_of};
 use serde_json::Value;
 use std::alloc::{AllocError, Global};
 use std::test::Fail;
@@ -87,14 +86,25 @@ fn first_spec(alloc: Global, line: &str) -> Option<Spec<Plain>> {
     }
 }
 
-/// How deep the value is that a line's first spec carries.
-fn depth_of(alloc: Global, value: &str) -> Result<Option<u64>, AllocError> {
+/// The value that the first spec of a line carries, where the line is made of this value.
+pub(crate) fn carried(alloc: Global, value: &str) -> Result<Option<Plain>, AllocError> {
     let line = carrying(alloc, value)?;
     match first_spec(alloc, line.as_str()) {
-        Some(spec) => match spec.annotations.as_slice().first() {
-            Some(annotation) => Ok(Some(annotation.value.depth() as u64)),
-            None => Ok(None),
-        },
+        Some(spec) => Ok(first_value(spec)),
+        None => Ok(None),
+    }
+}
+
+/// The value of the first annotation of a spec.
+fn first_value(spec: Spec<Plain>) -> Option<Plain> {
+    let annotation = spec.annotations.into_vec().into_iter().next()?;
+    Some(annotation.value)
+}
+
+/// How deep the value is that a line's first spec carries.
+fn depth_of(alloc: Global, value: &str) -> Result<Option<u64>, AllocError> {
+    match carried(alloc, value)? {
+        Some(value) => Ok(Some(value.depth() as u64)),
         None => Ok(None),
     }
 }
@@ -118,62 +128,4 @@ fn has_defaults(alloc: Global, line: &str) -> bool {
 #[test]
 fn specs_have_defaults(rt: HostRuntime) {
     assert!(rt; has_defaults(rt.alloc(), "{\"update\":[{\"main\":3}]}"));
-}
-
-/// Whether a reply is written so.
-fn is_written(alloc: Global, reply: &Reply, want: &str) -> Result<bool, AllocError> {
-    let text = reply_text(alloc, reply)?;
-    Ok(text.as_str() == want)
-}
-
-fn answered_selection(alloc: Global, ranges: &[Range], main: usize) -> Option<Reply> {
-    let selection = Selection::create(alloc, ranges, main).ok()?;
-    Some(Reply::Ok(Answer::Selection(selection)))
-}
-
-#[test]
-fn selections_are_answered(rt: HostRuntime) -> Result<(), Fail> {
-    let ranges = [Range { anchor: 0, head: 1 }, Range { anchor: 4, head: 3 }];
-    let reply = answered_selection(rt.alloc(), &ranges, 1).ok_or("no selection")?;
-    let want = "{\"ok\":{\"main\":1,\"ranges\":[[0,1],[4,3]]}}\n";
-    assert!(rt; is_written(rt.alloc(), &reply, want)?);
-    Ok(())
-}
-
-#[test]
-fn replies_are_written(rt: HostRuntime) -> Result<(), Fail> {
-    let cases = [
-        (
-            Reply::No(Refusal::BadMain { main: 1, count: 2 }),
-            "{\"no\":{\"code\":\"BadMain\",\"count\":2,\"main\":1}}\n",
-        ),
-        (
-            Reply::No(Refusal::SelectionOutside { pos: 9, len: 4 }),
-            "{\"no\":{\"code\":\"SelectionOutside\",\"len\":4,\"pos\":9}}\n",
-        ),
-        (
-            Reply::No(Refusal::UnknownEffect { id: 7 }),
-            "{\"no\":{\"code\":\"UnknownEffect\",\"id\":7}}\n",
-        ),
-        (
-            Reply::No(Refusal::UnknownCompartment { id: 7 }),
-            "{\"no\":{\"code\":\"UnknownCompartment\",\"id\":7}}\n",
-        ),
-        (
-            Reply::No(Refusal::LengthMismatch { want: 3, have: 2 }),
-            "{\"no\":{\"code\":\"LengthMismatch\",\"have\":2,\"want\":3}}\n",
-        ),
-        (
-            Reply::No(Refusal::TooLong {
-                len: 16777217,
-                max: 16777216,
-            }),
-            "{\"no\":{\"code\":\"TooLong\",\"len\":16777217,\"max\":16777216}}\n",
-        ),
-        (Reply::Ok(Answer::Length(40)), "{\"ok\":{\"length\":40}}\n"),
-    ];
-    for (reply, want) in &cases {
-        assert!(rt; is_written(rt.alloc(), reply, *want)?);
-    }
-    Ok(())
 }

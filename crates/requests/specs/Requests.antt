@@ -1,19 +1,24 @@
 -- What each line of a session's script asks for, by its command's name and argument.
-use Rattle.std.specs.Prelude.{ℕ, List, [], ◌∷◌, Option, Some, None, Result, Ok, Err, if◌then◌else◌, codes}
+use Rattle.std.specs.Prelude.{ℕ, List, [], ◌∷◌, false, Option, Some, None, Result, Ok, Err, if◌then◌else◌, codes}
 use Rattle.std.specs.Str.{chars, bytes_eq}
 use Rattle.serde_json.specs.Data.{Data}
 use Rattle.script.specs.declared.refusal.Refusal.{Refusal}
 use Rattle.script.specs.declared.refusal.Refusal.TheVariants.{NotCommand}
-use Rattle.script.specs.Reading.{◌>>=◌, text_member, defaulted, text_at, members_at, only, list_of}
+use Rattle.script.specs.Reading.{◌>>=◌, text_member, number_member, required_as, defaulted, optional, text_at, integer_at, flag_at, members_at, only, list_of}
 use Rattle.script.specs.Command.{change_of, first_selection_of, given_selection_of, notes_of, flags_of, no_fields_of, map_request_of}
 use Rattle.requests.specs.declared.declaration.Declaration.{Declaration}
 use Rattle.requests.specs.declared.declaration.Declaration.TheVariants as declare
 use Rattle.requests.specs.declared.new_state.NewState.{NewState}
 use Rattle.requests.specs.declared.spec_request.SpecRequest.{SpecRequest}
+use Rattle.requests.specs.declared.open_request.OpenRequest.{OpenRequest}
+use Rattle.requests.specs.declared.do_request.DoRequest.{DoRequest}
+use Rattle.requests.specs.declared.view_request.ViewRequest.{ViewRequest}
 use Rattle.requests.specs.declared.request.Request.{Request}
-use Rattle.requests.specs.declared.request.Request.TheVariants.{Declare, Start, Update, Text, Selection, Get, Map}
+use Rattle.requests.specs.declared.request.Request.TheVariants.{Declare, Start, Open, Save, Update, Do, Text, Selection, Get, Map, View, Screen, Summary}
 use Rattle.requests.specs.Declarations.{effect_of, inverse_of, facet_of, field_of, compartment_of, input_of, compute_of, from_of, init_of, group_of, prec_of, slot_of}
 use Rattle.requests.specs.Effects.{named_effect_of}
+use Rattle.requests.specs.Words.{command_at, move_at}
+use Rattle.term_keys.specs.declared.key.Move.TheVariants.{Left}
 
 -- an item of a list of specs: {changes (default []), selection, main, effects (default []), annotations, userEvent, sequential,
 -- filter}
@@ -38,13 +43,43 @@ new_state_of command d = do
   known ← only (codes "doc" ∷ codes "selection" ∷ codes "main" ∷ codes "extensions" ∷ []) members
   Ok (record { doc = doc; selection = selection; extensions = extensions })
 
--- `get`: {name}, of a facet or field
-unfoldable pub get_of : List ℕ → Data → Result (List ℕ) Refusal
-get_of command d = do
+-- `open`: {file, extensions (default [])}
+unfoldable pub open_of : List ℕ → Data → Result OpenRequest Refusal
+open_of command d = do
   members ← members_at command d
-  name ← text_member (codes "name") d
-  known ← only (codes "name" ∷ []) members
-  Ok name
+  file ← text_member (codes "file") d
+  extensions ← defaulted (codes "extensions") (list_of text_at) [] d
+  known ← only (codes "file" ∷ codes "extensions" ∷ []) members
+  Ok (record { file = file; extensions = extensions })
+
+-- `do`: {command, text (default ""), move (default "left"), extend (default false), time (default none)}
+unfoldable pub do_of : List ℕ → Data → Result DoRequest Refusal
+do_of name d = do
+  members ← members_at name d
+  command ← required_as (codes "command") command_at d
+  text ← defaulted (codes "text") text_at [] d
+  direction ← defaulted (codes "move") move_at Left d
+  extend ← defaulted (codes "extend") flag_at false d
+  time ← optional (codes "time") integer_at d
+  known ← only (codes "command" ∷ codes "text" ∷ codes "move" ∷ codes "extend" ∷ codes "time" ∷ []) members
+  Ok (record { command = command; text = text; direction = direction; extend = extend; time = time })
+
+-- `view`: {rows, cols}
+unfoldable pub view_of : List ℕ → Data → Result ViewRequest Refusal
+view_of command d = do
+  members ← members_at command d
+  rows ← number_member (codes "rows") d
+  cols ← number_member (codes "cols") d
+  known ← only (codes "rows" ∷ codes "cols" ∷ []) members
+  Ok (record { rows = rows; cols = cols })
+
+-- an argument that has one field, which is a text: {name} of `get`, {file} of `save`
+unfoldable pub text_alone_of : List ℕ → List ℕ → Data → Result (List ℕ) Refusal
+text_alone_of field command d = do
+  members ← members_at command d
+  text ← text_member field d
+  known ← only (field ∷ []) members
+  Ok text
 
 -- what is read, as a declaration
 abbrev pub declares : {A : Type 0} → (A → Declaration) → Result A Refusal → Result (Option Declaration) Refusal
@@ -72,16 +107,27 @@ declaration_named name d =
     else (if bytes_eq name (codes "input") then declares declare.Input (input_of name d)
     else node_named name d)))))
 
+-- a command that asks, or that sets the window
+abbrev pub asked_named : List ℕ → Data → Result Request Refusal
+asked_named name d =
+    if bytes_eq name (codes "text") then no_fields_of name d >>= (λ known. Ok Text)
+    else (if bytes_eq name (codes "selection") then no_fields_of name d >>= (λ known. Ok Selection)
+    else (if bytes_eq name (codes "get") then text_alone_of (codes "name") name d >>= (λ asked. Ok (Get asked))
+    else (if bytes_eq name (codes "map") then map_request_of d >>= (λ parts. Ok (Map parts))
+    else (if bytes_eq name (codes "view") then view_of name d >>= (λ size. Ok (View size))
+    else (if bytes_eq name (codes "screen") then no_fields_of name d >>= (λ known. Ok Screen)
+    else (if bytes_eq name (codes "summary") then no_fields_of name d >>= (λ known. Ok Summary)
+    else Err (NotCommand (chars name))))))))
+
 -- a command of this name with this argument that declares nothing
 abbrev pub other_named : List ℕ → Data → Result Request Refusal
 other_named name d =
     if bytes_eq name (codes "start") then new_state_of name d >>= (λ start. Ok (Start start))
+    else (if bytes_eq name (codes "open") then open_of name d >>= (λ file. Ok (Open file))
+    else (if bytes_eq name (codes "save") then text_alone_of (codes "file") name d >>= (λ file. Ok (Save file))
     else (if bytes_eq name (codes "update") then list_of spec_of name d >>= (λ specs. Ok (Update specs))
-    else (if bytes_eq name (codes "text") then no_fields_of name d >>= (λ known. Ok Text)
-    else (if bytes_eq name (codes "selection") then no_fields_of name d >>= (λ known. Ok Selection)
-    else (if bytes_eq name (codes "get") then get_of name d >>= (λ asked. Ok (Get asked))
-    else (if bytes_eq name (codes "map") then map_request_of d >>= (λ parts. Ok (Map parts))
-    else Err (NotCommand (chars name)))))))
+    else (if bytes_eq name (codes "do") then do_of name d >>= (λ command. Ok (Do command))
+    else asked_named name d))))
 
 -- a declaration, or one of the other commands
 abbrev pub declared_or : Option Declaration → Result Request Refusal → Result Request Refusal

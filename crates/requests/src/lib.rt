@@ -9,21 +9,25 @@
 mod coloring;
 mod computed_declarations;
 mod declaration;
+mod do_request;
 mod effect_declarations;
 mod extension_declarations;
 mod facet_declaration;
 mod field_declaration;
 mod named_effect;
 mod new_state;
+mod open_request;
 mod request;
 mod spec_request;
 mod value_declarations;
+mod view_request;
 mod words;
 mod written;
 mod written_deco;
 
 pub use computed_declarations::{ComputeDeclaration, FromDeclaration};
 pub use declaration::Declaration;
+pub use do_request::{DoRequest, EditorCommand};
 pub use effect_declarations::{EffectDeclaration, InverseDeclaration};
 pub use extension_declarations::{
     CompartmentDeclaration, GroupDeclaration, PrecDeclaration, SlotDeclaration,
@@ -32,8 +36,11 @@ pub use facet_declaration::FacetDeclaration;
 pub use field_declaration::{FieldDeclaration, FieldNames, FieldRules, ProvidedDeclaration};
 pub use named_effect::{NamedEffect, NewContent};
 pub use new_state::NewState;
+pub use open_request::OpenRequest;
 pub use request::Request;
 pub use spec_request::SpecRequest;
+pub use term_keys::Move;
 pub use value_declarations::{InitDeclaration, InputDeclaration};
+pub use view_request::ViewRequest;
 pub use written::Written;
 pub use written_deco::WrittenDeco;

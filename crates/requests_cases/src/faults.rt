@@ -53,10 +53,16 @@ fn arguments_of_a_wrong_kind_name_their_command(rt: HostRuntime) -> Result<(), F
         "prec",
         "slot",
         "start",
+        "open",
+        "save",
+        "do",
         "text",
         "selection",
         "get",
         "map",
+        "view",
+        "screen",
+        "summary",
     ];
     for command in cases {
         let line = format!(in rt.alloc(); "{{\"{command}\":[]}}")?;
@@ -245,6 +251,56 @@ fn fields_of_states_and_specs_are_looked_at_in_order(rt: HostRuntime) -> Result<
     ];
     for (line, field) in cases {
         assert!(rt; is_bad(rt.alloc(), line, field)?, "{line}");
+    }
+    Ok(())
+}
+
+#[test]
+fn fields_of_files_and_windows_are_looked_at_in_order(rt: HostRuntime) -> Result<(), Fail> {
+    let cases = [
+        ("{\"open\":{\"extensions\":1}}", "file"),
+        ("{\"open\":{\"file\":\"f\",\"extensions\":1}}", "extensions"),
+        ("{\"open\":{\"file\":\"f\",\"doc\":\"\"}}", "doc"),
+        ("{\"save\":{}}", "file"),
+        ("{\"save\":{\"file\":\"f\",\"name\":1}}", "name"),
+        ("{\"view\":{\"cols\":1}}", "rows"),
+        ("{\"view\":{\"rows\":1}}", "cols"),
+        ("{\"view\":{\"rows\":1,\"cols\":4294967296}}", "cols"),
+        ("{\"view\":{\"rows\":1,\"cols\":1,\"top\":1}}", "top"),
+        ("{\"screen\":{\"rows\":1}}", "rows"),
+        ("{\"summary\":{\"text\":1}}", "text"),
+    ];
+    for (line, field) in cases {
+        assert!(rt; is_bad(rt.alloc(), line, field)?, "{line}");
+    }
+    Ok(())
+}
+
+#[test]
+fn fields_of_editor_commands_are_looked_at_in_order(rt: HostRuntime) -> Result<(), Fail> {
+    let cases = [
+        ("{\"text\":1}", "command"),
+        ("{\"command\":\"cut\",\"text\":1}", "command"),
+        ("{\"command\":\"Undo\"}", "command"),
+        ("{\"command\":\"undo\",\"text\":1,\"move\":1}", "text"),
+        (
+            "{\"command\":\"undo\",\"move\":\"home\",\"extend\":1}",
+            "move",
+        ),
+        (
+            "{\"command\":\"move\",\"extend\":0,\"time\":null}",
+            "extend",
+        ),
+        ("{\"command\":\"move\",\"time\":null}", "time"),
+        (
+            "{\"command\":\"move\",\"time\":9223372036854775808}",
+            "time",
+        ),
+        ("{\"command\":\"move\",\"event\":1}", "event"),
+    ];
+    for (argument, field) in cases {
+        let line = format!(in rt.alloc(); "{{\"do\":{argument}}}")?;
+        assert!(rt; is_bad(rt.alloc(), line.as_str(), field)?, "{argument}");
     }
     Ok(())
 }

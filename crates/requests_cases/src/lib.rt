@@ -5,6 +5,8 @@
 #[cfg(test)]
 mod decorations;
 #[cfg(test)]
+mod editor_commands;
+#[cfg(test)]
 mod faults;
 #[cfg(test)]
 mod reading;

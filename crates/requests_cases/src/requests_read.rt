@@ -11,11 +11,17 @@ fn command_of(alloc: Global, line: &str) -> &'static str {
         None => "none",
         Some(Request::Declare(declaration)) => declaring(&declaration),
         Some(Request::Start(_)) => "start",
+        Some(Request::Open(_)) => "open",
+        Some(Request::Save(_)) => "save",
         Some(Request::Update(_)) => "update",
+        Some(Request::Do(_)) => "do",
         Some(Request::Text) => "text",
         Some(Request::Selection) => "selection",
         Some(Request::Get(_)) => "get",
         Some(Request::Map(_)) => "map",
+        Some(Request::View(_)) => "view",
+        Some(Request::Screen) => "screen",
+        Some(Request::Summary) => "summary",
     }
 }
 
@@ -74,11 +80,17 @@ fn each_command_is_read(rt: HostRuntime) {
             "slot",
         ),
         ("{\"start\":{}}", "start"),
+        ("{\"open\":{\"file\":\"f\"}}", "open"),
+        ("{\"save\":{\"file\":\"f\"}}", "save"),
         ("{\"update\":[]}", "update"),
+        ("{\"do\":{\"command\":\"undo\"}}", "do"),
         ("{\"text\":{}}", "text"),
         ("{\"selection\":{}}", "selection"),
         ("{\"get\":{\"name\":\"f\"}}", "get"),
         ("{\"map\":{\"doc\":\"\",\"a\":[],\"op\":\"of\"}}", "map"),
+        ("{\"view\":{\"rows\":0,\"cols\":0}}", "view"),
+        ("{\"screen\":{}}", "screen"),
+        ("{\"summary\":{}}", "summary"),
     ];
     for (line, command) in cases {
         assert!(rt; command_of(rt.alloc(), line) == command, "{line}");

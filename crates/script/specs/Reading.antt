@@ -83,6 +83,10 @@ number_member name d = required_as name number_at d
 unfoldable pub side_at : List ℕ → Data → Result ℤ Refusal
 side_at name d = or_bad name (option_and_then fits_i32 (option_and_then as_i64 (as_number d)))
 
+-- a whole number of 64 bits with a sign
+unfoldable pub integer_at : List ℕ → Data → Result ℤ Refusal
+integer_at name d = or_bad name (option_and_then as_i64 (as_number d))
+
 -- true or false
 unfoldable pub flag_at : List ℕ → Data → Result Bool Refusal
 flag_at name d = or_bad name (as_bool d)

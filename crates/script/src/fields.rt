@@ -2,7 +2,7 @@ ghost use Rattle.std.specs.Prelude.{◌≡◌, map};
 ghost use Rattle.std.specs.List.{list_any};
 ghost use Rattle.std.specs.Str.{bytes_eq};
 ghost use Rattle.serde_json.specs.View.{view, items_view, members_view};
-ghost use Rattle.script.specs.Reading.{Gives, bad, required, text_at, number_at, side_at, items_at, item_at, no_item_at, members_at, only, flag_at};
+ghost use Rattle.script.specs.Reading.{Gives, bad, required, text_at, number_at, side_at, items_at, item_at, no_item_at, members_at, only, flag_at, integer_at};
 
 use crate::refusal::{LineError, Refusal};
 use cm_plain::Str;
@@ -150,6 +150,16 @@ pub(crate) fn side(alloc: Global, name: &str, value: &Value) -> Result<i32, Line
     match value.as_i64() {
         Some(n) if -2_147_483_648 <= n && n <= 2_147_483_647 => Ok(n as i32),
         _ => refused(alloc, name),
+    }
+}
+
+#[tactic(auto, unfolding(crate::specs::Reading::integer_at))]
+pub(crate) fn integer(alloc: Global, name: &str, value: &Value) -> Result<i64, LineError>
+    ensures { Gives (λ x. x) result (integer_at name.now (view value.now)) }
+{
+    match value.as_i64() {
+        Some(n) => Ok(n),
+        None => refused(alloc, name),
     }
 }
 

@@ -2,9 +2,9 @@ ghost use Rattle.std.specs.Prelude.{ℕ, List, Result};
 ghost use Rattle.serde_json.specs.Data.{Data};
 ghost use Rattle.serde_json.specs.View.{view, items_view};
 ghost use Rattle.script.specs.declared.refusal.Refusal.{Refusal};
-ghost use Rattle.script.specs.Reading.{Gives, each, flag_at, list_of, number_at, side_at, text_at};
+ghost use Rattle.script.specs.Reading.{Gives, each, flag_at, integer_at, list_of, number_at, side_at, text_at};
 
-use crate::fields::{flag, items, position, side, text};
+use crate::fields::{flag, integer, items, position, side, text};
 use crate::refusal::LineError;
 use cm_plain::Str;
 use listed::Listed;
@@ -36,6 +36,15 @@ impl Item for i32 {
 
     fn read(alloc: Global, name: &str, value: &Value) -> Result<i32, LineError> {
         side(alloc, name, value)
+    }
+}
+
+/// A whole number of 64 bits with a sign.
+impl Item for i64 {
+    ghost item_of = { integer_at };
+
+    fn read(alloc: Global, name: &str, value: &Value) -> Result<i64, LineError> {
+        integer(alloc, name, value)
     }
 }
 

@@ -2,6 +2,9 @@ ghost use Rattle.std.specs.Prelude.{◌≡◌};
 ghost use Rattle.script.specs.declared.refusal.LineError.TheVariants.{NoMemory};
 
 use crate::declaration_refusal::DeclarationRefusal;
+use crate::extension_refusal::ExtensionRefusal;
+use crate::file_refusal::FileRefusal;
+use crate::window_refusal::WindowRefusal;
 use change_set::ChangesError;
 use cm_plain::Str;
 use selection::SelectionError;
@@ -79,6 +82,12 @@ pub enum Refusal {
     },
     /// A declaration whose names are as they should be is refused.
     Declaration(DeclarationRefusal),
+    /// Extensions that are all known make no configuration.
+    Extensions(ExtensionRefusal),
+    /// A file can't be opened.
+    File(FileRefusal),
+    /// There is no window of the size that is asked for.
+    Window(WindowRefusal),
     /// A client's updates were sent at another version than the authority's, which is given.
     Stale {
         version: u32,

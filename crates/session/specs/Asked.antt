@@ -1,5 +1,5 @@
 -- The commands that ask for a part of the state and change nothing.
-use Rattle.script.specs.declared.reply.Answer.TheVariants.{Text, Selection}
+use Rattle.replies.specs.declared.answer.Answer.TheVariants.{Text, Selection}
 use Rattle.session.specs.State.{PlainState}
 use Rattle.session.specs.declared.outcome.Outcome.{Outcome}
 use Rattle.session.specs.declared.outcome.Outcome.TheVariants.{Answered}

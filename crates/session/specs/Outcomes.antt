@@ -1,6 +1,6 @@
 -- What a line does that isn't refused.
 use Rattle.std.specs.Prelude.{length}
-use Rattle.script.specs.declared.reply.Answer.TheVariants.{Length}
+use Rattle.replies.specs.declared.answer.Answer.TheVariants.{Length}
 use Rattle.session.specs.State.{PlainState}
 use Rattle.session.specs.declared.outcome.Outcome.{Outcome}
 use Rattle.session.specs.declared.outcome.Outcome.TheVariants.{Changed}

@@ -4,7 +4,7 @@ use Rattle.script.specs.declared.refusal.Refusal.{Refusal}
 use Rattle.script.specs.Reading.{◌>>=◌}
 use Rattle.script.specs.Command.{command_named}
 use Rattle.script.specs.Lines.{line_command}
-use Rattle.script.specs.Replies.{reply_text}
+use Rattle.replies.specs.Replies.{reply_text}
 use Rattle.session.specs.State.{PlainState, PlainSession}
 use Rattle.session.specs.declared.outcome.Outcome.{Outcome}
 use Rattle.session.specs.Session.{act, left_by, reply_of}

@@ -5,7 +5,8 @@ ghost use Rattle.session.specs.Asked.{selection, text};
 use crate::outcome::Outcome;
 use crate::started::Started;
 use change_set::InsertedText;
-use script::{Answer, LineError};
+use replies::Answer;
+use script::LineError;
 
 /// The command `text`. The only error is out of memory.
 pub(crate) fn text_of(state: &Started) -> Result<Outcome, LineError>

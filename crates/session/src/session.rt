@@ -7,7 +7,8 @@ use crate::lines::outcome_of;
 use crate::outcome::Outcome;
 use crate::started::Started;
 use line_run::Answers;
-use script::{LineError, Refusal, Reply, reply_text};
+use replies::{Reply, reply_text};
+use script::{LineError, Refusal};
 use std::alloc::{AllocError, Global};
 use std::marker::Model;
 

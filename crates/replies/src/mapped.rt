@@ -33,7 +33,7 @@ pub struct Mapped {
 }
 
 impl Model for Mapped {
-    ghost use Rattle.script.specs.declared.mapped.MappedParts.{MappedParts};
+    ghost use Rattle.replies.specs.declared.mapped.MappedParts.{MappedParts};
 
     ghost Value = { MappedParts };
 

@@ -2,11 +2,11 @@ ghost use Rattle.std.specs.Prelude.{◌≡◌, IfOk, codes, encode_utf8_all};
 ghost use Rattle.serde_json.specs.Data.{member, no_members, string};
 ghost use Rattle.serde_json.specs.View.{view};
 ghost use Rattle.script.specs.declared.declaration_refusal.DeclarationRefusal.TheVariants.{BadInverse, BadSide, UnknownRule};
-ghost use Rattle.script.specs.Replies.{coded, declaration_data, whole};
+ghost use Rattle.replies.specs.Refusals.{coded, declaration_data, whole};
 
-use crate::declaration_refusal::DeclarationRefusal;
-use crate::reply::code_value;
+use crate::coded::code_value;
 use cm_plain::Str;
+use script::DeclarationRefusal;
 use serde_json::{Value, json};
 use std::alloc::{AllocError, Global};
 

@@ -1,0 +1,5 @@
+pub mod Objects
+pub mod Refusals
+pub mod Shown
+pub mod Screens
+pub mod Replies
