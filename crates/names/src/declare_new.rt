@@ -25,10 +25,7 @@ fn next_named<M: Meanings>(registry: &Registry<M>, thing: &NewThing) -> Result<N
             let id = id_of(registry.kinds().maps.as_slice().len())?;
             Ok(Named::Effect(id))
         }
-        NewThing::Facet { def: _, enables: _ } => {
-            let id = id_of(registry.defs().facets.as_slice().len())?;
-            Ok(Named::Facet(id))
-        }
+        NewThing::Facet { def: _, enables: _ } => Ok(Named::Facet(registry.defs().facet_count())),
         NewThing::Compartment => Ok(Named::Compartment(registry.kinds().compartments)),
         _ => Ok(Named::Node(id_of(registry.arena().len())?)),
     }
