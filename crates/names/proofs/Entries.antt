@@ -1,28 +1,47 @@
 -- Names as a map keeps them.
-use Rattle.std.proofs.Common.{◌≡◌, ℕ, List, [], ◌∷◌, ◌++◌, map, cond, Bool, true, false, Option, Some, None, refl, sym, ap, ◌∙◌, is_some, true≢false}
+use Rattle.std.proofs.Common.{◌≡◌, ℕ, ◌+◌, ◌≤◌, List, [], ◌∷◌, ◌++◌, map, drop, length, cond, Bool, true, false, Option, Some, None, slice_get, refl, sym, ap, ◌∙◌, is_some, true≢false}
+use Rattle.std.proofs.lemmas.List.{drop_more, drop_all}
+use Rattle.std.proofs.lemmas.Option.{get_or_from_slice_get, slice_get_within}
 use Rattle.std.specs.Map.{lookup}
 use Rattle.std.specs.Str.{bytes_eq}
 use Rattle.indexmap.specs.IndexMap.{insert_entry}
 use Rattle.names.specs.declared.named.Named.{Named}
-use Rattle.names.specs.Names.{meaning_of, with_name}
+use Rattle.names.specs.Names.{has_id, meaning_of, name_of, with_name}
+use Rattle.registry.specs.declared.id_sort.IdSort.{IdSort}
 
-module _ {K : Type 0} (name_of : K → List ℕ) where
+module _ {K : Type 0} (text_of : K → List ℕ) where
   abbrev pub seen : List (K × Named) → List (List ℕ × Named)
-  seen es = map (λ e. (name_of e.0, e.1)) es
+  seen es = map (λ e. (text_of e.0, e.1)) es
 
   -- what a name stands for is what the map finds
-  pub looked_up : (name : List ℕ) (es : List (K × Named)) → lookup (λ k. bytes_eq name (name_of k)) es ≡ meaning_of name (seen es)
+  pub looked_up : (name : List ℕ) (es : List (K × Named)) → lookup (λ k. bytes_eq name (text_of k)) es ≡ meaning_of name (seen es)
   looked_up name [] = refl
-  looked_up name (e ∷ es) = ap (λ rest. cond (bytes_eq name (name_of e.0)) (Some e.1) rest) (looked_up name es)
+  looked_up name (e ∷ es) = ap (λ rest. cond (bytes_eq name (text_of e.0)) (Some e.1) rest) (looked_up name es)
 
   -- a name that isn't there goes last
-  pub added : (key : K) (thing : Named) (es : List (K × Named)) → meaning_of (name_of key) (seen es) ≡ None
-      → seen (insert_entry (λ a b. bytes_eq (name_of a) (name_of b)) es key thing) ≡ with_name (seen es) (name_of key) thing
+  pub added : (key : K) (thing : Named) (es : List (K × Named)) → meaning_of (text_of key) (seen es) ≡ None
+      → seen (insert_entry (λ a b. bytes_eq (text_of a) (text_of b)) es key thing) ≡ with_name (seen es) (text_of key) thing
   added key thing [] h = refl
-  added key thing (e ∷ es) h = by (bytes_eq (name_of key) (name_of e.0)) refl h where
-    by : (b : Bool) → bytes_eq (name_of key) (name_of e.0) ≡ b → cond (bytes_eq (name_of key) (name_of e.0)) (Some e.1) (meaning_of (name_of key) (seen es)) ≡ None
-        → seen (cond (bytes_eq (name_of key) (name_of e.0)) ((e.0, thing) ∷ es) (e ∷ insert_entry (λ a b. bytes_eq (name_of a) (name_of b)) es key thing)) ≡ with_name (seen (e ∷ es)) (name_of key) thing
-    by true is none = absurd (true≢false (ap is_some (sym (ap (λ b. cond b (Some e.1) (meaning_of (name_of key) (seen es))) is) ∙ none)))
+  added key thing (e ∷ es) h = by (bytes_eq (text_of key) (text_of e.0)) refl h where
+    by : (b : Bool) → bytes_eq (text_of key) (text_of e.0) ≡ b → cond (bytes_eq (text_of key) (text_of e.0)) (Some e.1) (meaning_of (text_of key) (seen es)) ≡ None
+        → seen (cond (bytes_eq (text_of key) (text_of e.0)) ((e.0, thing) ∷ es) (e ∷ insert_entry (λ a b. bytes_eq (text_of a) (text_of b)) es key thing)) ≡ with_name (seen (e ∷ es)) (text_of key) thing
+    by true is none = absurd (true≢false (ap is_some (sym (ap (λ b. cond b (Some e.1) (meaning_of (text_of key) (seen es))) is) ∙ none)))
     by false is none =
-        ap (λ b. seen (cond b ((e.0, thing) ∷ es) (e ∷ insert_entry (λ a b. bytes_eq (name_of a) (name_of b)) es key thing))) is
-        ∙ ap (λ rest. (name_of e.0, e.1) ∷ rest) (added key thing es (sym (ap (λ b. cond b (Some e.1) (meaning_of (name_of key) (seen es))) is) ∙ none))
+        ap (λ b. seen (cond b ((e.0, thing) ∷ es) (e ∷ insert_entry (λ a b. bytes_eq (text_of a) (text_of b)) es key thing))) is
+        ∙ ap (λ rest. (text_of e.0, e.1) ∷ rest) (added key thing es (sym (ap (λ b. cond b (Some e.1) (meaning_of (text_of key) (seen es))) is) ∙ none))
+
+  -- the entry at a place, and those after it
+  at_place : (es : List (K × Named)) (place : ℕ) (e : K × Named) → slice_get es place ≡ Some e → drop place es ≡ e ∷ drop (place + 1) es
+  at_place es place e is =
+      drop_more es place e (slice_get_within es place e is) ∙ ap (λ x. x ∷ drop (place + 1) es) (get_or_from_slice_get es place e e is)
+
+  -- an entry of this id has the first name of those that are left
+  pub is_here : (sort : IdSort) (id : ℕ) (es : List (K × Named)) (place : ℕ) (e : K × Named) → slice_get es place ≡ Some e → has_id sort id e.1 ≡ true → name_of sort id (seen (drop place es)) ≡ Some (text_of e.0)
+  is_here sort id es place e is has = ap (λ l. name_of sort id (seen l)) (at_place es place e is) ∙ ap (λ b. cond b (Some (text_of e.0)) (name_of sort id (seen (drop (place + 1) es)))) has
+
+  -- of another id it has none
+  pub is_later : (sort : IdSort) (id : ℕ) (es : List (K × Named)) (place : ℕ) (e : K × Named) → slice_get es place ≡ Some e → has_id sort id e.1 ≡ false → name_of sort id (seen (drop place es)) ≡ name_of sort id (seen (drop (place + 1) es))
+  is_later sort id es place e is has = ap (λ l. name_of sort id (seen l)) (at_place es place e is) ∙ ap (λ b. cond b (Some (text_of e.0)) (name_of sort id (seen (drop (place + 1) es)))) has
+
+  pub is_nowhere : (sort : IdSort) (id : ℕ) (es : List (K × Named)) (place : ℕ) → length es ≤ place → name_of sort id (seen (drop place es)) ≡ None
+  is_nowhere sort id es place h = ap (λ l. name_of sort id (seen l)) (drop_all es place h)

@@ -6,10 +6,8 @@ use Rattle.std.proofs.lemmas.List.{length-append, append-nil}
 use Rattle.std.proofs.lemmas.Option.{slice_get_within, slice_get-get_or}
 use Rattle.ext_tree.proofs.Done.{all-append}
 use Rattle.configuration.specs.declared.field_def.FieldDef.{FieldDef}
-use Rattle.configuration.specs.declared.node_def.NodeDef.{NodeDef}
-use Rattle.ext_tree.specs.declared.node.Node.{Node as Extension}
+use Rattle.configuration.specs.declared.node_def.NodeDef.TheVariants as defs
 use Rattle.ext_tree.specs.declared.node.Node.TheVariants as tree
-use Rattle.values.specs.declared.val.Val.{Val}
 use Rattle.values.specs.Declarations.{Declarations, with_field, with_node, with_pair}
 use Rattle.values.specs.Growth.{IsGrowth, Keeps}
 use Rattle.values.specs.Rules.{Rules}
@@ -23,9 +21,9 @@ use Rattle.requests.specs.declared.declaration.Declaration.TheVariants as declar
 use Rattle.script.specs.declared.refusal.Refusal.{Refusal}
 use Rattle.script.specs.Reading.{◌>>=◌}
 use Rattle.script.specs.Refused.{unless}
-use Rattle.names.specs.Declaring.{World, world, computed, declared_in, definition_of, field_def, in_tree, node_in, node_refusals, passing, with_new_node, with_thing}
-use Rattle.names.specs.declared.new_node.NewNode.{NewNode}
-use Rattle.names.specs.declared.new_node.NewNode.TheVariants as new
+use Rattle.names.specs.Declaring.{World, world, computed, declared_in, field_def, new_in, new_refusals, next_named, passing, with_new, with_thing}
+use Rattle.names.specs.declared.new_thing.NewThing.{NewThing}
+use Rattle.names.specs.declared.new_thing.NewThing.TheVariants as new
 use Rattle.names.proofs.Naming.{named_compartment, named_effect, named_facet, named_field, named_node, named_pair}
 use Rattle.names.specs.Known.{AreKnown, AreNamed, IsKept, IsKnown}
 use Rattle.names.specs.Names.{NameList, with_name}
@@ -112,31 +110,57 @@ paired w v effect back ids rs h = on (passing ids (first_of rs) (with_pair w.dec
       subst (Steps w) (ap (λ d. world w.names d) (sym (was_passed (option_and_then (registry_refusal ids) (first_of rs)) (with_pair w.declared effect back) declared is)) ∙ same (world w.names declared) v h) start
   on (Err e) is h = absurd (true≢false (sym (ap is_ok h)))
 
--- a declaration of a node
-node_next : (rules : Rules) (w v : World) (name other : List ℕ) (node : NewNode) → node_in rules w name other node ≡ Ok v → Steps w v
-node_next rules w v name other node h =
-    named_next w v name (Node (length w.declared.nodes)) (λ id. other) (node_refusals rules w.declared node) (with_new_node w.declared node) (next_place w.declared.nodes (in_tree node))
-    (λ n. named_node w.names name w.declared (in_tree node) (definition_of node) n) h
+-- a thing that is declared is known
+thing_known : (d : Declarations) (thing : NewThing) → IsKnown (with_new d thing) (next_named d thing)
+thing_known d (new.Effect number) = next_place d.maps number
+thing_known d (new.Facet def enables) = next_place d.facets def
+thing_known d new.Compartment = omega arith
+thing_known d (new.Input facet value) = next_place d.nodes (tree.Input facet)
+thing_known d (new.Compute facet rule rs) = next_place d.nodes (tree.Input facet)
+thing_known d (new.ComputeN facet rule rs) = next_place d.nodes (tree.Input facet)
+thing_known d (new.From facet field rule) = next_place d.nodes (tree.Input facet)
+thing_known d (new.Init field value) = next_place d.nodes (tree.Init field)
+thing_known d (new.Group of) = next_place d.nodes (tree.Group of)
+thing_known d (new.Prec at of) = next_place d.nodes (tree.Prec at of)
+thing_known d (new.Slot compartment of) = next_place d.nodes (tree.Slot compartment of)
+
+-- and it has its name
+thing_named : (names : NameList) (name : List ℕ) (d : Declarations) (thing : NewThing) → AreNamed names d → AreNamed (with_name names name (next_named d thing)) (with_new d thing)
+thing_named names name d (new.Effect number) n = named_effect names name d number n
+thing_named names name d (new.Facet def enables) n = named_facet names name d def enables n
+thing_named names name d new.Compartment n = named_compartment names name d n
+thing_named names name d (new.Input facet value) n = named_node names name d (tree.Input facet) (defs.Of value) n
+thing_named names name d (new.Compute facet rule rs) n = named_node names name d (tree.Input facet) (defs.Compute rule rs) n
+thing_named names name d (new.ComputeN facet rule rs) n = named_node names name d (tree.Input facet) (defs.ComputeN rule rs) n
+thing_named names name d (new.From facet field rule) n = named_node names name d (tree.Input facet) (defs.From field rule) n
+thing_named names name d (new.Init field value) n = named_node names name d (tree.Init field) (defs.Init value) n
+thing_named names name d (new.Group of) n = named_node names name d (tree.Group of) defs.Branch n
+thing_named names name d (new.Prec at of) n = named_node names name d (tree.Prec at of) defs.Branch n
+thing_named names name d (new.Slot compartment of) n = named_node names name d (tree.Slot compartment of) defs.Branch n
+
+-- a declaration of such a thing
+new_next : (rules : Rules) (w v : World) (name other : List ℕ) (thing : NewThing) → new_in rules w name other thing ≡ Ok v → Steps w v
+new_next rules w v name other thing h =
+    named_next w v name (next_named w.declared thing) (λ id. other) (new_refusals rules w.declared thing) (with_new w.declared thing) (thing_known w.declared thing) (λ n. thing_named w.names name w.declared thing n) h
 
 steps : (rules : Rules) (w v : World) (declaration : Declaration) → declared_in rules w declaration ≡ Ok v → Steps w v
-steps rules w v (declare.Effect e) h = read_on _ _ v (λ free h. named_next w v _ _ _ _ _ (next_place w.declared.maps e.map) (λ n. named_effect w.names e.name w.declared e.map n) h) h
+steps rules w v (declare.Effect e) h = read_on _ _ v (λ free h. new_next rules w v e.name e.name (new.Effect e.map) h) h
 steps rules w v (declare.Inverse i) h = read_on _ _ v (λ effect h. read_on _ _ v (λ back h. paired w v effect back _ _ h) h) h
-steps rules w v (declare.Facet f) h =
-    read_on _ _ v (λ enables h. read_on _ _ v (λ free h. named_next w v _ _ _ _ _ (next_place w.declared.facets f.def) (λ n. named_facet w.names f.name w.declared f.def enables n) h) h) h
+steps rules w v (declare.Facet f) h = read_on _ _ v (λ enables h. read_on _ _ v (λ free h. new_next rules w v f.name f.name (new.Facet f.def enables) h) h) h
 steps rules w v (declare.Field f) h =
     read_on _ _ v
     (λ things h. read_on _ _ v
     (λ free h.
     named_next w v _ _ _ _ _ (field_known w.declared (field_def f things.reads things.listens) things.provided)
     (λ n. named_field w.names f.name w.declared (field_def f things.reads things.listens) things.provided n) h) h) h
-steps rules w v (declare.Compartment c) h = read_on _ _ v (λ free h. named_next w v _ _ _ _ _ (omega arith) (λ n. named_compartment w.names c.name w.declared n) h) h
-steps rules w v (declare.Input i) h = read_on _ _ v (λ facet h. read_on _ _ v (λ free h. read_on _ _ v (λ value h. node_next rules w v i.name i.facet (new.Input facet value) h) h) h) h
-steps rules w v (declare.Compute c) h = read_on _ _ v (λ facet h. read_on _ _ v (λ rs h. read_on _ _ v (λ free h. node_next rules w v c.name c.facet (computed c.many facet c.rule rs) h) h) h) h
-steps rules w v (declare.From f) h = read_on _ _ v (λ facet h. read_on _ _ v (λ field h. read_on _ _ v (λ free h. node_next rules w v f.name f.facet (new.From facet field f.rule) h) h) h) h
-steps rules w v (declare.Init i) h = read_on _ _ v (λ field h. read_on _ _ v (λ free h. read_on _ _ v (λ value h. node_next rules w v i.name i.field (new.Init field value) h) h) h) h
-steps rules w v (declare.Group g) h = read_on _ _ v (λ of h. read_on _ _ v (λ free h. node_next rules w v g.name g.name (new.Group of) h) h) h
-steps rules w v (declare.Prec p) h = read_on _ _ v (λ of h. read_on _ _ v (λ free h. node_next rules w v p.name p.name (new.Prec p.at of) h) h) h
-steps rules w v (declare.Slot s) h = read_on _ _ v (λ compartment h. read_on _ _ v (λ of h. read_on _ _ v (λ free h. node_next rules w v s.name s.name (new.Slot compartment of) h) h) h) h
+steps rules w v (declare.Compartment c) h = read_on _ _ v (λ free h. new_next rules w v c.name c.name new.Compartment h) h
+steps rules w v (declare.Input i) h = read_on _ _ v (λ facet h. read_on _ _ v (λ free h. read_on _ _ v (λ value h. new_next rules w v i.name i.facet (new.Input facet value) h) h) h) h
+steps rules w v (declare.Compute c) h = read_on _ _ v (λ facet h. read_on _ _ v (λ rs h. read_on _ _ v (λ free h. new_next rules w v c.name c.facet (computed c.many facet c.rule rs) h) h) h) h
+steps rules w v (declare.From f) h = read_on _ _ v (λ facet h. read_on _ _ v (λ field h. read_on _ _ v (λ free h. new_next rules w v f.name f.facet (new.From facet field f.rule) h) h) h) h
+steps rules w v (declare.Init i) h = read_on _ _ v (λ field h. read_on _ _ v (λ free h. read_on _ _ v (λ value h. new_next rules w v i.name i.field (new.Init field value) h) h) h) h
+steps rules w v (declare.Group g) h = read_on _ _ v (λ of h. read_on _ _ v (λ free h. new_next rules w v g.name g.name (new.Group of) h) h) h
+steps rules w v (declare.Prec p) h = read_on _ _ v (λ of h. read_on _ _ v (λ free h. new_next rules w v p.name p.name (new.Prec p.at of) h) h) h
+steps rules w v (declare.Slot s) h = read_on _ _ v (λ compartment h. read_on _ _ v (λ of h. read_on _ _ v (λ free h. new_next rules w v s.name s.name (new.Slot compartment of) h) h) h) h
 
 -- what the names and the registry keep
 pub still_kept : (rules : Rules) (w v : World) (declaration : Declaration) → declared_in rules w declaration ≡ Ok v → IsGrowth w.declared v.declared → IsKept w.names w.declared → IsKept v.names v.declared

@@ -7,11 +7,8 @@ use Rattle.cm_plain.specs.Form.{fits}
 use Rattle.configuration.specs.declared.dependency.Dependency.{Dependency}
 use Rattle.configuration.specs.declared.facet_def.FacetDef.{FacetDef}
 use Rattle.configuration.specs.declared.field_def.FieldDef.{FieldDef}
-use Rattle.configuration.specs.declared.node_def.NodeDef.{NodeDef}
 use Rattle.configuration.specs.declared.node_def.NodeDef.TheVariants as defs
-use Rattle.ext_tree.specs.declared.node.Node.{Node as TreeNode}
 use Rattle.ext_tree.specs.declared.node.Node.TheVariants as nodes
-use Rattle.values.specs.declared.val.Val.{Val}
 use Rattle.values.specs.Declarations.{Declarations, with_compartment, with_effect, with_facet, with_node, with_pair}
 use Rattle.values.specs.Rules.{Rules}
 use Rattle.registry.specs.declared.provided.Provided.{Provided}
@@ -36,8 +33,8 @@ use Rattle.requests.specs.declared.value_declarations.InputDeclaration.{InputDec
 use Rattle.names.specs.Names.{NameList, with_name, as_effect, as_compartment, as_facet, as_field, as_node, as_read, found, all_found, each_of, is_free}
 use Rattle.names.specs.Sets.{value_of}
 use Rattle.names.specs.declared.named.Named.{Named}
-use Rattle.names.specs.declared.new_node.NewNode.{NewNode}
-use Rattle.names.specs.declared.new_node.NewNode.TheVariants as new
+use Rattle.names.specs.declared.new_thing.NewThing.{NewThing}
+use Rattle.names.specs.declared.new_thing.NewThing.TheVariants as new
 use Rattle.names.specs.declared.named.Named.TheVariants.{Compartment, Effect, Facet, Field, Node}
 use Rattle.script.specs.declared.refusal.Refusal.{Refusal}
 use Rattle.script.specs.Reading.{◌>>=◌}
@@ -62,12 +59,6 @@ abbrev pub with_thing : World → List ℕ → Named → (ℕ → List ℕ) → 
 with_thing w name thing names rs next =
     passing names (first_of rs) next >>= λ declared. Ok (world (with_name w.names name thing) declared)
 
--- `effect`
-abbrev pub effect_in : Rules → World → EffectDeclaration → Result World Refusal
-effect_in rules w e = do
-  free ← is_free w.names e.name
-  with_thing w e.name (Effect (length w.declared.maps)) (λ id. e.name) (effect_refusals rules w.declared e.map) (with_effect w.declared e.map)
-
 -- which of two names an effect kind has, of which the first one has this id
 abbrev pub one_of : ℕ → List ℕ → List ℕ → ℕ → List ℕ
 one_of effect first second id = if id == effect then first else second
@@ -79,13 +70,6 @@ inverse_in w i = do
   back ← found as_effect w.names i.back
   declared ← passing (one_of effect i.effect i.back) (first_of (pair_refusals w.declared effect back)) (with_pair w.declared effect back)
   Ok (world w.names declared)
-
--- `facet`
-abbrev pub facet_in : Rules → World → FacetDeclaration → Result World Refusal
-facet_in rules w f = do
-  enables ← all_found as_node w.names f.enables
-  free ← is_free w.names f.name
-  with_thing w f.name (Facet (length w.declared.facets)) (λ id. f.name) (facet_refusals rules w.declared f.def enables) (with_facet w.declared f.def enables)
 
 -- an input that a field provides
 abbrev pub provided_in : NameList → ProvidedDeclaration → Result Provided Refusal
@@ -143,52 +127,63 @@ field_in rules w f = do
   free ← is_free w.names f.name
   field_with rules w f things
 
+-- refusals of a thing that is to be declared
+abbrev pub new_refusals : Rules → Declarations → NewThing → List (Option RegistryError)
+new_refusals rules d (new.Effect number) = effect_refusals rules d number
+new_refusals rules d (new.Facet def enables) = facet_refusals rules d def enables
+new_refusals rules d new.Compartment = compartment_refusals d
+new_refusals rules d (new.Input facet value) = input_refusals rules d facet value
+new_refusals rules d (new.Compute facet rule rs) = compute_refusals rules d facet rule rs
+new_refusals rules d (new.ComputeN facet rule rs) = compute_n_refusals rules d facet rule rs
+new_refusals rules d (new.From facet field rule) = from_refusals rules d facet field rule
+new_refusals rules d (new.Init field value) = init_refusals rules d field value
+new_refusals rules d (new.Group of) = group_refusals d of
+new_refusals rules d (new.Prec at of) = prec_refusals d of
+new_refusals rules d (new.Slot compartment of) = slot_refusals d compartment of
+
+-- with it
+abbrev pub with_new : Declarations → NewThing → Declarations
+with_new d (new.Effect number) = with_effect d number
+with_new d (new.Facet def enables) = with_facet d def enables
+with_new d new.Compartment = with_compartment d
+with_new d (new.Input facet value) = with_node d (nodes.Input facet) (defs.Of value)
+with_new d (new.Compute facet rule rs) = with_node d (nodes.Input facet) (defs.Compute rule rs)
+with_new d (new.ComputeN facet rule rs) = with_node d (nodes.Input facet) (defs.ComputeN rule rs)
+with_new d (new.From facet field rule) = with_node d (nodes.Input facet) (defs.From field rule)
+with_new d (new.Init field value) = with_node d (nodes.Init field) (defs.Init value)
+with_new d (new.Group of) = with_node d (nodes.Group of) defs.Branch
+with_new d (new.Prec at of) = with_node d (nodes.Prec at of) defs.Branch
+with_new d (new.Slot compartment of) = with_node d (nodes.Slot compartment of) defs.Branch
+
+-- what its name stands for: the next id of its sort
+abbrev pub next_named : Declarations → NewThing → Named
+next_named d (new.Effect number) = Effect (length d.maps)
+next_named d (new.Facet def enables) = Facet (length d.facets)
+next_named d new.Compartment = Compartment d.compartments
+next_named d thing = Node (length d.nodes)
+
+-- a thing of this name; where it is refused, ids are written as the other name
+abbrev pub new_in : Rules → World → (name other : List ℕ) → NewThing → Result World Refusal
+new_in rules w name other thing = with_thing w name (next_named w.declared thing) (λ id. other) (new_refusals rules w.declared thing) (with_new w.declared thing)
+
+-- `effect`
+abbrev pub effect_in : Rules → World → EffectDeclaration → Result World Refusal
+effect_in rules w e = do
+  free ← is_free w.names e.name
+  new_in rules w e.name e.name (new.Effect e.map)
+
+-- `facet`
+abbrev pub facet_in : Rules → World → FacetDeclaration → Result World Refusal
+facet_in rules w f = do
+  enables ← all_found as_node w.names f.enables
+  free ← is_free w.names f.name
+  new_in rules w f.name f.name (new.Facet f.def enables)
+
 -- `compartment`
-abbrev pub compartment_in : World → CompartmentDeclaration → Result World Refusal
-compartment_in w c = do
+abbrev pub compartment_in : Rules → World → CompartmentDeclaration → Result World Refusal
+compartment_in rules w c = do
   free ← is_free w.names c.name
-  with_thing w c.name (Compartment w.declared.compartments) (λ id. c.name) (compartment_refusals w.declared) (with_compartment w.declared)
-
--- refusals of a node that is to be declared
-abbrev pub node_refusals : Rules → Declarations → NewNode → List (Option RegistryError)
-node_refusals rules d (new.Input facet value) = input_refusals rules d facet value
-node_refusals rules d (new.Compute facet rule rs) = compute_refusals rules d facet rule rs
-node_refusals rules d (new.ComputeN facet rule rs) = compute_n_refusals rules d facet rule rs
-node_refusals rules d (new.From facet field rule) = from_refusals rules d facet field rule
-node_refusals rules d (new.Init field value) = init_refusals rules d field value
-node_refusals rules d (new.Group of) = group_refusals d of
-node_refusals rules d (new.Prec at of) = prec_refusals d of
-node_refusals rules d (new.Slot compartment of) = slot_refusals d compartment of
-
--- what it is in the extension tree
-abbrev pub in_tree : NewNode → TreeNode
-in_tree (new.Input facet value) = nodes.Input facet
-in_tree (new.Compute facet rule rs) = nodes.Input facet
-in_tree (new.ComputeN facet rule rs) = nodes.Input facet
-in_tree (new.From facet field rule) = nodes.Input facet
-in_tree (new.Init field value) = nodes.Init field
-in_tree (new.Group of) = nodes.Group of
-in_tree (new.Prec at of) = nodes.Prec at of
-in_tree (new.Slot compartment of) = nodes.Slot compartment of
-
--- how it gives a value
-abbrev pub definition_of : NewNode → NodeDef Val
-definition_of (new.Input facet value) = defs.Of value
-definition_of (new.Compute facet rule rs) = defs.Compute rule rs
-definition_of (new.ComputeN facet rule rs) = defs.ComputeN rule rs
-definition_of (new.From facet field rule) = defs.From field rule
-definition_of (new.Init field value) = defs.Init value
-definition_of (new.Group of) = defs.Branch
-definition_of (new.Prec at of) = defs.Branch
-definition_of (new.Slot compartment of) = defs.Branch
-
--- with the next node
-abbrev pub with_new_node : Declarations → NewNode → Declarations
-with_new_node d node = with_node d (in_tree node) (definition_of node)
-
--- a node of this name; where it is refused, ids are written as the other name
-abbrev pub node_in : Rules → World → (name other : List ℕ) → NewNode → Result World Refusal
-node_in rules w name other node = with_thing w name (Node (length w.declared.nodes)) (λ id. other) (node_refusals rules w.declared node) (with_new_node w.declared node)
+  new_in rules w c.name c.name new.Compartment
 
 -- `input`
 abbrev pub input_in : Rules → World → InputDeclaration → Result World Refusal
@@ -196,10 +191,10 @@ input_in rules w i = do
   facet ← found as_facet w.names i.facet
   free ← is_free w.names i.name
   value ← value_of i.value
-  node_in rules w i.name i.facet (new.Input facet value)
+  new_in rules w i.name i.facet (new.Input facet value)
 
 -- an input that a rule computes, or several
-abbrev pub computed : (many : Bool) → (facet rule : ℕ) → List Dependency → NewNode
+abbrev pub computed : (many : Bool) → (facet rule : ℕ) → List Dependency → NewThing
 computed false facet rule rs = new.Compute facet rule rs
 computed true facet rule rs = new.ComputeN facet rule rs
 
@@ -209,7 +204,7 @@ compute_in rules w c = do
   facet ← found as_facet w.names c.facet
   rs ← all_found as_read w.names c.deps
   free ← is_free w.names c.name
-  node_in rules w c.name c.facet (computed c.many facet c.rule rs)
+  new_in rules w c.name c.facet (computed c.many facet c.rule rs)
 
 -- `from`
 abbrev pub from_in : Rules → World → FromDeclaration → Result World Refusal
@@ -217,7 +212,7 @@ from_in rules w f = do
   facet ← found as_facet w.names f.facet
   field ← found as_field w.names f.field
   free ← is_free w.names f.name
-  node_in rules w f.name f.facet (new.From facet field f.rule)
+  new_in rules w f.name f.facet (new.From facet field f.rule)
 
 -- `init`
 abbrev pub init_in : Rules → World → InitDeclaration → Result World Refusal
@@ -225,21 +220,21 @@ init_in rules w i = do
   field ← found as_field w.names i.field
   free ← is_free w.names i.name
   value ← value_of i.value
-  node_in rules w i.name i.field (new.Init field value)
+  new_in rules w i.name i.field (new.Init field value)
 
 -- `group`
 abbrev pub group_in : Rules → World → GroupDeclaration → Result World Refusal
 group_in rules w g = do
   of ← all_found as_node w.names g.of
   free ← is_free w.names g.name
-  node_in rules w g.name g.name (new.Group of)
+  new_in rules w g.name g.name (new.Group of)
 
 -- `prec`
 abbrev pub prec_in : Rules → World → PrecDeclaration → Result World Refusal
 prec_in rules w p = do
   of ← found as_node w.names p.of
   free ← is_free w.names p.name
-  node_in rules w p.name p.name (new.Prec p.at of)
+  new_in rules w p.name p.name (new.Prec p.at of)
 
 -- `slot`
 abbrev pub slot_in : Rules → World → SlotDeclaration → Result World Refusal
@@ -247,7 +242,7 @@ slot_in rules w s = do
   compartment ← found as_compartment w.names s.compartment
   of ← found as_node w.names s.of
   free ← is_free w.names s.name
-  node_in rules w s.name s.name (new.Slot compartment of)
+  new_in rules w s.name s.name (new.Slot compartment of)
 
 -- the names and what is declared after a declaration, or its first refusal
 abbrev pub declared_in : Rules → World → Declaration → Result World Refusal
@@ -255,7 +250,7 @@ declared_in rules w (declare.Effect e) = effect_in rules w e
 declared_in rules w (declare.Inverse i) = inverse_in w i
 declared_in rules w (declare.Facet f) = facet_in rules w f
 declared_in rules w (declare.Field f) = field_in rules w f
-declared_in rules w (declare.Compartment c) = compartment_in w c
+declared_in rules w (declare.Compartment c) = compartment_in rules w c
 declared_in rules w (declare.Input i) = input_in rules w i
 declared_in rules w (declare.Compute c) = compute_in rules w c
 declared_in rules w (declare.From f) = from_in rules w f

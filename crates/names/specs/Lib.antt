@@ -5,3 +5,4 @@ pub mod Declaring
 pub mod Predeclared
 pub mod Transacting
 pub mod Known
+pub mod ConfigRefusals

@@ -165,18 +165,14 @@ fn declare_with<M: Meanings>(
     ensures same { OnErr result (registry.new ≡ registry.old) }
     ensures grows { IsGrowth registry.old registry.new }
 {
+    let rules = field.rules;
+    let creator_fits = creator_fits::<M>(alloc, rules.create, rules.update)?;
+    let count = add_field(alloc, registry, names, &field.name, ids.provided.len())?;
     let FieldIds {
         reads,
         listens,
         provided,
     } = ids;
-    let rules = field.rules;
-    let id_names = FieldIdNames {
-        creator_fits: creator_fits::<M>(alloc, rules.create, rules.update)?,
-        own: &field.name,
-        provides: field.names.provides.as_slice(),
-        provided: provided.as_slice(),
-    };
     let def = FieldDef {
         create: rules.create,
         update: rules.update,
@@ -184,8 +180,13 @@ fn declare_with<M: Meanings>(
         reads: Listed::new(reads),
         listens: Listed::new(listens),
     };
-    let count = add_field(alloc, registry, names, &field.name, provided.len())?;
     let outcome = registry.field(def, provided.as_slice());
+    let id_names = FieldIdNames {
+        creator_fits,
+        own: &field.name,
+        provides: field.names.provides.as_slice(),
+        provided: provided.as_slice(),
+    };
     settled(alloc, names, count, outcome, &id_names)
 }
 

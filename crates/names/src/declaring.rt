@@ -6,7 +6,8 @@ ghost use Rattle.names.specs.Declaring.{declared_in, world};
 ghost use Rattle.names.specs.Known.{IsKept};
 
 use crate::declare_field::declare_field;
-use crate::declare_kinds::{declare_compartment, declare_effect, declare_facet, declare_inverse};
+use crate::declare_inverse::declare_inverse;
+use crate::declare_kinds::{declare_compartment, declare_effect, declare_facet};
 use crate::declare_nodes::{
     declare_compute, declare_from, declare_group, declare_init, declare_input, declare_prec,
     declare_slot,

@@ -11,4 +11,6 @@ mod refused;
 #[cfg(test)]
 mod specs;
 #[cfg(test)]
+mod unconfigured;
+#[cfg(test)]
 mod values_refused;

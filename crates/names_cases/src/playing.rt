@@ -1,8 +1,9 @@
 // Lines that declare, one after the other.
 use names::{Names, declare};
 use registry::Registry;
+use replies::{Reply, reply_text};
 use requests::Request;
-use script::{LineError, Reply, line_command, reply_text};
+use script::{LineError, line_command};
 use shipped_rules::Shipped;
 use std::alloc::{AllocError, Global};
 

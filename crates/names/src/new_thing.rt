@@ -1,11 +1,20 @@
-use configuration::Dependency;
+use configuration::{Dependency, FacetDef};
 use ext_tree::{ExtId, ExtIds, Precedence};
 use listed::Listed;
 use values::Val;
 
-/// A node that is to be declared; what it names stands by its id.
+/// An effect kind, a facet, a compartment or a node that is to be declared; what it names stands by its id.
 #[derive(Drop)]
-pub enum NewNode {
+pub enum NewThing {
+    /// An effect kind, which may have a map of this number.
+    Effect(Option<u32>),
+    /// A facet, which enables these nodes.
+    Facet {
+        def: FacetDef,
+        enables: ExtIds,
+    },
+    /// A compartment.
+    Compartment,
     /// An input of a facet with a value of its own.
     Input {
         facet: u32,
