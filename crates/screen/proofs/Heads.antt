@@ -1,7 +1,7 @@
 -- A place stands in one block alone, which is the first that it stands in.
-use Rattle.std.proofs.Common.{◌≡◌, ℕ, zero, suc, ◌+◌, ◌-◌, ◌<◌, ◌≤◌, max, Bool, true, false, List, [], ◌∷◌, cond, if◌then◌else◌, Option, Some, None, refl, sym, ap, ◌∙◌, arith}
+use Rattle.std.proofs.Common.{◌≡◌, ℕ, zero, suc, ◌+◌, ◌≤◌, max, Bool, true, false, List, [], ◌∷◌, cond, if◌then◌else◌, Option, Some, refl, ap, ◌∙◌, arith}
 use Rattle.std.specs.Prelude.{find, nat_le, option_map, option_and_then, slice_get}
-use Rattle.std.proofs.lemmas.Bool.{and_from, and_parts}
+use Rattle.std.proofs.lemmas.Bool.{and_parts}
 use Rattle.std.proofs.lemmas.Bool.Decides.{nat_tests}
 use Rattle.line_tree.specs.declared.line.Line as lines
 use Rattle.selection.specs.declared.range.Range.{Range}
@@ -28,21 +28,22 @@ stands_parts p b is =
 -- the only element that a test takes is the first that it takes
 found_one : {X : Type 0} (test : X → Bool) (xs : List X) (k : ℕ) (b : X) → slice_get xs k ≡ Some b → test b ≡ true → ((j : ℕ) (a : X) → slice_get xs j ≡ Some a → test a ≡ true → a ≡ b) → find test xs ≡ Some b
 found_one test [] k b is takes only = cc
-found_one test (x ∷ xs) k b is takes only = by (test x) refl
+found_one test (x ∷ xs) k b is takes only =
+    by (λ i found. found_one test xs i b found takes (λ j a at passes. only (suc j) a at passes)) (test x) refl
   where
-    later : test x ≡ false → (k : ℕ) → slice_get (x ∷ xs) k ≡ Some b → find test xs ≡ Some b
-    later no zero found = cc
-    later no (suc k) found = found_one test xs k b found takes (λ j a at yes. only (suc j) a at yes)
-    by : (t : Bool) → test x ≡ t → (cond t (Some x) (find test xs)) ≡ Some b
-    by true yes = ap Some (only 0 x refl yes)
-    by false no = later no k is
+    after : test x ≡ false → ((i : ℕ) → slice_get xs i ≡ Some b → find test xs ≡ Some b) → (i : ℕ) → slice_get (x ∷ xs) i ≡ Some b → find test xs ≡ Some b
+    after fails more zero found = cc
+    after fails more (suc i) found = more i found
+    by : ((i : ℕ) → slice_get xs i ≡ Some b → find test xs ≡ Some b) → (t : Bool) → test x ≡ t → cond t (Some x) (find test xs) ≡ Some b
+    by more true passes = ap Some (only 0 x refl passes)
+    by more false fails = after fails more k is
 
 -- a block in which a place stands is the first one
 pub block_found : (v : ViewView) (k p : ℕ) (b : lines.Line) → slice_get (blocks_of v.text v.layers) k ≡ Some b → b.from ≤ p → p ≤ b.to → block_with v p ≡ Some b
 block_found v k p b is starts ends =
     found_one (stands_in p) (blocks_of v.text v.layers) k b is (stands p b starts ends)
-    (λ j a at yes.
-    let parts = stands_parts p a yes in
+    (λ j a at passes.
+    let parts = stands_parts p a passes in
     one_block v.text v.layers j k a b p at is parts.0 parts.1 starts ends)
 
 -- the place of the main range's head
