@@ -1,3 +1,4 @@
 pub mod Utf8
 pub mod SavedPieces
 pub mod Lengths
+pub mod RoundTrip

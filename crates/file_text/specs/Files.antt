@@ -1,8 +1,8 @@
 -- The text of files: what a save writes, and what the bytes of a file read as (Reference Manual: Text.of, Text.toString,
 -- EditorState.lineSeparator).
-use Rattle.std.specs.Prelude.{ℕ, nat_le, List, [], ◌∷◌, length, flat_map, encode_utf8_all, Option, Some, None, Result, Ok, Err, if◌then◌else◌}
+use Rattle.std.specs.Prelude.{◌≡◌, ◌⊎◌, ℕ, nat_le, List, [], ◌∷◌, length, flat_map, encode_utf8_all, Option, Some, None, Result, Ok, Err, if◌then◌else◌}
 use Rattle.std.specs.Str.{chars, is_utf8}
-use Rattle.line_tree.specs.Text.{cut, max_len}
+use Rattle.line_tree.specs.Text.{cut, max_len, line_feed, carriage_return, HasNoReturn}
 use Rattle.line_tree.specs.Lines.{is_break}
 
 -- what a character of a text is saved as: a break as the separator, another character as itself
@@ -20,6 +20,14 @@ saved_bytes separator text = encode_utf8_all (saved_chars separator text)
 -- the text of a file's bytes, cut at CRLF, CR and LF; none where they aren't UTF-8
 abbrev pub read_chars : List ℕ → Option (List ℕ)
 read_chars bytes = if is_utf8 bytes then Some (cut (chars bytes)) else None
+
+-- a line end that reading cuts at: LF, CRLF or CR
+abbrev pub IsLineEnd : List ℕ → Type 0
+IsLineEnd separator = (separator ≡ line_feed ∷ []) ⊎ ((separator ≡ carriage_return ∷ line_feed ∷ []) ⊎ (separator ≡ carriage_return ∷ []))
+
+-- with such a separator, the bytes read as the text, if it has no CR
+abbrev pub ReadsBack : List ℕ → List ℕ → List ℕ → Type 0
+ReadsBack separator text bytes = IsLineEnd separator → HasNoReturn text → read_chars bytes ≡ Some text
 
 -- why the bytes of a file give no text: they aren't UTF-8, or the text would have this length, which is too long
 pub data FileFault : Type 0 where

@@ -1,6 +1,6 @@
 ghost use Rattle.std.specs.Prelude.{◌≡◌, ◌++◌, ◌≤◌, ◌-◌, [], ◌∷◌, length, OnOk, IfOk, string_bytes, encode_utf8_all};
 ghost use Rattle.line_tree.specs.Text.{slice};
-ghost use Rattle.file_text.specs.Files.{saved_bytes};
+ghost use Rattle.file_text.specs.Files.{saved_bytes, ReadsBack};
 
 use line_tree::Text;
 use std::alloc::{AllocError, Global};
@@ -56,9 +56,9 @@ fn push_block(
     push_saved(saved, characters.as_slice(), separator)
 }
 
-/// The text in UTF-8 as a save writes it, with the separator in place of each break. `Err`: out of memory.
-pub fn saved_bytes(alloc: Global, text: &Text, separator: &[char]) -> Result<Vec<u8>, AllocError>
-    ensures { IfOk result (λ v. v.items ≡ saved_bytes separator.now text.now.characters) }
+/// The text as a save writes it, with the separator in place of each break.
+fn saved_string(alloc: Global, text: &Text, separator: &[char]) -> Result<String, AllocError>
+    ensures { IfOk result (λ s. string_bytes s ≡ saved_bytes separator.now text.now.characters) }
 {
     let len = text.len();
     let mut saved = String::with_capacity(alloc, len as usize)?;
@@ -68,5 +68,15 @@ pub fn saved_bytes(alloc: Global, text: &Text, separator: &[char]) -> Result<Vec
         push_block(&mut saved, text, pos, end, separator)?;
         pos = end;
     }
+    Ok(saved)
+}
+
+/// The text in UTF-8 as a save writes it, with the separator in place of each break. Where the separator is LF, CRLF or CR and
+/// the text has no CR, a file of these bytes has the same text. `Err`: out of memory.
+pub fn saved_bytes(alloc: Global, text: &Text, separator: &[char]) -> Result<Vec<u8>, AllocError>
+    ensures value { IfOk result (λ v. v.items ≡ saved_bytes separator.now text.now.characters) }
+    ensures reads_back { IfOk result (λ v. ReadsBack separator.now text.now.characters v.items) }
+{
+    let saved = saved_string(alloc, text, separator)?;
     Ok(saved.into_bytes())
 }

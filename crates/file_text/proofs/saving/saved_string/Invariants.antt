@@ -1,6 +1,6 @@
 use Rattle.std.proofs.Common.{◌≡◌, ◌-◌, ◌≤◌, length, take, string_bytes}
 use Rattle.file_text.specs.Files.{saved_bytes}
-use Rattle.file_text.proofs.saving.saved_bytes.Given as goal
+use Rattle.file_text.proofs.saving.saved_string.Given as goal
 
 abbrev pub invariant-loop-pos : goal.invariant-loop-pos
 invariant-loop-pos l = record {
