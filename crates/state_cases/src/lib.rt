@@ -1,4 +1,4 @@
-//! Cases of states: values, configurations and selections through updates, and what is refused. The crate has no code of its
+//! Cases of states: values, configurations, selections and filters through updates, and what is refused. The crate has no code of its
 //! own.
 #![tactic(auto)]
 
@@ -6,6 +6,10 @@
 mod all;
 #[cfg(test)]
 mod declared;
+#[cfg(test)]
+mod filtering;
+#[cfg(test)]
+mod long;
 #[cfg(test)]
 mod reading;
 #[cfg(test)]

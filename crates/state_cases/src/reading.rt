@@ -1,7 +1,6 @@
 // What states have, and what they are refused as.
 ghost use Rattle.values.specs.Shipped.{shipped};
 ghost use Rattle.values.specs.Whole.{IsWhole};
-ghost use Rattle.registry.specs.Predeclared.{predeclared};
 ghost use Rattle.facet_slots.specs.Agreement.{IsGrown};
 ghost use Rattle.facet_slots.specs.Lent.{definitions};
 
@@ -180,8 +179,7 @@ pub(crate) fn gives(
     case: Case<'_>,
     all: &[Has<'_>],
 ) -> bool
-    requires whole { IsWhole shipped kit.now }
-    requires predeclared { IsGrown (definitions predeclared) (definitions registry.now) }
+    requires { IsWhole shipped kit.now }
 {
     match after(alloc, kit, registry, case) {
         Ok(state) => has_all(&state, all),
@@ -197,8 +195,7 @@ pub(crate) fn is_no_state(
     case: Case<'_>,
     want: Refused<'_>,
 ) -> bool
-    requires whole { IsWhole shipped kit.now }
-    requires predeclared { IsGrown (definitions predeclared) (definitions registry.now) }
+    requires { IsWhole shipped kit.now }
 {
     match after(alloc, kit, registry, case) {
         Ok(_) => false,
@@ -234,8 +231,7 @@ pub(crate) fn refuses(
     want: Refused<'_>,
     all: &[Has<'_>],
 ) -> bool
-    requires whole { IsWhole shipped kit.now }
-    requires predeclared { IsGrown (definitions predeclared) (definitions registry.now) }
+    requires { IsWhole shipped kit.now }
 {
     match after(alloc, kit, registry, case) {
         Ok(state) => is_kept(alloc, kit, registry, &state, sent, want) && has_all(&state, all),

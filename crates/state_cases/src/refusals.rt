@@ -1,14 +1,12 @@
 // What states refuse.
-ghost use Rattle.registry.specs.Predeclared.{predeclared};
 ghost use Rattle.values.specs.Shipped.{shipped};
 ghost use Rattle.values.specs.Whole.{IsWhole};
-ghost use Rattle.facet_slots.specs.Agreement.{IsGrown};
-ghost use Rattle.facet_slots.specs.Lent.{definitions};
 
 use crate::declared::{
     FIELD_SLOT, INNER, INNER_AGAIN, INNER_SLOT, LEFT, LEFT_INPUT, LIST, NOTHING, OF_FIELD, ONE,
     OUTER_SLOT, RIGHT, RIGHT_INPUT, UNKNOWN, declared,
 };
+use crate::long::is_refused;
 use crate::reading::{Has, Refused, Want, is_no_state, refuses};
 use crate::running::Case;
 use crate::specs::{On, Sent};
@@ -94,8 +92,7 @@ const UPDATES: &[(&[Sent<'static>], Refused<'static>)] = &[
 ];
 
 fn creations_refused(alloc: Global, kit: &Kit<Shipped>, registry: &Registry<Shipped>) -> bool
-    requires whole { IsWhole shipped kit.now }
-    requires predeclared { IsGrown (definitions predeclared) (definitions registry.now) }
+    requires { IsWhole shipped kit.now }
 {
     for (base, ranges, want) in CREATIONS {
         if !is_no_state(alloc, kit, registry, over(base, ranges), *want) {
@@ -107,8 +104,7 @@ fn creations_refused(alloc: Global, kit: &Kit<Shipped>, registry: &Registry<Ship
 
 /// Whether each update is refused as it should be, and the state is as it was before.
 fn updates_refused(alloc: Global, kit: &Kit<Shipped>, registry: &Registry<Shipped>) -> bool
-    requires whole { IsWhole shipped kit.now }
-    requires predeclared { IsGrown (definitions predeclared) (definitions registry.now) }
+    requires { IsWhole shipped kit.now }
 {
     let case = over(&[FIELD_SLOT, LEFT_INPUT, ONE], &[(1, 1)]);
     let same = [
@@ -129,7 +125,7 @@ fn creations(alloc: Global, kit: &Kit<Shipped>) -> Result<bool, RegistryError>
     requires { IsWhole shipped kit.now }
 {
     let registry = declared(alloc)?;
-    Ok(creations_refused(alloc, kit, &registry))
+    Ok(creations_refused(alloc, kit, &registry) && is_refused(alloc, kit, &registry))
 }
 
 fn updates(alloc: Global, kit: &Kit<Shipped>) -> Result<bool, RegistryError>

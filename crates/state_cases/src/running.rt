@@ -2,7 +2,6 @@
 ghost use Rattle.std.specs.Prelude.{◌≡◌, ◌<◌, IfOk};
 ghost use Rattle.values.specs.Shipped.{shipped};
 ghost use Rattle.values.specs.Whole.{IsWhole};
-ghost use Rattle.registry.specs.Predeclared.{predeclared};
 ghost use Rattle.facet_slots.specs.Agreement.{IsGrown};
 ghost use Rattle.facet_slots.specs.Lent.{definitions};
 
@@ -42,7 +41,6 @@ fn created<L: Ledger>(
     calls: &mut Steps<L>,
 ) -> Result<State<Shipped>, StateError>
     requires whole { IsWhole shipped kit.now }
-    requires predeclared { IsGrown (definitions predeclared) (definitions registry.now) }
     ensures { IfOk result (λ state. IsGrown state.setup.defs (definitions registry.now)) }
 {
     let document = text(alloc, case.document)?;
@@ -77,7 +75,6 @@ fn counted<L: Ledger>(
     requires parts { blank.parts ≡ L.parts }
     requires some { 0 < blank.parts }
     requires whole { IsWhole shipped kit.now }
-    requires predeclared { IsGrown (definitions predeclared) (definitions registry.now) }
     ensures { IfOk result (λ state. IsGrown state.setup.defs (definitions registry.now)) }
 {
     let mut calls: Steps<L> = Steps::new(blank);
@@ -96,7 +93,6 @@ pub(crate) fn after(
     case: Case<'_>,
 ) -> Result<State<Shipped>, StateError>
     requires whole { IsWhole shipped kit.now }
-    requires predeclared { IsGrown (definitions predeclared) (definitions registry.now) }
     ensures { IfOk result (λ state. IsGrown state.setup.defs (definitions registry.now)) }
 {
     counted::<Brand>(alloc, kit, registry, case, Blank::new(1))

@@ -23,6 +23,8 @@ pub(crate) enum On<'a> {
 pub(crate) enum Sent<'a> {
     /// Characters from a place to a place replaced by a text.
     Typed(&'a [(u32, u32, &'a str)]),
+    /// The same, of which no filter is asked.
+    Unfiltered(&'a [(u32, u32, &'a str)]),
     /// Effects.
     Told(&'a [On<'a>]),
     /// Ranges of which the first is the main one, and effects.
@@ -34,15 +36,22 @@ pub(crate) enum Sent<'a> {
 impl<'a> Sent<'a> {
     fn typed(self) -> &'a [(u32, u32, &'a str)] {
         match self {
-            Sent::Typed(changes) | Sent::Both(changes, _) => changes,
+            Sent::Typed(changes) | Sent::Unfiltered(changes) | Sent::Both(changes, _) => changes,
             _ => &[],
+        }
+    }
+
+    fn is_filtered(self) -> bool {
+        match self {
+            Sent::Unfiltered(_) => false,
+            _ => true,
         }
     }
 
     fn effects(self) -> &'a [On<'a>] {
         match self {
             Sent::Told(effects) | Sent::Selected(_, effects) | Sent::Both(_, effects) => effects,
-            Sent::Typed(_) => &[],
+            _ => &[],
         }
     }
 }
@@ -120,7 +129,7 @@ fn spec(alloc: Global, sent: Sent<'_>) -> Result<Spec<Val>, AllocError> {
         annotations: Listed::empty(alloc),
         user_event: None,
         sequential: false,
-        filter: true,
+        filter: sent.is_filtered(),
     })
 }
 

@@ -1,9 +1,6 @@
 // States through updates.
-ghost use Rattle.registry.specs.Predeclared.{predeclared};
 ghost use Rattle.values.specs.Shipped.{shipped};
 ghost use Rattle.values.specs.Whole.{IsWhole};
-ghost use Rattle.facet_slots.specs.Agreement.{IsGrown};
-ghost use Rattle.facet_slots.specs.Lent.{definitions};
 
 use crate::declared::{
     FIELD_SLOT, GROWN, GROWN_NODE, INNER, INNER_SLOT, LEFT, LEFT_INPUT, LENGTH, LENGTH_INPUT, LIST,
@@ -234,8 +231,7 @@ fn all_give(
     registry: &Registry<Shipped>,
     cases: &[(&str, Case<'_>, &[Has<'_>])],
 ) -> Option<usize>
-    requires whole { IsWhole shipped kit.now }
-    requires predeclared { IsGrown (definitions predeclared) (definitions registry.now) }
+    requires { IsWhole shipped kit.now }
 {
     for (at, (_name, case, all)) in cases.iter().enumerate() {
         if !gives(alloc, kit, registry, *case, all) {
@@ -246,7 +242,7 @@ fn all_give(
 }
 
 /// The index of the first case that fails; past them all where nothing could be declared.
-fn first_failure(
+pub(crate) fn first_failure(
     alloc: Global,
     kit: &Kit<Shipped>,
     cases: &[(&str, Case<'_>, &[Has<'_>])],
