@@ -13,7 +13,7 @@ use crate::session::Session;
 use crate::started::started;
 use cm_plain::Str;
 use configuration::FacetDef;
-use decoration::{DecoSet, Deco};
+use decoration::{Deco, DecoSet};
 use listed::Listed;
 use names::{Valued, Values, found};
 use range_set::Ranged;

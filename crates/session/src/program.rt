@@ -69,7 +69,7 @@ pub fn run<M: Meanings, S: Source, K: Sink, D: Store>(
       sink = sink_told K.held K.faults sink.old;
       sink_now = sink_told K.held K.faults sink.new;
     }) (record { files = D.files store.old; faults = D.faults store.old }) (record { files = D.files store.new; faults = D.faults store.new })
-      source.old source.new sink.old sink.new store.old store.new }
+        source.old source.new sink.old sink.new store.old store.new }
 {
     match Words::of(words) {
         Some(Words::Replay) => replay(alloc, kit, LIMIT, source, sink, store),

@@ -3,7 +3,7 @@ ghost use Rattle.std.specs.Prelude.{◌≡◌, IfOk, Some};
 ghost use Rattle.session.specs.Refused.{state_refusal};
 
 use configuration::ConfigError;
-use names::Names;
+use names::{Names, config_refusal};
 use script::Refusal;
 use state::StateError;
 use std::alloc::{AllocError, Global};
@@ -33,7 +33,7 @@ pub(crate) fn named(alloc: Global, names: &Names, error: StateError) -> Result<R
         StateError::UnknownCompartment { id } => Ok(Refusal::UnknownCompartment { id }),
         StateError::NoMemory => Err(AllocError),
         StateError::UnknownExt { id } => {
-            config_refusal(alloc, names, ConfigError::UnknownExt { id })
+            config_refusal(alloc, names, &ConfigError::UnknownExt { id })
         }
         StateError::DuplicateCompartment {
             compartment,
@@ -42,21 +42,17 @@ pub(crate) fn named(alloc: Global, names: &Names, error: StateError) -> Result<R
         } => config_refusal(
             alloc,
             names,
-            ConfigError::DuplicateCompartment {
+            &ConfigError::DuplicateCompartment {
                 compartment,
                 first,
                 second,
             },
         ),
         StateError::CompartmentLoop { path } => {
-            config_refusal(alloc, names, ConfigError::CompartmentLoop { path })
+            config_refusal(alloc, names, &ConfigError::CompartmentLoop { path })
         }
         StateError::Cycle { members } => {
-            config_refusal(alloc, names, ConfigError::Cycle { members })
+            config_refusal(alloc, names, &ConfigError::Cycle { members })
         }
     }
-}
-
-fn config_refusal(_alloc: Global, _names: &Names, _error: ConfigError) -> Result<Refusal, AllocError> {
-    Ok(Refusal::NoSession)
 }

@@ -34,6 +34,7 @@ use viewport::Viewport;
 
 /// The size of a session's first window.
 const ROWS: u32 = 24;
+
 const COLS: u32 = 80;
 
 /// A session: lines declare facets, fields and effects, start a state over them, change it, show it in a window and ask for it.
@@ -201,7 +202,10 @@ impl<M: Meanings> Session<M> {
     }
 
     /// Puts in place what a command makes, or answers with its refusal. The reply is made first.
-    fn settle(&mut self, outcome: Result<Outcome<State<M>>, LineError>) -> Result<String, AllocError>
+    fn settle(
+        &mut self,
+        outcome: Result<Outcome<State<M>>, LineError>,
+    ) -> Result<String, AllocError>
         requires grown { IfOk outcome (λ done. IsGrownIn self.old done) }
         ensures { (out : Result Done Refusal) → Gives (done_by self.old) outcome out → DoneWith out self.old self.new result }
     {
