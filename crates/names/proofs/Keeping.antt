@@ -21,7 +21,8 @@ use Rattle.requests.specs.declared.declaration.Declaration.TheVariants as declar
 use Rattle.script.specs.declared.refusal.Refusal.{Refusal}
 use Rattle.script.specs.Reading.{◌>>=◌}
 use Rattle.script.specs.Refused.{unless}
-use Rattle.names.specs.Declaring.{World, world, computed, declared_in, field_def, new_in, new_refusals, next_named, passing, with_new, with_thing}
+use Rattle.names.specs.Adding.{World, world, new_in, new_refusals, next_named, passing, with_new, with_thing}
+use Rattle.names.specs.Declaring.{computed, declared_in, field_def}
 use Rattle.names.specs.declared.new_thing.NewThing.{NewThing}
 use Rattle.names.specs.declared.new_thing.NewThing.TheVariants as new
 use Rattle.names.proofs.Naming.{named_compartment, named_effect, named_facet, named_field, named_node, named_pair}

@@ -12,7 +12,7 @@ use Rattle.script.specs.Refused.{unless}
 use Rattle.names.specs.declared.named.Named.{Named}
 use Rattle.names.specs.Names.{NameList}
 use Rattle.names.specs.RegistryRefusals.{IsWritten, registry_refusal}
-use Rattle.names.specs.Declaring.{world, passing}
+use Rattle.names.specs.Adding.{world, passing}
 
 -- the first refusal is the one that is written
 passes_on : (ids : ℕ → List ℕ) (rs : List (Option RegistryError)) (next : Declarations) (error : RegistryError) (r : Refusal)

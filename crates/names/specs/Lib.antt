@@ -1,6 +1,7 @@
 pub mod Names
 pub mod Sets
 pub mod RegistryRefusals
+pub mod Adding
 pub mod Declaring
 pub mod Predeclared
 pub mod Transacting

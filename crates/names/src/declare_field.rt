@@ -4,7 +4,8 @@ ghost use Rattle.script.specs.Reading.{Gives};
 ghost use Rattle.registry.specs.Refusals.{is_rule};
 ghost use Rattle.values.specs.Growth.{IsGrowth};
 ghost use Rattle.names.specs.declared.named.Named.TheVariants.{Field};
-ghost use Rattle.names.specs.Declaring.{all_provided, creator_fits, field_in, field_things, field_with, name_among, provided_in, provided_name, world};
+ghost use Rattle.names.specs.Adding.{world};
+ghost use Rattle.names.specs.Declaring.{all_provided, creator_fits, field_in, field_things, field_with, name_among, provided_in, provided_name};
 ghost use Rattle.names.specs.Names.{meaning_of, with_name};
 
 use crate::finding::{Effects, Facets, Reads, all_found, found};

@@ -2,7 +2,8 @@
 ghost use Rattle.std.specs.Prelude.{◌≡◌, ℕ, List, OnErr};
 ghost use Rattle.script.specs.Reading.{Gives};
 ghost use Rattle.values.specs.Growth.{IsGrowth};
-ghost use Rattle.names.specs.Declaring.{inverse_in, one_of, world};
+ghost use Rattle.names.specs.Adding.{world};
+ghost use Rattle.names.specs.Declaring.{inverse_in, one_of};
 
 use crate::finding::{Effects, found};
 use crate::names::Names;

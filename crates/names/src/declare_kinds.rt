@@ -2,7 +2,8 @@
 ghost use Rattle.std.specs.Prelude.{◌≡◌, OnErr};
 ghost use Rattle.script.specs.Reading.{Gives};
 ghost use Rattle.values.specs.Growth.{IsGrowth};
-ghost use Rattle.names.specs.Declaring.{compartment_in, effect_in, facet_in, world};
+ghost use Rattle.names.specs.Adding.{world};
+ghost use Rattle.names.specs.Declaring.{compartment_in, effect_in, facet_in};
 
 use crate::declare_new::declare_new;
 use crate::finding::{Nodes, all_found};

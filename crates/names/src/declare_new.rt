@@ -3,7 +3,7 @@ ghost use Rattle.std.specs.Prelude.{◌≡◌, IfErr, IfOk, None, OnErr, OnOk, l
 ghost use Rattle.registry.specs.Refusals.{IsRefused, Passes};
 ghost use Rattle.script.specs.Reading.{Gives};
 ghost use Rattle.values.specs.Growth.{IsGrowth};
-ghost use Rattle.names.specs.Declaring.{new_in, new_refusals, next_named, with_new, world};
+ghost use Rattle.names.specs.Adding.{new_in, new_refusals, next_named, with_new, world};
 ghost use Rattle.names.specs.Names.{meaning_of, with_name};
 
 use crate::named::Named;

@@ -2,7 +2,8 @@
 ghost use Rattle.std.specs.Prelude.{◌≡◌, OnErr};
 ghost use Rattle.script.specs.Reading.{Gives};
 ghost use Rattle.values.specs.Growth.{IsGrowth};
-ghost use Rattle.names.specs.Declaring.{declared_in, world};
+ghost use Rattle.names.specs.Adding.{world};
+ghost use Rattle.names.specs.Declaring.{declared_in};
 ghost use Rattle.names.specs.Known.{IsKept};
 
 use crate::declare_field::declare_field;

@@ -144,7 +144,7 @@ impl Sought for Values {
 }
 
 /// By what a name's thing is known, if the name is declared and its thing is of the sort. Takes no memory.
-fn sought<S: Sought>(names: &Names, name: &Str) -> Option<S::Id>
+fn known_as<S: Sought>(names: &Names, name: &Str) -> Option<S::Id>
     ensures { result ≡ option_and_then S.as_sort (meaning_of name.now names.now) }
 {
     match names.get(name) {
@@ -158,7 +158,7 @@ fn sought<S: Sought>(names: &Names, name: &Str) -> Option<S::Id>
 pub fn found<S: Sought>(names: &Names, name: &Str) -> Result<S::Id, LineError>
     ensures { Gives (λ x. x) result (found S.as_sort names.now name.now) }
 {
-    match sought::<S>(names, name) {
+    match known_as::<S>(names, name) {
         Some(id) => Ok(id),
         None => Err(LineError::Refused(Refusal::UnknownName {
             name: name.try_copy()?,

@@ -1,6 +1,6 @@
 use Rattle.names.proofs.Settling.{gone, leaves, settles}
 use Rattle.names.specs.Names.{with_name}
-use Rattle.names.specs.Declaring.{new_refusals, next_named, with_new}
+use Rattle.names.specs.Adding.{new_refusals, next_named, with_new}
 use Rattle.names.proofs.declare_new.declare_new.Goals as goal
 
 pub returns-clause-answer : goal.returns-clause-answer
