@@ -4,7 +4,7 @@ ghost use Rattle.values.specs.Shipped.{shipped};
 ghost use Rattle.values.specs.Stored.{Combines, Compares, Computes, ComputesLists, Creates, Extends, Filters, Guards, MapsEffects, Updates};
 ghost use Rattle.values.specs.Whole.{IsWhole};
 
-use crate::{refusals, updates};
+use crate::{filtering, refusals, updates};
 use change_desc::Desc;
 use listed::Listed;
 use shipped_rules::{
@@ -24,7 +24,9 @@ use values::{
 fn updates_hold(alloc: Global, kit: &Kit<Shipped>) -> bool
     requires { IsWhole shipped kit.now }
 {
-    updates::all_hold(alloc, kit) && filtering::all_hold(alloc, kit) && refusals::all_hold(alloc, kit)
+    updates::all_hold(alloc, kit)
+        && filtering::all_hold(alloc, kit)
+        && refusals::all_hold(alloc, kit)
 }
 
 /// Whether the kit is whole and all cases hold under it.

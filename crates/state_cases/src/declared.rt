@@ -138,8 +138,7 @@ fn facet(
     alloc: Global,
     registry: &mut Registry<Shipped>,
     combine: u32,
-) -> Result<u32, RegistryError>
-{
+) -> Result<u32, RegistryError> {
     let def = FacetDef {
         combine,
         compare_input: 1,
@@ -154,8 +153,7 @@ fn field(
     registry: &mut Registry<Shipped>,
     create: u32,
     update: u32,
-) -> Result<u32, RegistryError>
-{
+) -> Result<u32, RegistryError> {
     let reads = reads_of(alloc, Dependency::Doc)?;
     let def = FieldDef {
         create,
@@ -192,8 +190,7 @@ fn computed(
     facet: u32,
     rule: u32,
     read: Dependency,
-) -> Result<u32, RegistryError>
-{
+) -> Result<u32, RegistryError> {
     let reads = reads_of(alloc, read)?;
     registry.input_compute(facet, rule, reads)
 }
@@ -202,8 +199,7 @@ fn node_made(
     alloc: Global,
     registry: &mut Registry<Shipped>,
     made: Made,
-) -> Result<u32, RegistryError>
-{
+) -> Result<u32, RegistryError> {
     match made {
         Made::Facet(combine) => facet(alloc, registry, combine),
         Made::Computed(facet, rule, read) => computed(alloc, registry, facet, rule, read),
@@ -221,8 +217,7 @@ fn node_made(
 }
 
 /// What the cases declare.
-pub(crate) fn declared(alloc: Global) -> Result<Registry<Shipped>, RegistryError>
-{
+pub(crate) fn declared(alloc: Global) -> Result<Registry<Shipped>, RegistryError> {
     let mut registry = Registry::<Shipped>::new(alloc)?;
     for one in ALL {
         node_made(alloc, &mut registry, *one)?;

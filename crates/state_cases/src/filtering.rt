@@ -53,7 +53,13 @@ const FILTERS: &[(&str, Case<'static>, &[Has<'static>])] = &[
     ),
     (
         "what filters there are is told by the state before",
-        over(&[], &[&[Sent::Both(&[(2, 2, "c")], &[On::Append(BREAKS)])], &[TYPED]]),
+        over(
+            &[],
+            &[
+                &[Sent::Both(&[(2, 2, "c")], &[On::Append(BREAKS)])],
+                &[TYPED],
+            ],
+        ),
         &[Has::Length(5)],
     ),
 ];
