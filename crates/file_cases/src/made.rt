@@ -35,11 +35,7 @@ pub(crate) fn fault(alloc: Global, bytes: &[u8]) -> Option<FileError> {
 }
 
 /// What the text of these characters is saved as.
-fn written(
-    alloc: Global,
-    characters: &[char],
-    separator: &[char],
-) -> Result<Vec<u8>, AllocError> {
+fn written(alloc: Global, characters: &[char], separator: &[char]) -> Result<Vec<u8>, AllocError> {
     let text = text(alloc, characters)?;
     saved_bytes(alloc, &text, separator)
 }

@@ -1,5 +1,5 @@
 -- The text of files: what a save writes, and what the bytes of a file read as (Reference Manual: Text.of, Text.toString,
--- EditorState.lineSeparator).
+-- EditorState.lineBreak).
 use Rattle.std.specs.Prelude.{◌≡◌, ◌⊎◌, ℕ, nat_le, List, [], ◌∷◌, length, flat_map, encode_utf8_all, Option, Some, None, Result, Ok, Err, if◌then◌else◌}
 use Rattle.std.specs.Str.{chars, is_utf8}
 use Rattle.line_tree.specs.Text.{cut, max_len, line_feed, carriage_return, HasNoReturn}

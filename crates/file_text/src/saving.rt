@@ -72,7 +72,7 @@ fn saved_string(alloc: Global, text: &Text, separator: &[char]) -> Result<String
 }
 
 /// The text in UTF-8 as a save writes it, with the separator in place of each break. Where the separator is LF, CRLF or CR and
-/// the text has no CR, a file of these bytes has the same text. `Err`: out of memory.
+/// the text has no CR, the bytes read as the same text. `Err`: out of memory.
 pub fn saved_bytes(alloc: Global, text: &Text, separator: &[char]) -> Result<Vec<u8>, AllocError>
     ensures value { IfOk result (λ v. v.items ≡ saved_bytes separator.now text.now.characters) }
     ensures reads_back { IfOk result (λ v. ReadsBack separator.now text.now.characters v.items) }
