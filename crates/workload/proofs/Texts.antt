@@ -1,0 +1,18 @@
+-- Made texts and their characters.
+use Rattle.std.proofs.Common.{◌≡◌, ℕ, ◌+◌, ◌-◌, ◌<◌, suc, List, [], ◌∷◌, ◌++◌, length, map, arith, ap, subst, sym, refl}
+use Rattle.std.specs.List.{flat_map, range_with_len}
+use Rattle.std.proofs.lemmas.List.FromFn.{length-map-range_with_len}
+use Rattle.workload.specs.Edits.{character, made_text}
+use Rattle.workload.specs.MadeLines.{written}
+
+pub made_size : (size c : ℕ) → length (made_text size c) ≡ size
+made_size size c = length-map-range_with_len (character c) 0 size
+
+-- what is written of the characters from an index on
+abbrev pub written_from : ℕ → ℕ → ℕ → List ℕ
+written_from c index count = flat_map written (map (character c) (range_with_len index count))
+
+pub written_next : (c index size : ℕ) → index < size → written_from c index (size - index) ≡ written (character c index) ++ written_from c (index + 1) (size - (index + 1))
+written_next c index size more =
+    let one : size - index ≡ suc (size - (index + 1)) = omega arith in
+    ap (λ (n : ℕ). written_from c index n) one

@@ -1,0 +1,4 @@
+pub mod Draws
+pub mod Edits
+pub mod MadeLines
+pub mod Examples

@@ -1,0 +1,89 @@
+ghost use Rattle.std.specs.Prelude.{◌≡◌, ◌+◌, ◌*◌, ◌<◌, ◌≤◌, [], ◌∷◌, List, ℕ, drop, IfOk, OnErr, MatchOption};
+ghost use Rattle.workload.specs.MadeLines.{first_lines, made_lines};
+
+use crate::edit_line::edit_as_line;
+use crate::progress::{Progress, next_transaction};
+use std::alloc::{AllocError, Global};
+use std::marker::Model;
+
+/// The greatest number of transactions of a workload.
+pub const MAX_TRANSACTIONS: u32 = 1_000_000;
+
+/// A made workload, which contracts see as the list of its lines that are still to come.
+#[derive(Drop)]
+pub struct Workload {
+    alloc: Global,
+    first: u8,
+    left: u32,
+    progress: Progress,
+    ended: bool,
+}
+
+impl Model for Workload {
+    ghost use Rattle.std.specs.Prelude.{ℕ, List, [], ◌∷◌, ◌++◌, ◌+◌, ◌*◌, ◌≤◌, drop, if◌then◌else◌};
+    ghost use Rattle.workload.specs.MadeLines.{edit_lines, first_lines, summary};
+
+    ghost Value = { List (List ℕ) };
+
+    ghost view = { λ w. drop w.first first_lines ++ edit_lines w.left w.progress ++ (if w.ended then [] else summary ∷ []) };
+
+    ghost invariant = { λ w. (w.first ≤ 4) × (w.progress.number + w.left ≤ 1000001) × (w.progress.length ≤ 8 * w.progress.number) };
+}
+
+impl Workload {
+    /// The workload of so many transactions, at most `MAX_TRANSACTIONS`.
+    pub fn new(alloc: Global, transactions: u32) -> Workload
+        requires { transactions ≤ 1000000 }
+        ensures { result ≡ made_lines transactions }
+    {
+        Workload {
+            alloc,
+            first: 0,
+            left: transactions,
+            progress: Progress {
+                number: 1,
+                seed: 1,
+                length: 0,
+            },
+            ended: false,
+        }
+    }
+
+    /// The next line, as UTF-8 without its LF. `None`: there is none left. `Err`: out of memory, which changes nothing.
+    pub fn next(&mut self) -> Result<Option<Vec<u8>>, AllocError>
+        ensures line { IfOk result (λ found. MatchOption found ((self.old ≡ []) × (self.new ≡ [])) (λ line. self.old ≡ line.items ∷ self.new)) }
+        ensures memory { OnErr result (self.new ≡ self.old) }
+    {
+        if self.first < 4 {
+            let line = String::from_str(self.alloc, first_line(self.first))?;
+            self.first += 1;
+            return Ok(Some(line.into_bytes()));
+        }
+        if self.left > 0 {
+            let next = next_transaction(self.progress);
+            let line = edit_as_line(self.alloc, 100 * self.progress.number, next.edit)?;
+            self.left -= 1;
+            self.progress = next.after;
+            return Ok(Some(line.into_bytes()));
+        }
+        if self.ended {
+            return Ok(None);
+        }
+        let line = String::from_str(self.alloc, "{\"summary\":{}}")?;
+        self.ended = true;
+        Ok(Some(line.into_bytes()))
+    }
+}
+
+/// The line before the transactions that has this index.
+fn first_line(index: u8) -> &'static str
+    requires { index < 4 }
+    ensures { drop index first_lines ≡ result.now ∷ drop (index + 1) first_lines }
+{
+    match index {
+        0 => "{\"effect\":{\"name\":\"mark\",\"map\":2}}",
+        1 => "{\"field\":{\"name\":\"marks\",\"create\":5,\"update\":4,\"listens\":[\"mark\"],\"provides\":[{\"facet\":\"decorations\",\"rule\":6}]}}",
+        2 => "{\"field\":{\"name\":\"count\",\"create\":2,\"update\":2}}",
+        _ => "{\"start\":{\"extensions\":[\"history\",\"marks\",\"count\"]}}",
+    }
+}
