@@ -7,5 +7,3 @@
 mod drawings;
 #[cfg(test)]
 mod layouts;
-#[cfg(test)]
-mod replied;

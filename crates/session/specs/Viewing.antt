@@ -1,12 +1,16 @@
 -- The commands of the window.
-use Rattle.std.specs.Prelude.{ℕ, length, Result, Ok, Err}
+use Rattle.std.specs.Prelude.{ℕ, length, map, Result, Ok, Err}
 use Rattle.line_tree.specs.Lines.{lines_of}
 use Rattle.facet_slots.specs.Stepping.{State}
 use Rattle.replies.specs.declared.answer.Answer.{Answer}
 use Rattle.replies.specs.declared.answer.Answer.TheVariants.{Nothing, Screen, Summary}
+use Rattle.replies.specs.declared.shown_screen.ShownCursor.{ShownCursor}
+use Rattle.replies.specs.declared.shown_screen.ShownScreen.{ShownScreen}
+use Rattle.line_rows.specs.declared.cursor.Cursor.{Cursor}
 use Rattle.requests.specs.declared.view_request.ViewRequest.{ViewRequest}
-use Rattle.screen.specs.Screen.{shown_count}
-use Rattle.screen_reply.specs.Shown.{shown_screen_of}
+use Rattle.screen.specs.Head.{cursor_in}
+use Rattle.screen.specs.Screen.{ViewView, rendered, shown_count}
+use Rattle.term_bytes.specs.Shown.{shown_row}
 use Rattle.script.specs.declared.refusal.Refusal.{Refusal}
 use Rattle.script.specs.declared.refusal.Refusal.TheVariants as refusals
 use Rattle.script.specs.declared.window_refusal.WindowRefusal.{WindowRefusal}
@@ -34,6 +38,13 @@ view s r = do
   state ← started s.state
   window ← window_or (first_window r.rows r.cols)
   Ok (record { answer = Nothing; session = record s { window = shown_in state window } })
+
+abbrev pub shown_cursor : Cursor → ShownCursor
+shown_cursor c = record { row = c.row; column = c.column }
+
+-- what a view shows: the rows of its window, and the cursor
+abbrev pub shown_screen_of : ViewView → ShownScreen
+shown_screen_of v = record { cursor = shown_cursor (cursor_in v); rows = map shown_row (rendered v) }
 
 -- Screen: what the window shows
 abbrev pub screen : PlainSession → Result Answer Refusal

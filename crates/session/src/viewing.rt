@@ -1,21 +1,25 @@
 // The commands of the window.
-ghost use Rattle.std.specs.Prelude.{◌≡◌, IfOk, Ok};
+ghost use Rattle.std.specs.Prelude.{◌≡◌, ◌<◌, map, IfOk};
+ghost use Rattle.screen.specs.Screen.{row_cells, shown_count};
+ghost use Rattle.term_bytes.specs.Shown.{shown_row};
 ghost use Rattle.script.specs.Reading.{Gives};
-ghost use Rattle.session.specs.Outcomes.{done_by};
-ghost use Rattle.session.specs.Viewing.{screen, size_refusal, summary, view, window_or};
+ghost use Rattle.session.specs.Outcomes.{done_by, plain_state};
+ghost use Rattle.session.specs.Viewing.{screen, shown_cursor, shown_screen_of, summary, view, window_or};
+ghost use Rattle.session.specs.Views.{view_of};
 ghost use Rattle.viewport.specs.Window.{first_window};
 
 use crate::outcome::Outcome;
 use crate::putting::{shown_in, view};
 use crate::session::Session;
 use crate::started::started;
-use replies::{Answer, ShownScreen, Summary};
+use replies::{Answer, ShownCursor, ShownRun, ShownScreen, Summary};
 use requests::ViewRequest;
-use screen::{Screen, shown_rows};
-use screen_reply::shown_screen;
+use listed::Listed;
+use screen::{DrawnRow, Screen, shown_rows};
+use term_bytes::shown_row;
 use script::{LineError, Refusal, WindowRefusal};
 use state::State;
-use std::alloc::AllocError;
+use std::alloc::{AllocError, Global};
 use std::marker::Brand;
 use std::sync::ledger::{Blank, Ledger};
 use steps::Steps;
@@ -49,6 +53,31 @@ pub(crate) fn view_as<M: Meanings>(
     Ok(Outcome::Viewed(shown_in(session, state, &window)?))
 }
 
+/// The runs of each row.
+fn runs_in(alloc: Global, rows: &[DrawnRow]) -> Result<Listed<Listed<ShownRun>>, AllocError>
+    ensures { IfOk result (λ shown. shown ≡ map shown_row (map row_cells rows.now)) }
+{
+    let mut shown = Vec::with_capacity(alloc, rows.len())?;
+    for row in rows {
+        shown.push(shown_row(alloc, row.cells())?)?;
+    }
+    Ok(Listed::new(shown))
+}
+
+/// What a screen shows.
+fn shown_screen(alloc: Global, screen: &Screen) -> Result<ShownScreen, AllocError>
+    ensures { IfOk result (λ shown. shown ≡ record { cursor = shown_cursor screen.now.cursor; rows = map shown_row (map row_cells screen.now.rows) }) }
+{
+    let cursor = screen.cursor();
+    Ok(ShownScreen {
+        cursor: ShownCursor {
+            row: cursor.row,
+            column: cursor.column,
+        },
+        rows: runs_in(alloc, screen.rows())?,
+    })
+}
+
 /// What the window shows, drawn anew; the rows that are laid out are counted nowhere.
 fn drawn<M: Meanings, L: Ledger>(
     session: &Session<M>,
@@ -58,6 +87,7 @@ fn drawn<M: Meanings, L: Ledger>(
     requires name { blank.name ≡ L.name }
     requires parts { blank.parts ≡ L.parts }
     requires some { 0 < blank.parts }
+    ensures { IfOk result (λ shown. shown ≡ shown_screen_of (view_of (plain_state state.now) session.now.window)) }
 {
     let layers = session.keys.decorations(session.alloc, state)?;
     let tab = session.keys.tab_size(session.alloc, state)?;
@@ -76,7 +106,9 @@ pub(crate) fn screen_of<M: Meanings>(session: &Session<M>) -> Result<Answer, Lin
 }
 
 /// How many rows of the window show a block.
-fn rows_in<M: Meanings>(session: &Session<M>, state: &State<M>) -> Result<u32, AllocError> {
+fn rows_in<M: Meanings>(session: &Session<M>, state: &State<M>) -> Result<u32, AllocError>
+    ensures { IfOk result (λ rows. rows ≡ shown_count (view_of (plain_state state.now) session.now.window)) }
+{
     let layers = session.keys.decorations(session.alloc, state)?;
     let tab = session.keys.tab_size(session.alloc, state)?;
     shown_rows(session.alloc, &view(state, &layers, tab, &session.window))

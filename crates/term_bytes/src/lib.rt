@@ -7,7 +7,9 @@
 #![tactic(auto)]
 
 mod frame_bytes;
+mod shown_rows;
 mod style_bytes;
 
 pub use frame_bytes::frame;
+pub use shown_rows::shown_row;
 pub use style_bytes::separated_codes;
