@@ -2,7 +2,7 @@
 //!
 //! The layer above may rely on this: `saved_bytes` gives exactly the UTF-8 of the text with the separator in place of
 //! each break; `file_text` gives the text of a file, cut into lines at CRLF, CR and LF, and refuses exactly the bytes that
-//! aren't UTF-8 and the texts that are longer than a document may be. What a text of LF breaks was saved as, with LF,
+//! aren't UTF-8 and the texts that are longer than a document may be. What a text without CR was saved as, with LF,
 //! CRLF or CR, reads back as that text.
 #![tactic(auto)]
 

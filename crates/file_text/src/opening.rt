@@ -1,4 +1,4 @@
-ghost use Rattle.std.specs.Prelude.{◌≡◌, ◌≤◌, ◌<◌, ◌^◌, length, Some, None, option_map, if◌then◌else◌, IfOk};
+ghost use Rattle.std.specs.Prelude.{◌≡◌, ◌≤◌, length, Some, None, option_map, if◌then◌else◌, IfOk};
 ghost use Rattle.std.specs.Str.{chars, is_utf8};
 ghost use Rattle.line_tree.specs.Text.{cut, max_len};
 ghost use Rattle.file_text.specs.Files.{file_text, within_limit};

@@ -1,4 +1,4 @@
-ghost use Rattle.std.specs.Prelude.{◌≡◌, ◌++◌, ◌≤◌, ◌-◌, [], ◌∷◌, length, OnOk, IfOk, string_bytes, encode_utf8_all};
+ghost use Rattle.std.specs.Prelude.{◌≡◌, ◌++◌, ◌≤◌, [], ◌∷◌, length, OnOk, IfOk, string_bytes, encode_utf8_all};
 ghost use Rattle.line_tree.specs.Text.{slice};
 ghost use Rattle.file_text.specs.Files.{saved_bytes, ReadsBack};
 
