@@ -171,7 +171,10 @@ fn slots_are_nested_and_refused(rt: HostRuntime) -> Result<(), Fail> {
         r#"{"group":{"name":"none","of":[]}}"#,
     ];
     let lines = [
-        (r#"{"start":{"extensions":["so"]}}"#, r#"{"ok":{"length":0}}"#),
+        (
+            r#"{"start":{"extensions":["so"]}}"#,
+            r#"{"ok":{"length":0}}"#,
+        ),
         (r#"{"get":{"name":"L"}}"#, r#"{"ok":[1]}"#),
         (
             r#"{"update":[{"effects":[{"reconfigure":{"compartment":"i","to":"v2"}}]}]}"#,
@@ -192,7 +195,10 @@ fn slots_are_nested_and_refused(rt: HostRuntime) -> Result<(), Fail> {
             r#"{"start":{"extensions":["si","s2"]}}"#,
             r#"{"no":{"code":"DuplicateCompartment","compartment":"i","first":"si","second":"s2"}}"#,
         ),
-        (r#"{"start":{"extensions":["s2"]}}"#, r#"{"ok":{"length":0}}"#),
+        (
+            r#"{"start":{"extensions":["s2"]}}"#,
+            r#"{"ok":{"length":0}}"#,
+        ),
         (
             r#"{"update":[{"effects":[{"reconfigure":{"compartment":"i","to":"s2"}}]}]}"#,
             r#"{"no":{"code":"CompartmentLoop","path":["s2","s2"]}}"#,

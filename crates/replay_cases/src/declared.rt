@@ -27,7 +27,10 @@ fn declarations_are_refused_by_name(rt: HostRuntime) -> Result<(), Fail> {
             r#"{"no":{"code":"StaticFacet","facet":"saveSeparator"}}"#,
         ),
         (r#"{"get":{"name":"f"}}"#, r#"{"no":{"code":"NoSession"}}"#),
-        (r#"{"get":{"name":"doc"}}"#, r#"{"no":{"code":"UnknownName","name":"doc"}}"#),
+        (
+            r#"{"get":{"name":"doc"}}"#,
+            r#"{"no":{"code":"UnknownName","name":"doc"}}"#,
+        ),
         (
             r#"{"start":{"extensions":["g"]}}"#,
             r#"{"no":{"code":"UnknownName","name":"g"}}"#,

@@ -6,6 +6,10 @@ mod configured;
 #[cfg(test)]
 mod declared;
 #[cfg(test)]
+mod done;
+#[cfg(test)]
+mod filed;
+#[cfg(test)]
 mod filtered;
 #[cfg(test)]
 mod lines;
@@ -21,6 +25,8 @@ mod runs;
 mod script_lines;
 #[cfg(test)]
 mod selections;
+#[cfg(test)]
+mod shown;
 #[cfg(test)]
 mod talking;
 #[cfg(test)]
