@@ -1,5 +1,5 @@
 -- Made texts and their characters.
-use Rattle.std.proofs.Common.{◌≡◌, ℕ, ◌+◌, ◌-◌, ◌<◌, suc, List, [], ◌∷◌, ◌++◌, length, map, arith, ap, ◌∙◌, sym, append_assoc}
+use Rattle.std.proofs.Common.{◌≡◌, ℕ, ◌+◌, ◌-◌, ◌<◌, suc, List, ◌++◌, length, map, arith, ap, ◌∙◌, sym, append_assoc}
 use Rattle.std.specs.List.{flat_map, range_with_len}
 use Rattle.std.proofs.lemmas.List.FromFn.{length-map-range_with_len}
 use Rattle.workload.specs.Edits.{character, made_text}
@@ -19,7 +19,7 @@ written_next c index size more =
 
 -- one character more is written
 pub written_step : (c index size : ℕ) (before now whole : List ℕ) → index < size → now ≡ before ++ written (character c index)
-  → before ++ written_from c index (size - index) ≡ whole → now ++ written_from c (index + 1) (size - (index + 1)) ≡ whole
+    → before ++ written_from c index (size - index) ≡ whole → now ++ written_from c (index + 1) (size - (index + 1)) ≡ whole
 written_step c index size before now whole more one all =
     ap (λ (xs : List ℕ). xs ++ written_from c (index + 1) (size - (index + 1))) one
     ∙ (append_assoc before (written (character c index)) (written_from c (index + 1) (size - (index + 1)))

@@ -23,14 +23,16 @@ fn delete_line(alloc: Global, time: u32, from: u32, to: u32) -> Result<String, A
     ensures { IfOk result (λ line. string_bytes line ≡ delete_line time from to) }
 {
     format!(in alloc;
-        "{{\"update\":[{{\"changes\":[{{\"from\":{from},\"to\":{to}}}],\"annotations\":[{{\"type\":\"time\",\"value\":{time}}}]}}]}}")
+        "{{\"update\":[{{\"changes\":[{{\"from\":{from},\"to\":{to}}}],\"annotations\":[{{\"type\":\"time\",\"value\":{time}}}]}}]}}"
+    )
 }
 
 fn mark_line(alloc: Global, from: u32, to: u32) -> Result<String, AllocError>
     ensures { IfOk result (λ line. string_bytes line ≡ mark_line from to) }
 {
     format!(in alloc;
-        "{{\"update\":[{{\"effects\":[{{\"effect\":\"mark\",\"value\":[{from},{to}]}}]}}]}}")
+        "{{\"update\":[{{\"effects\":[{{\"effect\":\"mark\",\"value\":[{from},{to}]}}]}}]}}"
+    )
 }
 
 /// The line of an insertion.

@@ -82,7 +82,8 @@ fn first_line(index: u8) -> &'static str
 {
     match index {
         0 => "{\"effect\":{\"name\":\"mark\",\"map\":2}}",
-        1 => "{\"field\":{\"name\":\"marks\",\"create\":5,\"update\":4,\"listens\":[\"mark\"],\"provides\":[{\"facet\":\"decorations\",\"rule\":6}]}}",
+        1 =>
+            "{\"field\":{\"name\":\"marks\",\"create\":5,\"update\":4,\"listens\":[\"mark\"],\"provides\":[{\"facet\":\"decorations\",\"rule\":6}]}}",
         2 => "{\"field\":{\"name\":\"count\",\"create\":2,\"update\":2}}",
         _ => "{\"start\":{\"extensions\":[\"history\",\"marks\",\"count\"]}}",
     }

@@ -54,10 +54,12 @@ fn gives(alloc: Global, transactions: u32, want: &[&str]) -> Result<bool, AllocE
         return Ok(false);
     }
     let mut workload = Workload::new(alloc, transactions);
-    Ok(are_next(&mut workload, &FIRST)?
-        && are_next(&mut workload, want)?
-        && is_next(&mut workload, "{\"summary\":{}}")?
-        && is_at_end(&mut workload)?)
+    Ok(
+        are_next(&mut workload, &FIRST)?
+            && are_next(&mut workload, want)?
+            && is_next(&mut workload, "{\"summary\":{}}")?
+            && is_at_end(&mut workload)?,
+    )
 }
 
 #[test]
