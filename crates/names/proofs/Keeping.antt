@@ -1,6 +1,6 @@
 -- Each name stands for what is declared, and what has to have a name has one, after a declaration too.
 use Rattle.std.specs.Bool.{⊤}
-use Rattle.std.proofs.Common.{◌≡◌, ℕ, ◌+◌, ◌<◌, ◌≤◌, List, [], ◌∷◌, ◌++◌, length, set, get_or, Bool, true, false, Option, Some, None, is_none, Result, Ok, Err, ⊥, refl, sym, ap, ◌∙◌, subst, arith, true≢false, option_and_then, slice_get, if◌then◌else◌, is_ok, OnErr}
+use Rattle.std.proofs.Common.{◌≡◌, ℕ, ◌+◌, ◌<◌, ◌≤◌, List, [], ◌∷◌, ◌++◌, length, set, get_or, Bool, true, false, Option, Some, None, is_none, Result, Ok, Err, refl, sym, ap, ◌∙◌, subst, arith, true≢false, option_and_then, slice_get, if◌then◌else◌, is_ok, OnErr}
 use Rattle.std.specs.Result.{result_unwrap_or}
 use Rattle.std.specs.List.{AllByRecursion}
 use Rattle.std.proofs.lemmas.List.{length-append, append-nil}
@@ -62,10 +62,10 @@ record Steps (w v : World) : Type 0 where
 
 -- what holds however it was read on
 read_on : {A B P : Type 0} (r : Result A Refusal) (f : A → Result B Refusal) (y : B) → ((x : A) → f x ≡ Ok y → P) → (r >>= f) ≡ Ok y → P
-read_on (Ok x) f y then h = then x h
-read_on (Err e) f y then h = absurd (true≢false (sym (ap is_ok h)))
+read_on (Ok x) f y goes h = goes x h
+read_on (Err e) f y goes h = absurd (true≢false (sym (ap is_ok h)))
 
-same : {A : Type 0} (x y : A) → Ok {T = A} {E = Refusal} x ≡ Ok y → x ≡ y
+same : {A : Type 0} (x y : A) → (let r : Result A Refusal = Ok x in r) ≡ Ok y → x ≡ y
 same x y h = ap (λ r. result_unwrap_or r x) h
 
 was_passed : (refusal : Option Refusal) (next declared : Declarations) → unless refusal next ≡ Ok declared → declared ≡ next
@@ -178,6 +178,6 @@ still_kept rules w v declaration h grows kept =
 pub keeps : (rules : Rules) (result : Result ⊤ LineError) (declaration : Declaration) (names after : NameList) (d next : Declarations)
     → Gives (λ x. world after next) result (declared_in rules (world names d) declaration) → OnErr result (after ≡ names) → OnErr result (next ≡ d) → IsGrowth d next
     → IsKept names d → IsKept after next
-keeps rules (Ok x) declaration names after d next answer names_same same grows kept = still_kept rules (world names d) (world after next) declaration answer grows kept
-keeps rules (Err e) declaration names after d next answer names_same same grows kept =
-    subst (λ ns. IsKept ns next) (sym names_same) (subst (λ ds. IsKept names ds) (sym same) kept)
+keeps rules (Ok x) declaration names after d next answer names_same unchanged grows kept = still_kept rules (world names d) (world after next) declaration answer grows kept
+keeps rules (Err e) declaration names after d next answer names_same unchanged grows kept =
+    subst (λ ns. IsKept ns next) (sym names_same) (subst (λ ds. IsKept names ds) (sym unchanged) kept)

@@ -16,4 +16,4 @@ returns-clause-names_same g c =
     none_gone c.settled.result c.len-count.result c.args.names.now c.settled.new.names c.len-count.ensures c.settled.ensures.undone
 
 pub returns-clause-same : goal.returns-clause-same
-returns-clause-same g c = leaves c.settled.result c.pair-outcome.result c.settled.ensures.failed c.pair-outcome.ensures.same
+returns-clause-same g c = leaves _ c.settled.result c.pair-outcome.result c.settled.ensures.failed c.pair-outcome.ensures.same

@@ -14,4 +14,4 @@ returns-clause-names_same g c =
     gone c.settled.result c.in_ok-count.count c.args.names.now c.add_name-count.new.names c.settled.new.names (c.args.name.now, next_named c.args.registry.now c.args.thing) c.in_ok-count.ensures.count c.in_ok-count.ensures.added c.settled.ensures.undone
 
 pub returns-clause-same : goal.returns-clause-same
-returns-clause-same g c = leaves c.settled.result c.made-outcome.result c.settled.ensures.failed c.made-outcome.ensures.same
+returns-clause-same g c = leaves _ c.settled.result c.made-outcome.result c.settled.ensures.failed c.made-outcome.ensures.same
