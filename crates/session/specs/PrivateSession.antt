@@ -1,0 +1,64 @@
+-- What a call of a session leaves, and which requests need the store. Private clauses alone speak of it.
+use Rattle.std.specs.Prelude.{◌≡◌, ◌≢◌, ℕ, List, Bool, true, false, Result, Ok, Err, String, string_bytes, ⊤}
+use Rattle.std.specs.declared.alloc.AllocError.{AllocError}
+use Rattle.std.specs.declared.alloc.Global.{Global}
+use Rattle.facet_slots.specs.Agreement.{IsGrown}
+use Rattle.facet_slots.specs.Lent.{definitions}
+use Rattle.facet_slots.specs.Slotted.{Slotted}
+use Rattle.facet_slots.specs.Stepping.{State}
+use Rattle.state.specs.declared.state_error.StateError.{StateError}
+use Rattle.state.specs.declared.state_error.StateError.TheVariants as causes
+use Rattle.replies.specs.Replies.{reply_text}
+use Rattle.replies.specs.declared.answer.Reply.TheVariants as replies
+use Rattle.requests.specs.declared.request.Request.{Request}
+use Rattle.requests.specs.declared.request.Request.TheVariants.{Declare, Start, Open, Save, Update, Do, Text, Selection, Get, Map, View, Screen, Summary}
+use Rattle.script.specs.declared.refusal.LineError.{LineError}
+use Rattle.script.specs.declared.refusal.LineError.TheVariants as errors
+use Rattle.script.specs.declared.refusal.Refusal.{Refusal}
+use Rattle.session.specs.declared.outcome.Outcome.{Outcome}
+use Rattle.session.specs.declared.outcome.Outcome.TheVariants.{Answered, Changed, Viewed}
+use Rattle.session.specs.Outcomes.{Done, plain_state}
+use Rattle.session.specs.Session.{left_by, reply_of}
+use Rattle.session.specs.State.{PlainSession}
+
+-- the line that answers with an error: out of memory has none
+abbrev pub IsRefusalText : LineError → List ℕ → Type 0
+IsRefusalText errors.NoMemory text = ⊥
+IsRefusalText (errors.Refused refusal) text = text ≡ reply_text (replies.No refusal)
+
+-- the reply to a line that does this, and the session after it; out of memory changes nothing
+abbrev pub DoneWith : Result Done Refusal → (old new : PlainSession) → Result (String Global) AllocError → Type 0
+DoneWith outcome old new (Ok text) = (string_bytes text ≡ reply_text (reply_of outcome)) × (new ≡ left_by old outcome)
+DoneWith outcome old new (Err error) = new ≡ old
+
+-- what was found is what a definition says, but for out of memory
+abbrev pub Finds : Result State StateError → Result Slotted StateError → Type 0
+Finds out (Ok slots) = out ≡ Ok (plain_state slots)
+Finds out (Err error) = error ≢ causes.NoMemory → out ≡ Err error
+
+-- a state that is put in place stands over what is declared
+abbrev pub IsGrownIn : PlainSession → Outcome Slotted → Type 0
+IsGrownIn s (Answered answer) = ⊤
+IsGrownIn s (Changed answer next) = IsGrown next.state.setup.defs (definitions s.world.declared)
+IsGrownIn s (Viewed window) = ⊤
+
+-- whether a request declares something
+abbrev pub declares : Request → Bool
+declares (Declare declaration) = true
+declares request = false
+
+-- whether it needs no store
+abbrev pub is_inner : Request → Bool
+is_inner (Open request) = false
+is_inner (Save name) = false
+is_inner request = true
+
+-- whether it asks for something and changes nothing
+abbrev pub asks : Request → Bool
+asks Text = true
+asks Selection = true
+asks (Get name) = true
+asks (Map request) = true
+asks Screen = true
+asks Summary = true
+asks request = false
