@@ -4,28 +4,19 @@
 //! `session::run`, and ends with the status of the run; a status other than 0 gives one line to standard error.
 #![tactic(auto)]
 
-mod folder_store;
 mod standard_input;
 mod standard_output;
 #[cfg(test)]
 mod tests;
 
-ghost use Rattle.values.specs.Shipped.{shipped};
-ghost use Rattle.values.specs.Whole.{IsWhole};
-
-use cm_outside::{Sink, Source, Status, Store};
+use cm_outside::Status;
 use cm_plain::Str;
-use folder_store::FolderStore;
 use session::run;
-use shipped_kit::with_kit;
-use shipped_rules::Shipped;
 use standard_input::StandardInput;
 use standard_output::StandardOutput;
-use std::alloc::Global;
 use std::process::ExitCode;
 use std::rt::Env;
 use std::{env, io};
-use values::Kit;
 
 /// The words of the command line, without the program's name.
 fn words(rt: &(impl Env + AllocGlobal)) -> io::Result<Vec<Str>> {
@@ -50,38 +41,11 @@ fn complaint(status: Status) -> Option<&'static str> {
     }
 }
 
-/// Does what the words ask for, with the kit of the shipped rules.
-fn run_shipped<S: Source, K: Sink, D: Store>(
-    alloc: Global,
-    words: &[Str],
-    source: &mut S,
-    sink: &mut K,
-    store: &mut D,
-) -> Status {
-    let status = with_kit(
-        alloc,
-        |kit: &Kit<Shipped>| -> Status
-            requires { IsWhole shipped kit.now }
-        { run(alloc, words, kit, source, sink, store) },
-    );
-    match status {
-        Ok(status) => status,
-        Err(_) => Status::NoMemory,
-    }
-}
-
 fn main(rt: HostRuntime) -> ExitCode {
     let mut source = StandardInput::new(rt.reader());
     let mut sink = StandardOutput::new(io::writer(&rt));
-    let mut store = FolderStore::new(&rt);
     let status = match words(&rt) {
-        Ok(words) => run_shipped(
-            rt.alloc(),
-            words.as_slice(),
-            &mut source,
-            &mut sink,
-            &mut store,
-        ),
+        Ok(words) => run(rt.alloc(), words.as_slice(), &mut source, &mut sink),
         Err(error) if error.kind() == io::ErrorKind::OutOfMemory => Status::NoMemory,
         Err(_) => Status::Usage,
     };

@@ -1,9 +1,7 @@
 use super::complaint;
-use crate::folder_store::FolderStore;
 use crate::standard_input::StandardInput;
 use crate::standard_output::StandardOutput;
-use cm_outside::{Failed, Sink, Source, Status, Store, StoreFault};
-use cm_plain::Str;
+use cm_outside::{Failed, Sink, Source, Status};
 use std::alloc::{AllocError, Global};
 use std::io::{self, ErrorKind, Read, Write};
 use std::test::Fail;
@@ -88,37 +86,4 @@ fn standard_output_takes_what_its_writer_takes(rt: HostRuntime) {
     assert!(rt; sink.write(b"bc") == Ok(1));
     assert!(rt; sink.write(b"") == Ok(0));
     assert!(rt; sink.write(b"c") == Err(Failed));
-}
-
-/// Whether a store loads these bytes under a name.
-fn loads<D: Store>(
-    alloc: Global,
-    store: &mut D,
-    name: &str,
-    want: Option<&[u8]>,
-) -> Result<bool, StoreFault> {
-    let Ok(name) = Str::of_text(alloc, name) else {
-        return Err(StoreFault::NoMemory);
-    };
-    let found = store.load(&name)?;
-    Ok(match (&found, want) {
-        (None, None) => true,
-        (Some(found), Some(want)) => found.as_slice() == want,
-        _ => false,
-    })
-}
-
-#[test]
-fn a_folder_keeps_what_is_saved(rt: HostRuntime) -> Result<(), Fail> {
-    let alloc = rt.alloc();
-    let mut store = FolderStore::new(&rt);
-    let name = Str::of_text(alloc, "saved.txt")?;
-    assert!(rt; loads(alloc, &mut store, "saved.txt", None) == Ok(true));
-    assert!(rt; store.save(&name, b"one") == Ok(()));
-    assert!(rt; store.save(&name, b"two") == Ok(()));
-    assert!(rt; loads(alloc, &mut store, "saved.txt", Some(b"two")) == Ok(true));
-    assert!(rt; loads(alloc, &mut store, "saved.txt.ccm-new", None) == Ok(true));
-    assert!(rt; loads(alloc, &mut store, "../saved.txt", None) == Err(StoreFault::Failed));
-    assert!(rt; loads(alloc, &mut store, "/etc/hostname", None) == Err(StoreFault::Failed));
-    Ok(())
 }

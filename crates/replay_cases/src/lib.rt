@@ -2,16 +2,6 @@
 #![tactic(auto)]
 
 #[cfg(test)]
-mod configured;
-#[cfg(test)]
-mod declared;
-#[cfg(test)]
-mod done;
-#[cfg(test)]
-mod filed;
-#[cfg(test)]
-mod filtered;
-#[cfg(test)]
 mod lines;
 #[cfg(test)]
 mod maps;
@@ -25,9 +15,5 @@ mod runs;
 mod script_lines;
 #[cfg(test)]
 mod selections;
-#[cfg(test)]
-mod shown;
-#[cfg(test)]
-mod talking;
 #[cfg(test)]
 mod updates;

@@ -1,12 +1,6 @@
-ghost use Rattle.values.specs.Shipped.{shipped};
-ghost use Rattle.values.specs.Whole.{IsWhole};
-
-use cm_outside::{Leaves, MemSink, MemSource, MemStore, Piece, Status};
+use cm_outside::{MemSink, MemSource, Piece, Status};
 use session::{LIMIT, replay};
-use shipped_kit::with_kit;
-use shipped_rules::Shipped;
 use std::alloc::{AllocError, Global};
-use values::Kit;
 
 /// A source of these bytes, in pieces of at most so many, of which the calls of these numbers fail.
 pub(crate) fn source(
@@ -31,33 +25,11 @@ pub(crate) fn sink(alloc: Global, failing: &[u64]) -> Result<MemSink, AllocError
     MemSink::new(alloc, 10_000, Vec::from_slice(alloc, failing)?)
 }
 
-/// A store without files, of which the calls of these numbers fail and leave the file as before.
-pub(crate) fn store(alloc: Global, failing: &[u64]) -> Result<MemStore, AllocError> {
-    Ok(MemStore::new(alloc, Vec::from_slice(alloc, failing)?, Leaves::AsBefore))
-}
-
-/// How a run by the shipped rules ends.
-pub(crate) fn replayed(
-    alloc: Global,
-    limit: u64,
-    source: &mut MemSource,
-    sink: &mut MemSink,
-    store: &mut MemStore,
-) -> Result<Status, AllocError> {
-    with_kit(
-        alloc,
-        |kit: &Kit<Shipped>| -> Status
-            requires { IsWhole shipped kit.now }
-        { replay(alloc, kit, limit, source, sink, store) },
-    )
-}
-
 /// Whether a run over these lines ends `Ok` and writes exactly these replies.
 pub(crate) fn replies(alloc: Global, lines: &[u8], want: &[u8]) -> Result<bool, AllocError> {
     let mut source = source(alloc, lines, 1_000, &[])?;
     let mut sink = sink(alloc, &[])?;
-    let mut store = store(alloc, &[])?;
-    let status = replayed(alloc, LIMIT, &mut source, &mut sink, &mut store)?;
+    let status = replay(alloc, LIMIT, &mut source, &mut sink);
     Ok(status == Status::Ok && sink.bytes() == want)
 }
 

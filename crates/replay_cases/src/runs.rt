@@ -1,15 +1,9 @@
-ghost use Rattle.values.specs.Shipped.{shipped};
-ghost use Rattle.values.specs.Whole.{IsWhole};
-
-use crate::replaying::{replayed, sink, source, store};
+use crate::replaying::{sink, source};
 use cm_outside::Status;
 use cm_plain::Str;
-use session::run;
-use shipped_kit::with_kit;
-use shipped_rules::Shipped;
+use session::{replay, run};
 use std::alloc::{AllocError, Global};
 use std::test::Fail;
-use values::Kit;
 use words::Words;
 
 /// A line that starts an empty document, and the beginning of another line.
@@ -31,8 +25,7 @@ fn ends(
 ) -> Result<bool, AllocError> {
     let mut source = source(alloc, input.0, START.len(), input.1)?;
     let mut sink = sink(alloc, failing_writes)?;
-    let mut store = store(alloc, &[])?;
-    let status = replayed(alloc, limit, &mut source, &mut sink, &mut store)?;
+    let status = replay(alloc, limit, &mut source, &mut sink);
     Ok(status == want.0 && sink.bytes() == want.1)
 }
 
@@ -92,22 +85,7 @@ fn run_ends(alloc: Global, words: &[&str], want: (Status, &[u8])) -> Result<bool
     let words = words_of(alloc, words)?;
     let mut source = source(alloc, START, 100, &[])?;
     let mut sink = sink(alloc, &[])?;
-    let mut store = store(alloc, &[])?;
-    let status = with_kit(
-        alloc,
-        |kit: &Kit<Shipped>| -> Status
-            requires { IsWhole shipped kit.now }
-        {
-            run(
-                alloc,
-                words.as_slice(),
-                kit,
-                &mut source,
-                &mut sink,
-                &mut store,
-            )
-        },
-    )?;
+    let status = run(alloc, words.as_slice(), &mut source, &mut sink);
     Ok(status == want.0 && sink.bytes() == want.1)
 }
 

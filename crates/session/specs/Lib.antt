@@ -1,16 +1,8 @@
 pub mod State
-pub mod Views
-pub mod PrivateKeys
-pub mod Refused
 pub mod Outcomes
 pub mod Start
 pub mod Update
-pub mod Doing
-pub mod Values
 pub mod Asked
-pub mod Viewing
-pub mod Filing
 pub mod Session
-pub mod PrivateSession
 pub mod Transcript
 pub mod Headline

@@ -1,25 +1,25 @@
+ghost use Rattle.std.specs.Prelude.{Ok};
 ghost use Rattle.script.specs.Reading.{Gives};
 ghost use Rattle.session.specs.Asked.{selection, text};
 
-use crate::session::Session;
-use crate::started::started;
+use crate::outcome::Outcome;
+use crate::started::Started;
 use change_set::InsertedText;
 use replies::Answer;
 use script::LineError;
-use values::Meanings;
 
-/// The command `text`. The only error but `NoSession` is out of memory.
-pub(crate) fn text_of<M: Meanings>(session: &Session<M>) -> Result<Answer, LineError>
-    ensures { Gives (λ a. a) result (text session.now) }
+/// The command `text`. The only error is out of memory.
+pub(crate) fn text_of(state: &Started) -> Result<Outcome, LineError>
+    ensures { Gives (λ o. o) result (Ok (text state.now)) }
 {
-    let state = started(session)?;
-    Ok(Answer::Text(InsertedText::of(state.doc().try_copy()?)))
+    let text = InsertedText::of(state.text().try_copy()?);
+    Ok(Outcome::Answered(Answer::Text(text)))
 }
 
-/// The command `selection`. The only error but `NoSession` is out of memory.
-pub(crate) fn selection_of<M: Meanings>(session: &Session<M>) -> Result<Answer, LineError>
-    ensures { Gives (λ a. a) result (selection session.now) }
+/// The command `selection`. The only error is out of memory.
+pub(crate) fn selection_of(state: &Started) -> Result<Outcome, LineError>
+    ensures { Gives (λ o. o) result (Ok (selection state.now)) }
 {
-    let state = started(session)?;
-    Ok(Answer::Selection(state.selection().try_copy()?))
+    let selection = state.selection().try_copy()?;
+    Ok(Outcome::Answered(Answer::Selection(selection)))
 }
