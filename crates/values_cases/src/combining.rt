@@ -8,9 +8,8 @@ fn combines(alloc: Global, number: u32, inputs: Of<'_>, want: Made<'_>) -> Resul
     is(alloc, &combine(alloc, number, inputs.as_slice())?, want)
 }
 
-#[test]
-fn combiners_answer_by_number(rt: HostRuntime) -> Result<(), Fail> {
-    for (number, inputs, want) in &[
+/// By number, inputs and their value.
+const COMBINED: &[(u32, Of<'static>, Made<'static>)] = &[
         (1, Of(&[Made::Int(1), Made::Int(2)]), Made::Ints(&[1, 2])),
         (2, Of(&[Made::Text("a"), Made::Int(1)]), Made::Text("a")),
         (2, Of(&[]), Made::Unit),
@@ -61,7 +60,11 @@ fn combiners_answer_by_number(rt: HostRuntime) -> Result<(), Fail> {
             Of(&[Made::Bool(true), Made::Bool(false)]),
             Made::Bool(true),
         ),
-    ] {
+    ];
+
+#[test]
+fn combiners_answer_by_number(rt: HostRuntime) -> Result<(), Fail> {
+    for (number, inputs, want) in COMBINED {
         assert!(rt;
             combines(rt.alloc(), *number, *inputs, *want)?,
             "at {number}"
@@ -76,9 +79,8 @@ fn compares(alloc: Global, number: u32, old: Made<'_>, new: Made<'_>) -> Result<
     Ok(compare(number, &old, &new))
 }
 
-#[test]
-fn comparers_answer_by_number(rt: HostRuntime) -> Result<(), Fail> {
-    for (number, old, new, wanted) in &[
+/// By number, two values, and whether they are the same.
+const COMPARED: &[(u32, Made<'static>, Made<'static>, bool)] = &[
         (1, Made::Ints(&[1]), Made::Ints(&[1]), true),
         (1, Made::Int(1), Made::Int(2), false),
         (2, Made::Int(1), Made::Int(1), false),
@@ -86,7 +88,11 @@ fn comparers_answer_by_number(rt: HostRuntime) -> Result<(), Fail> {
         (3, Made::Int(1), Made::Int(2), false),
         (3, Made::Ints(&[1]), Made::Ints(&[1]), false),
         (3, Made::Ranges(&[]), Made::Ranges(&[]), false),
-    ] {
+    ];
+
+#[test]
+fn comparers_answer_by_number(rt: HostRuntime) -> Result<(), Fail> {
+    for (number, old, new, wanted) in COMPARED {
         assert!(rt;
             compares(rt.alloc(), *number, *old, *new)? == *wanted,
             "at {number}"
