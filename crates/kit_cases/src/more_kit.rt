@@ -103,6 +103,8 @@ fn is_so(kit: Result<Kit<More>, Gap>, case: Case) -> Result<bool, Fail>
 }
 
 /// Whether a case holds of the kit of these rules.
+//
+// All ten sorts stand in one body: a function that made the rules of one sort would hand out boxed closures.
 fn holds(alloc: Global, case: Case) -> Result<bool, Fail> {
     let combiners = each_or_none(
         alloc,

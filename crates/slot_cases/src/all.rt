@@ -69,6 +69,7 @@ fn are_due(
     }
 }
 
+// All ten sorts of the refusing kit stand in one body: a function that made the rules of one sort would hand out boxed closures.
 #[test]
 fn calls_that_are_not_due_are_not_made(rt: HostRuntime) {
     let alloc = rt.alloc();

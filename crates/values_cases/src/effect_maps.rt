@@ -60,12 +60,12 @@ const TYPED: [Section<u32>; 2] = [Section::Keep(2), Section::Replace(0, 1)];
 
 /// A value, and what is mapped of it over `TYPED`.
 const PLACES: &[(Made<'static>, Option<Made<'static>>)] = &[
-        (Made::Int(1), Some(Made::Int(1))),
-        (Made::Int(2), Some(Made::Int(3))),
-        (Made::Int(3), None),
-        (Made::Int(-1), None),
-        (Made::Text("a"), Some(Made::Text("a"))),
-    ];
+    (Made::Int(1), Some(Made::Int(1))),
+    (Made::Int(2), Some(Made::Int(3))),
+    (Made::Int(3), None),
+    (Made::Int(-1), None),
+    (Made::Text("a"), Some(Made::Text("a"))),
+];
 
 #[test]
 fn places_are_mapped(rt: HostRuntime) -> Result<(), Fail> {
@@ -94,12 +94,12 @@ fn a_deleted_place_is_dropped(rt: HostRuntime) -> Result<(), Fail> {
 
 /// A value, and what is mapped of it over `TYPED`.
 const PAIRS: &[(Made<'static>, Option<Made<'static>>)] = &[
-        (Made::Ints(&[0, 2]), Some(Made::Ints(&[0, 2]))),
-        (Made::Ints(&[1, 1]), None),
-        (Made::Ints(&[2, 2]), None),
-        (Made::Ints(&[0, 3]), Some(Made::Ints(&[0, 3]))),
-        (Made::Ranges(&[]), Some(Made::Ranges(&[]))),
-    ];
+    (Made::Ints(&[0, 2]), Some(Made::Ints(&[0, 2]))),
+    (Made::Ints(&[1, 1]), None),
+    (Made::Ints(&[2, 2]), None),
+    (Made::Ints(&[0, 3]), Some(Made::Ints(&[0, 3]))),
+    (Made::Ranges(&[]), Some(Made::Ranges(&[]))),
+];
 
 #[test]
 fn pairs_of_places_are_mapped(rt: HostRuntime) -> Result<(), Fail> {

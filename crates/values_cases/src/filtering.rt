@@ -56,16 +56,16 @@ const PLACES: &[(i64, i64)] = &[
 
 /// By number, what is given and the answer.
 const GUARDED: &[(u32, Made<'static>, Guarded<'static>)] = &[
-        (1, Made::Pairs(&[(0, 2)]), Guarded::All),
-        (2, Made::Pairs(&[(0, 2)]), Guarded::Nothing),
-        (
-            3,
-            Made::Pairs(PLACES),
-            Guarded::Protected(&[(0, 2), (5, 4), (3, 4_294_967_295)]),
-        ),
-        (3, Made::Ints(&[0, 2]), Guarded::Protected(&[])),
-        (3, Made::Unit, Guarded::Protected(&[])),
-    ];
+    (1, Made::Pairs(&[(0, 2)]), Guarded::All),
+    (2, Made::Pairs(&[(0, 2)]), Guarded::Nothing),
+    (
+        3,
+        Made::Pairs(PLACES),
+        Guarded::Protected(&[(0, 2), (5, 4), (3, 4_294_967_295)]),
+    ),
+    (3, Made::Ints(&[0, 2]), Guarded::Protected(&[])),
+    (3, Made::Unit, Guarded::Protected(&[])),
+];
 
 #[test]
 fn guards_answer_by_number(rt: HostRuntime) -> Result<(), Fail> {
@@ -140,15 +140,15 @@ fn filters(alloc: Global, number: u32, typed: Typed<'_>, data: Made<'_>) -> Resu
 
 /// By number, what is typed, what is given and the answer.
 const FILTERED: &[(u32, Typed<'static>, Made<'static>, Filtered)] = &[
-        (1, TYPED, Made::Ints(&[0]), Filtered::Keep),
-        (2, TYPED, Made::Ints(&[9]), Filtered::Nothing),
-        (3, TYPED, Made::Unit, Filtered::Break(3)),
-        (3, IDLE, Made::Unit, Filtered::Keep),
-        (4, TYPED, Made::Ints(&[2, -1]), Filtered::Nothing),
-        (4, TYPED, Made::Ints(&[2, 3, 0]), Filtered::Keep),
-        (4, IDLE, Made::Ints(&[1]), Filtered::Nothing),
-        (4, TYPED, Made::Int(0), Filtered::Keep),
-    ];
+    (1, TYPED, Made::Ints(&[0]), Filtered::Keep),
+    (2, TYPED, Made::Ints(&[9]), Filtered::Nothing),
+    (3, TYPED, Made::Unit, Filtered::Break(3)),
+    (3, IDLE, Made::Unit, Filtered::Keep),
+    (4, TYPED, Made::Ints(&[2, -1]), Filtered::Nothing),
+    (4, TYPED, Made::Ints(&[2, 3, 0]), Filtered::Keep),
+    (4, IDLE, Made::Ints(&[1]), Filtered::Nothing),
+    (4, TYPED, Made::Int(0), Filtered::Keep),
+];
 
 #[test]
 fn filters_answer_by_number(rt: HostRuntime) -> Result<(), Fail> {
@@ -212,12 +212,12 @@ fn extends(alloc: Global, number: u32, typed: Typed<'_>) -> Result<Added, Fail> 
 
 /// By number, what is typed and what is added.
 const EXTENDED: &[(u32, Typed<'static>, Added)] = &[
-        (1, TYPED, Added::Nothing),
-        (2, TYPED, Added::Touched),
-        (2, IDLE, Added::Nothing),
-        (3, TYPED, Added::Note(2)),
-        (3, IDLE, Added::Note(2)),
-    ];
+    (1, TYPED, Added::Nothing),
+    (2, TYPED, Added::Touched),
+    (2, IDLE, Added::Nothing),
+    (3, TYPED, Added::Note(2)),
+    (3, IDLE, Added::Note(2)),
+];
 
 #[test]
 fn extenders_answer_by_number(rt: HostRuntime) -> Result<(), Fail> {

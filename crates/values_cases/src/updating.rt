@@ -52,21 +52,27 @@ const NONE: Read<'static> = Read::Values(&[]);
 const MIXED: Of<'static> = Of(&[Made::Int(1), Made::Text("a"), Made::Ranges(&[])]);
 
 /// By number, the old value, what is typed, effects and the new value.
-const UPDATED: &[(u32, Made<'static>, Typed<'static>, Of<'static>, Made<'static>)] = &[
-        (1, Made::Int(3), TYPED, MIXED, Made::Int(3)),
-        (2, Made::Int(3), TYPED, MIXED, Made::Int(4)),
-        (2, Made::Int(3), IDLE, MIXED, Made::Int(3)),
-        (2, Made::Int(i64::MAX), TYPED, Of(&[]), Made::Int(i64::MAX)),
-        (3, Made::Int(3), TYPED, MIXED, Made::Text("a")),
-        (3, Made::Int(3), TYPED, Of(&[]), Made::Int(3)),
-        (
-            7,
-            Made::Ints(&[5]),
-            IDLE,
-            Of(&[Made::Int(1), Made::Ranges(&[]), Made::Int(2)]),
-            Made::Ints(&[5, 1, 2]),
-        ),
-    ];
+const UPDATED: &[(
+    u32,
+    Made<'static>,
+    Typed<'static>,
+    Of<'static>,
+    Made<'static>,
+)] = &[
+    (1, Made::Int(3), TYPED, MIXED, Made::Int(3)),
+    (2, Made::Int(3), TYPED, MIXED, Made::Int(4)),
+    (2, Made::Int(3), IDLE, MIXED, Made::Int(3)),
+    (2, Made::Int(i64::MAX), TYPED, Of(&[]), Made::Int(i64::MAX)),
+    (3, Made::Int(3), TYPED, MIXED, Made::Text("a")),
+    (3, Made::Int(3), TYPED, Of(&[]), Made::Int(3)),
+    (
+        7,
+        Made::Ints(&[5]),
+        IDLE,
+        Of(&[Made::Int(1), Made::Ranges(&[]), Made::Int(2)]),
+        Made::Ints(&[5, 1, 2]),
+    ),
+];
 
 #[test]
 fn updaters_answer_by_number(rt: HostRuntime) -> Result<(), Fail> {
@@ -81,10 +87,10 @@ fn updaters_answer_by_number(rt: HostRuntime) -> Result<(), Fail> {
 
 /// What is read first, and the new value.
 const FIRST_READ: &[(Option<Made<'static>>, Made<'static>)] = &[
-        (Some(Made::Text("a")), Made::Text("a")),
-        (Some(Made::Ranges(&[])), Made::Unit),
-        (None, Made::Unit),
-    ];
+    (Some(Made::Text("a")), Made::Text("a")),
+    (Some(Made::Ranges(&[])), Made::Unit),
+    (None, Made::Unit),
+];
 
 #[test]
 fn the_first_read_is_the_new_value(rt: HostRuntime) -> Result<(), Fail> {
@@ -115,22 +121,22 @@ const BEFORE: Typed<'static> = Typed {
 
 /// What is typed, effects and the marks after them.
 const MARKED: &[(Typed<'static>, Of<'static>, Made<'static>)] = &[
-        (BEFORE, Of(&[]), Made::Set(&[Drawn::Mark(1, 2)])),
-        (
-            BEFORE,
-            Of(&[
-                Made::Ints(&[1, 3]),
-                Made::Ints(&[0, 4]),
-                Made::Ints(&[1, 1]),
-            ]),
-            Made::Set(&[Drawn::Mark(1, 2), Drawn::Reversed(1, 3)]),
-        ),
-        (
-            IDLE,
-            Of(&[Made::Ints(&[1, 2]), Made::Unit, Made::Ints(&[0, 1])]),
-            Made::Set(&[Drawn::Reversed(0, 1), Drawn::Reversed(1, 2)]),
-        ),
-    ];
+    (BEFORE, Of(&[]), Made::Set(&[Drawn::Mark(1, 2)])),
+    (
+        BEFORE,
+        Of(&[
+            Made::Ints(&[1, 3]),
+            Made::Ints(&[0, 4]),
+            Made::Ints(&[1, 1]),
+        ]),
+        Made::Set(&[Drawn::Mark(1, 2), Drawn::Reversed(1, 3)]),
+    ),
+    (
+        IDLE,
+        Of(&[Made::Ints(&[1, 2]), Made::Unit, Made::Ints(&[0, 1])]),
+        Made::Set(&[Drawn::Reversed(0, 1), Drawn::Reversed(1, 2)]),
+    ),
+];
 
 #[test]
 fn marks_are_mapped_and_added(rt: HostRuntime) -> Result<(), Fail> {
@@ -186,13 +192,13 @@ fn first(
 
 /// What is typed, a note, and how many Changes can be undone.
 const TAKEN: &[(Typed<'static>, Note<'static>, usize)] = &[
-        (TYPED, Note::None, 1),
-        (IDLE, Note::None, 0),
-        (TYPED, Note::Of("addToHistory", Made::Bool(false)), 0),
-        (TYPED, Note::Of("addToHistory", Made::Int(0)), 1),
-        (TYPED, Note::Of("fromHistory", Made::Int(0)), 0),
-        (IDLE, Note::Undoes(1), 1),
-    ];
+    (TYPED, Note::None, 1),
+    (IDLE, Note::None, 0),
+    (TYPED, Note::Of("addToHistory", Made::Bool(false)), 0),
+    (TYPED, Note::Of("addToHistory", Made::Int(0)), 1),
+    (TYPED, Note::Of("fromHistory", Made::Int(0)), 0),
+    (IDLE, Note::Undoes(1), 1),
+];
 
 #[test]
 fn a_history_takes_what_is_typed(rt: HostRuntime) -> Result<(), Fail> {
@@ -204,11 +210,11 @@ fn a_history_takes_what_is_typed(rt: HostRuntime) -> Result<(), Fail> {
 
 /// What is read first, and how many Changes can be undone.
 const BOUNDS: &[(Made<'static>, usize)] = &[
-        (Made::Ints(&[0, 500]), 0),
-        (Made::Ints(&[1, 0]), 1),
-        (Made::Ints(&[0]), 1),
-        (Made::Int(0), 1),
-    ];
+    (Made::Ints(&[0, 500]), 0),
+    (Made::Ints(&[1, 0]), 1),
+    (Made::Ints(&[0]), 1),
+    (Made::Int(0), 1),
+];
 
 #[test]
 fn a_history_reads_its_depth_first(rt: HostRuntime) -> Result<(), Fail> {
