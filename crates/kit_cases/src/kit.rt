@@ -113,9 +113,9 @@ fn all_answer(alloc: Global, kit: &Kit<Shipped>) -> Result<bool, Fail>
 
 /// Whether a rule of each sort answers.
 #[derive(Drop)]
-struct Answers;
+struct RulesAnswer;
 
-impl KitUser for Answers {
+impl KitUser for RulesAnswer {
     type Answer = Result<bool, Fail>;
 
     ghost gives = { λ before answer after. ⊤ };
@@ -127,7 +127,7 @@ impl KitUser for Answers {
 
 #[test]
 fn the_kit_of_the_shipped_rules(rt: HostRuntime) -> Result<(), Fail> {
-    let answer = lend_kit(rt.alloc(), &mut Answers)?;
+    let answer = lend_kit(rt.alloc(), &mut RulesAnswer)?;
     assert!(rt; answer?);
     Ok(())
 }

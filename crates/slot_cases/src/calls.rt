@@ -83,7 +83,7 @@ pub(crate) struct Made {
 }
 
 /// The first slots of a row.
-fn made(alloc: Global, kit: &Kit<Shipped>, row: &Row<'_>) -> Result<Made, AllocError>
+fn first_slots(alloc: Global, kit: &Kit<Shipped>, row: &Row<'_>) -> Result<Made, AllocError>
     requires { IsWhole shipped kit.now }
 {
     let registry = all_declared(alloc, row.compare_input)?;
@@ -102,7 +102,7 @@ pub(crate) fn all_made(alloc: Global, kit: &Kit<Shipped>) -> Result<Vec<Made>, A
 {
     let mut all = Vec::new(alloc);
     for row in ROWS {
-        all.push(made(alloc, kit, row)?)?;
+        all.push(first_slots(alloc, kit, row)?)?;
     }
     Ok(all)
 }
