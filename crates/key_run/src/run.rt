@@ -10,9 +10,7 @@ ghost use Rattle.key_run.specs.Run.{Ran, Ended, ReadsClock, IsReadTimes, IsWithi
 ghost use Rattle.key_run.specs.Typing.{shown, opened, pressed, is_quit};
 
 use crate::answers_keys::AnswersKeys;
-use cm_outside::{
-    Clock, LineReader, NextByte, Sink, Source, Status, StoreFault, write_whole,
-};
+use cm_outside::{Clock, LineReader, NextByte, Sink, Source, Status, StoreFault, write_whole};
 use std::alloc::Global;
 use term_keys::{Key, KeyReader};
 
@@ -75,7 +73,7 @@ fn press<D, A: AnswersKeys<D>, K: Sink, C: Clock>(
 ) -> Result<(), Status>
     ensures presses { IfSome (A.told answers.old store.old) (λ p. IfSome (C.coming clock.old) (λ times.
         Presses A.machine key (pos (times 0))
-            (exchange_of p (A.told answers.new store.new) (K.held sink.old) (K.held sink.new)) result)) }
+        (exchange_of p (A.told answers.new store.new) (K.held sink.old) (K.held sink.new)) result)) }
     ensures clock { IfSome (C.coming clock.old) (λ times. IsReadTimes 1 times (C.coming clock.new)) }
     ensures goes_on { OnOk result (is_quit key ≡ false) }
     ensures ends { IfErr result (EndsBy (is_quit key)) }
@@ -103,7 +101,7 @@ fn answer_all<D, A: AnswersKeys<D>, S: Source, K: Sink, C: Clock>(
     // What the run leaves, why it ended so, and how often the clock was read.
     ensures ended { IfSome (S.left source.old) (λ input. IfSome (A.told answers.old store.old) (λ first. IfSome (C.coming clock.old) (λ times.
         Ended A.machine result bytes.limit (S.given source.new - S.given source.old) input times
-            (exchange_of first (A.told answers.new store.new) (K.held sink.old) (K.held sink.new))))) }
+        (exchange_of first (A.told answers.new store.new) (K.held sink.old) (K.held sink.new))))) }
     ensures reason { HasReason result bytes.limit (S.given source.new - S.given source.old)
         (Rose (S.faults source.old) (S.faults source.new)) (Rose (K.faults sink.old) (K.faults sink.new))
         (Rose (A.faults store.old) (A.faults store.new)) }
@@ -156,12 +154,12 @@ pub fn run_keys<D, A: AnswersKeys<D>, S: Source, K: Sink, C: Clock>(
 ) -> Status
     ensures { Ran A.machine (answerer_told A.told A.faults answers.old store.old)
         (answerer_told A.told A.faults answers.new store.new) (C.coming clock.old) (C.coming clock.new) result (record {
-      limit = limit;
-      source = source_told S.left S.given S.faults source.old;
-      source_now = source_told S.left S.given S.faults source.new;
-      sink = sink_told K.held K.faults sink.old;
-      sink_now = sink_told K.held K.faults sink.new;
-    }) }
+          limit = limit;
+          source = source_told S.left S.given S.faults source.old;
+          source_now = source_told S.left S.given S.faults source.new;
+          sink = sink_told K.held K.faults sink.old;
+          sink_now = sink_told K.held K.faults sink.new;
+        }) }
 {
     match LineReader::new(alloc, limit) {
         Ok(bytes) => answer_all(bytes, answers, store, source, sink, clock),

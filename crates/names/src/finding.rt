@@ -16,13 +16,13 @@ use std::alloc::Global;
 /// A sort of things that a name may stand for.
 pub trait Sought {
     /// By what such a thing is known.
-    type Id: Copy + Drop;
+    type Key: Copy + Drop;
 
     /// By what a thing is known, if it is of this sort.
-    ghost as_sort: { NamedData → Option Id };
+    ghost as_sort: { NamedData → Option Self.Key };
 
     /// By what a thing is known, if it is of this sort. Takes no memory.
-    fn of(thing: Named) -> Option<Self::Id>
+    fn of(thing: Named) -> Option<Self::Key>
         ensures { result ≡ as_sort thing };
 }
 
@@ -48,7 +48,7 @@ pub struct Reads;
 pub struct Values;
 
 impl Sought for Compartments {
-    type Id = u32;
+    type Key = u32;
 
     ghost as_sort = { as_compartment };
 
@@ -61,7 +61,7 @@ impl Sought for Compartments {
 }
 
 impl Sought for Effects {
-    type Id = u32;
+    type Key = u32;
 
     ghost as_sort = { as_effect };
 
@@ -74,7 +74,7 @@ impl Sought for Effects {
 }
 
 impl Sought for Facets {
-    type Id = u32;
+    type Key = u32;
 
     ghost as_sort = { as_facet };
 
@@ -87,7 +87,7 @@ impl Sought for Facets {
 }
 
 impl Sought for Fields {
-    type Id = u32;
+    type Key = u32;
 
     ghost as_sort = { as_field };
 
@@ -100,7 +100,7 @@ impl Sought for Fields {
 }
 
 impl Sought for Nodes {
-    type Id = u32;
+    type Key = u32;
 
     ghost as_sort = { as_node };
 
@@ -114,7 +114,7 @@ impl Sought for Nodes {
 }
 
 impl Sought for Reads {
-    type Id = Dependency;
+    type Key = Dependency;
 
     ghost as_sort = { as_read };
 
@@ -130,7 +130,7 @@ impl Sought for Reads {
 }
 
 impl Sought for Values {
-    type Id = Valued;
+    type Key = Valued;
 
     ghost as_sort = { as_value };
 
@@ -144,7 +144,7 @@ impl Sought for Values {
 }
 
 /// By what a name's thing is known, if the name is declared and its thing is of the sort. Takes no memory.
-fn known_as<S: Sought>(names: &Names, name: &Str) -> Option<S::Id>
+fn known_as<S: Sought>(names: &Names, name: &Str) -> Option<S::Key>
     ensures { result ≡ option_and_then S.as_sort (meaning_of name.now names.now) }
 {
     match names.get(name) {
@@ -155,7 +155,7 @@ fn known_as<S: Sought>(names: &Names, name: &Str) -> Option<S::Id>
 
 /// What a name stands for, as a thing of the sort. `Err`: `UnknownName` where the name isn't declared, or is of another sort; or
 /// out of memory.
-pub fn found<S: Sought>(names: &Names, name: &Str) -> Result<S::Id, LineError>
+pub fn found<S: Sought>(names: &Names, name: &Str) -> Result<S::Key, LineError>
     ensures { Gives (λ x. x) result (found S.as_sort names.now name.now) }
 {
     match known_as::<S>(names, name) {
@@ -171,7 +171,7 @@ pub fn all_found<S: Sought>(
     alloc: Global,
     names: &Names,
     wanted: &[Str],
-) -> Result<Vec<S::Id>, LineError>
+) -> Result<Vec<S::Key>, LineError>
     ensures { Gives (λ v. v.items) result (all_found S.as_sort names.now wanted.now) }
 {
     let mut ids = Vec::with_capacity(alloc, wanted.len())?;

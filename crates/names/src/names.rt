@@ -1,5 +1,5 @@
 // The names.
-ghost use Rattle.std.specs.Prelude.{◌≡◌, ◌↔◌, IfOk, IsSome, IsTrue, None, OnErr, OnOk, length, option_map, take};
+ghost use Rattle.std.specs.Prelude.{◌≡◌, [], None, OnErr, OnOk, length, option_map, take};
 ghost use Rattle.names.specs.Names.{has_id, is_free, meaning_of, name_of, with_name};
 ghost use Rattle.script.specs.Reading.{Gives};
 

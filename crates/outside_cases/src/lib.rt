@@ -1,8 +1,10 @@
-//! Tests of lists, of the outside in memory (sources, sinks, files, clocks), and of runs over lines.
+//! Tests of lists, of the outside in memory (sources, sinks, files, clocks), and of runs over lines and over keys.
 #![tactic(auto)]
 
 #[cfg(test)]
 mod files;
+#[cfg(test)]
+mod key_runs;
 #[cfg(test)]
 mod lists;
 #[cfg(test)]

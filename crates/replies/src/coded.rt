@@ -2,7 +2,7 @@
 ghost use Rattle.std.specs.Prelude.{◌≡◌, IfOk, codes, encode_utf8_all};
 ghost use Rattle.serde_json.specs.Data.{member, no_members, string};
 ghost use Rattle.serde_json.specs.View.{view};
-ghost use Rattle.replies.specs.Refusals.{coded};
+ghost use Rattle.replies.specs.Objects.{coded};
 
 use cm_plain::Str;
 use serde_json::{Value, json};

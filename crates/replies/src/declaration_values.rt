@@ -2,7 +2,8 @@ ghost use Rattle.std.specs.Prelude.{◌≡◌, IfOk, codes, encode_utf8_all};
 ghost use Rattle.serde_json.specs.Data.{member, no_members, string};
 ghost use Rattle.serde_json.specs.View.{view};
 ghost use Rattle.script.specs.declared.declaration_refusal.DeclarationRefusal.TheVariants.{BadInverse, BadSide, UnknownRule};
-ghost use Rattle.replies.specs.Refusals.{coded, declaration_data, whole};
+ghost use Rattle.replies.specs.Objects.{coded, whole};
+ghost use Rattle.replies.specs.Refusals.{declaration_data};
 
 use crate::coded::code_value;
 use cm_plain::Str;

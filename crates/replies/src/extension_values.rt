@@ -2,7 +2,8 @@ ghost use Rattle.std.specs.Prelude.{◌≡◌, IfOk, codes};
 ghost use Rattle.serde_json.specs.Data.{member, no_members};
 ghost use Rattle.serde_json.specs.View.{view};
 ghost use Rattle.script.specs.declared.extension_refusal.ExtensionRefusal.TheVariants.{DuplicateCompartment};
-ghost use Rattle.replies.specs.Refusals.{coded, extension_data, texts_data};
+ghost use Rattle.replies.specs.Objects.{coded, texts_data};
+ghost use Rattle.replies.specs.Refusals.{extension_data};
 
 use crate::texts::text_values;
 use cm_plain::Str;

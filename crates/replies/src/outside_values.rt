@@ -2,7 +2,8 @@
 ghost use Rattle.std.specs.Prelude.{◌≡◌, IfOk, codes};
 ghost use Rattle.serde_json.specs.Data.{member, no_members};
 ghost use Rattle.serde_json.specs.View.{view};
-ghost use Rattle.replies.specs.Refusals.{coded, file_data, whole, window_data};
+ghost use Rattle.replies.specs.Objects.{coded, whole};
+ghost use Rattle.replies.specs.Refusals.{file_data, window_data};
 
 use crate::coded::name_value;
 use script::{FileRefusal, WindowRefusal};

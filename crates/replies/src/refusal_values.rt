@@ -2,7 +2,8 @@ ghost use Rattle.std.specs.Prelude.{◌≡◌, IfOk, codes, encode_utf8_all};
 ghost use Rattle.serde_json.specs.Data.{string, member, no_members};
 ghost use Rattle.serde_json.specs.View.{view};
 ghost use Rattle.script.specs.declared.refusal.Refusal.TheVariants.{BadRange, LengthMismatch, TooLong, BadMain, SelectionOutside, Stale, Ahead};
-ghost use Rattle.replies.specs.Refusals.{coded, refusal_data, whole};
+ghost use Rattle.replies.specs.Objects.{coded, whole};
+ghost use Rattle.replies.specs.Refusals.{refusal_data};
 
 use crate::coded::{code_value, name_value};
 use crate::declaration_values::declaration_value;

@@ -30,9 +30,8 @@ fn plain_value(alloc: Global, plain: &Plain) -> Result<Value, AllocError>
 fn list_value(alloc: Global, list: &PlainList) -> Result<Value, AllocError>
     ensures { IfOk result (λ v. view v ≡ array (plain_items (data_of list.now))) }
 {
-    let items = list.as_slice();
-    let mut values = Vec::with_capacity(alloc, items.len())?;
-    for item in items {
+    let mut values = Vec::new(alloc);
+    for item in list.as_slice() {
         values.push(plain_value(alloc, item)?)?;
     }
     Ok(Value::Array(values))

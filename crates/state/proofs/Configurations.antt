@@ -1,6 +1,5 @@
 -- The configuration of extensions, or why there is none, is the function's answer.
-use Rattle.std.proofs.Common.{◌≡◌, ◌∙◌, ℕ, List, [], Option, Some, None, Bool, true, false, Result, Ok, Err, refl, sym, ap}
-use Rattle.std.specs.Prelude.{option_map}
+use Rattle.std.proofs.Common.{◌≡◌, ◌∙◌, ℕ, List, [], Option, Some, None, true, false, Ok, Err, sym, ap}
 use Rattle.compartments.specs.Contents.{AreAscending}
 use Rattle.configuration.specs.Config.{ConfigView}
 use Rattle.configuration.specs.Resolved.{IsCause}

@@ -1,5 +1,5 @@
 -- The maps of effect kinds that are declared are numbers of maps that there are.
-use Rattle.std.proofs.Common.{◌≡◌, ℕ, zero, suc, List, [], ◌∷◌, Option, None, Some, refl}
+use Rattle.std.proofs.Common.{ℕ, suc, List, [], ◌∷◌, Option, None, Some, refl}
 use Rattle.transaction.specs.Effects.{HasMaps}
 use Rattle.values.specs.Rules.{Rules}
 use Rattle.values.specs.Lawful.{AllAt, IsMap}

@@ -1,5 +1,5 @@
 -- A field has a value exactly where it is present.
-use Rattle.std.proofs.Common.{◌≡◌, ◌∙◌, ℕ, Bool, true, false, Option, None, Some, Bor, IsSomeAnd, refl, sym, ap}
+use Rattle.std.proofs.Common.{◌≡◌, ◌∙◌, ℕ, true, Option, None, Some, Bor, IsSomeAnd, refl, ap}
 use Rattle.std.specs.Prelude.{is_some, option_copied}
 use Rattle.configuration.specs.declared.vertex.Vertex.TheVariants.{Field}
 use Rattle.values.specs.declared.val.Val.{Val}

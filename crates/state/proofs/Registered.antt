@@ -1,5 +1,5 @@
 -- What a registry holds, as setups need it.
-use Rattle.std.proofs.Common.{◌≡◌, ◌∙◌, ℕ, List, refl, sym, ap, subst}
+use Rattle.std.proofs.Common.{◌≡◌, ◌∙◌, refl, sym, ap, subst}
 use Rattle.configuration.specs.Config.{ConfigView}
 use Rattle.configuration.specs.Resolved.{IsConfig}
 use Rattle.configuration.specs.declared.defs.Defs.{Defs}

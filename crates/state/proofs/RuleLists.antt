@@ -1,12 +1,11 @@
 -- The facets of rule numbers have lists of numbers of their sorts.
-use Rattle.std.proofs.Common.{◌≡◌, ◌≤◌, ◌∙◌, ◌&&◌, ℕ, pos, List, [], ◌∷◌, map, Bool, true, false, All, Option, None, Some, IfSome, IsSomeAnd, option_map, slice_get, refl, sym, ap, subst, arith}
+use Rattle.std.proofs.Common.{◌≡◌, ◌∙◌, ◌&&◌, ℕ, pos, List, [], ◌∷◌, map, Bool, true, false, All, Option, None, Some, IfSome, IsSomeAnd, option_map, slice_get, refl, sym, ap, subst, arith}
 use Rattle.std.proofs.lemmas.List.Elements.{All-head, All-tail}
 use Rattle.cm_plain.specs.Datum.{data_of, number}
-use Rattle.cm_plain.specs.Form.{Form, hold, holds, lists, numbers}
+use Rattle.cm_plain.specs.Form.{Form, hold, holds, numbers}
 use Rattle.cm_plain.specs.declared.plain.Plain.TheVariants as plain
 use Rattle.configuration.specs.declared.facet_def.FacetDef.{FacetDef}
 use Rattle.configuration.specs.declared.vertex.Vertex.TheVariants.{Facet, Field}
-use Rattle.transaction.specs.Numbers.{IsNumber}
 use Rattle.registry.specs.Predeclared.{combined_by, predeclared, predeclared_facets}
 use Rattle.values.specs.declared.val.Val.{Val}
 use Rattle.values.specs.declared.val.Val.TheVariants.{Plain, Ranges, Layers, History}

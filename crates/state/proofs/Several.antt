@@ -1,5 +1,5 @@
 -- The facet that allows several ranges is static, so its value in a configuration is the same over any document.
-use Rattle.std.proofs.Common.{◌≡◌, ◌<◌, ◌+◌, ◌∙◌, ◌++◌, ◌||◌, ℕ, zero, suc, List, [], ◌∷◌, Bool, true, false, cond, eqb, length, map, slice_get, get_or, Option, None, Some, refl, sym, ap, subst, arith}
+use Rattle.std.proofs.Common.{◌≡◌, ◌<◌, ◌≤◌, ◌+◌, ◌∙◌, ◌++◌, ◌||◌, ℕ, zero, suc, List, [], ◌∷◌, Bool, true, false, cond, eqb, length, map, slice_get, get_or, Option, None, Some, refl, sym, ap, subst, arith}
 use Rattle.std.specs.Option.{option_map, unwrap_or}
 use Rattle.std.specs.List.{AllByRecursion, list_any, range_with_len}
 use Rattle.std.proofs.lemmas.Bool.Decides.{Decides-eqb}
@@ -13,10 +13,12 @@ use Rattle.configuration.specs.declared.node_def.NodeDef.TheVariants as defs
 use Rattle.configuration.specs.declared.vertex.Vertex.TheVariants.{Facet}
 use Rattle.configuration.specs.Present.{facet_in, inputs_of, is_id}
 use Rattle.transaction.specs.Numbers.{IsNumber}
-use Rattle.registry.specs.Predeclared.{combined_by}
+use Rattle.configuration.proofs.Placing.{numbers-length}
+use Rattle.registry.specs.Predeclared.{combined_by, predeclared, predeclared_facets}
 use Rattle.values.specs.declared.val.Val.{Val}
-use Rattle.values.specs.Combining.{combine, is_true}
+use Rattle.values.specs.Combining.{is_true}
 use Rattle.values.specs.Declarations.{Declarations}
+use Rattle.values.specs.Growth.{IsGrowth}
 use Rattle.values.specs.Lawful.{IsDefined, IsInput, IsLawful}
 use Rattle.values.specs.Reading.{nothing}
 use Rattle.values.specs.Rules.{Rules}
@@ -24,14 +26,16 @@ use Rattle.values.specs.Shipped.{KeepsShipped}
 use Rattle.facet_slots.specs.FacetValues.{facet_value, joined, node_outputs, outputs}
 use Rattle.facet_slots.specs.Order.{IsOrdered}
 use Rattle.facet_slots.specs.Scenes.{SceneView, Values}
-use Rattle.facet_slots.specs.Setups.{PresentFacet, facet_at, input_node, inputs_at}
+use Rattle.facet_slots.specs.Setups.{input_node, inputs_at}
 use Rattle.facet_slots.specs.Stepping.{Enter, creation, empty_state, rule_of}
+use Rattle.facet_slots.proofs.Declared.{definitions-grown}
+use Rattle.facet_slots.proofs.Growing.{longer}
 use Rattle.facet_slots.proofs.Held.{settled-at}
 use Rattle.filters.specs.Shown.{allowed}
 use Rattle.state.specs.declared.extensions.Extensions.{Extensions}
 use Rattle.state.specs.Creating.{start_scene}
 use Rattle.state.specs.Cutting.{allows_several, config_allows_several, is_true_input, some_input_true}
-use Rattle.state.specs.Reconfigured.{IsConfigOf, setup_in}
+use Rattle.state.specs.Reconfigured.{IsConfigOf, setup_in, tree_in}
 
 -- an input with a value of its own
 abbrev IsGiven : Option (NodeDef Val) → Type 0
@@ -129,3 +133,11 @@ pub start-is : (rules : Rules) → KeepsShipped rules → (d : Declarations) →
     → node_defs ≡ d.node_defs → several ≡ config_allows_several node_defs config → record { document = scene.document; selection = allowed several scene.selection } ≡ start_scene rules (setup_in d config) scene
 start-is rules keeps d lawful known e config is ordered scene several node_defs defs same =
     ap (cut_of scene) (same ∙ ap (λ (xs : List (NodeDef Val)). config_allows_several xs config) defs ∙ sym (allows-config rules keeps d lawful known e config is ordered scene))
+
+-- a configuration has a place for the inputs of that facet
+pub several-known : (d : Declarations) → IsGrowth predeclared d → (e : Extensions) (config : ConfigView) → IsConfigOf d e config → 1 < length config.inputs
+several-known d grown e config is =
+    let l : 10 ≤ length d.facets = longer predeclared_facets d.facets (definitions-grown predeclared d grown).facets in
+    let same : length config.inputs ≡ length d.facets =
+    ap (λ (xs : List (List ℕ)). length xs) is.inputs_are ∙ numbers-length (λ (facet : ℕ). inputs_of d.nodes facet (flat_order (tree_in d e) e.base)) 0 (length d.facets) in
+    omega (arith, l, same)

@@ -11,7 +11,7 @@ use Rattle.values.specs.Rules.{Rules}
 use Rattle.values.specs.Vals.{IsOf}
 use Rattle.facet_slots.specs.Lawful.{FacetsFit, FieldsFit}
 use Rattle.facet_slots.specs.Scenes.{Values}
-use Rattle.facet_slots.specs.Setups.{Setup, PresentFacet, PresentField, facet_at, field_at, field_with, init_of, inputs_at, node_at}
+use Rattle.facet_slots.specs.Setups.{Setup, PresentField, field_at, field_with, init_of, inputs_at, node_at}
 
 -- a facet by its definition, if it is declared
 facet-known : (rules : Rules) (setup : Setup) (values : Values) → FacetsFit rules setup values → (f : ℕ) (o : Option FacetDef) → slice_get setup.defs.facets f ≡ o

@@ -1,10 +1,9 @@
 -- What the specs come to, what was found after their effects, and the state that was stepped to, are one step.
-use Rattle.std.proofs.Common.{◌≡◌, ◌≤◌, ◌+◌, ◌∙◌, ℕ, List, Bool, true, false, cond, Option, None, Some, Result, Ok, Err, refl, sym, ap, subst}
+use Rattle.std.proofs.Common.{◌≡◌, ◌≤◌, ◌+◌, ◌∙◌, ℕ, List, Bool, cond, Option, None, Some, Ok, Err, refl, sym, ap, subst}
 use Rattle.std.specs.Prelude.{option_map}
 use Rattle.std.specs.Result.{result_err}
 use Rattle.configuration.specs.Config.{ConfigView}
 use Rattle.transaction.specs.declared.draft.Draft.{Draft}
-use Rattle.transaction.specs.declared.error.TransactionError.{TransactionError}
 use Rattle.transaction.specs.declared.spec.Spec.{Spec}
 use Rattle.values.specs.declared.val.Val.{Val}
 use Rattle.values.specs.Declarations.{Declarations}
@@ -14,12 +13,11 @@ use Rattle.filters.specs.Outcomes.{Outcome}
 use Rattle.facet_slots.specs.Lent.{definitions}
 use Rattle.facet_slots.specs.Setups.{Setup}
 use Rattle.facet_slots.specs.Stepping.{State, Target, Stays, Becomes, step}
-use Rattle.state.specs.declared.extensions.Extensions.{Extensions}
 use Rattle.state.specs.declared.state_error.StateError.{StateError}
 use Rattle.state.specs.Drafting.{draft_of}
 use Rattle.state.specs.Moving.{transaction_of}
 use Rattle.state.specs.Plainly.{config_after, stepped_by, stepped_to, unordered, unordered_config, updated_from}
-use Rattle.state.specs.Reconfigured.{IsConfigAfter, IsSetupAfter, configures, extensions_after, extensions_of, setup_in}
+use Rattle.state.specs.Reconfigured.{IsConfigAfter, IsSetupAfter, extensions_after, extensions_of, setup_in}
 use Rattle.state.specs.Refusals.{of_transaction_error}
 use Rattle.state.specs.Steps.{IsStepTo, entered_target, step_calls, target_of}
 use Rattle.state.specs.PrivateFound.{IsConfigFound}

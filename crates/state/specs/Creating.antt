@@ -1,6 +1,5 @@
 -- The state that a base comes to over a document and a selection (Reference Manual, EditorState.create).
 use Rattle.std.specs.Prelude.{◌≡◌, ◌≤◌, ◌+◌, ℕ, List, [], ◌⊎◌}
-use Rattle.configuration.specs.Config.{ConfigView}
 use Rattle.values.specs.Declarations.{Declarations}
 use Rattle.values.specs.Rules.{Rules}
 use Rattle.facet_slots.specs.Due.{transition_calls}

@@ -1,5 +1,5 @@
 -- Which selections have several ranges (Reference Manual, EditorState.allowMultipleSelections).
-use Rattle.std.specs.Prelude.{◌||◌, ℕ, List, Bool, true, false, Option, Some, slice_get, get_or, []}
+use Rattle.std.specs.Prelude.{ℕ, List, Bool, false, Option, Some, slice_get, get_or, []}
 use Rattle.std.specs.Option.{unwrap_or}
 use Rattle.std.specs.List.{list_any}
 use Rattle.configuration.specs.Config.{ConfigView}

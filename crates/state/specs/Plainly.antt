@@ -12,7 +12,6 @@ use Rattle.values.specs.Declarations.{Declarations}
 use Rattle.values.specs.Rules.{Rules}
 use Rattle.filters.specs.Outcomes.{Outcome}
 use Rattle.facet_slots.specs.Scenes.{SceneView}
-use Rattle.facet_slots.specs.Setups.{Setup}
 use Rattle.facet_slots.specs.Stepping.{State, step}
 use Rattle.state.specs.declared.extensions.Extensions.{Extensions}
 use Rattle.state.specs.declared.state_error.StateError.{StateError}

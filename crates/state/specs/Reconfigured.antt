@@ -1,6 +1,6 @@
 -- Effects on the configuration, and what it becomes by them (Reference Manual, Compartment.reconfigure,
 -- StateEffect.reconfigure, StateEffect.appendConfig).
-use Rattle.std.specs.Prelude.{◌≡◌, ℕ, List, [], ◌∷◌, ◌++◌, Bool, true, false, fold}
+use Rattle.std.specs.Prelude.{◌≡◌, List, [], ◌∷◌, ◌++◌, Bool, true, false, fold}
 use Rattle.std.specs.List.{list_any}
 use Rattle.compartments.specs.Contents.{with_content}
 use Rattle.ext_tree.specs.Tree.{Tree, tree_of}

@@ -1,5 +1,5 @@
 -- The refusals of what a call is handed, and of what lower crates refuse, by one name each.
-use Rattle.std.specs.Prelude.{ℕ, cond, ltb, length, Option, Some, None, option_map}
+use Rattle.std.specs.Prelude.{ℕ, cond, ltb, length, Option, Some, option_map}
 use Rattle.line_tree.specs.Text.{max_len}
 use Rattle.selection.specs.Selections.{first_outside}
 use Rattle.configuration.specs.declared.config_error.ConfigError.{ConfigError}

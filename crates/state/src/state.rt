@@ -109,8 +109,10 @@ impl<M: Meanings> State<M> {
         ensures uncalled { IfErr result (λ error. error ≢ StateError.NoMemory → calls.new ≡ calls.old) }
         ensures paid { IsStepPaid M.rules registry.now (plain self.now) specs.items calls.old calls.new }
     {
-        let slots = updated(alloc, kit, registry, &self.slots, specs, calls)?;
-        Ok(State { slots })
+        match updated(alloc, kit, registry, &self.slots, specs, calls) {
+            Ok(slots) => Ok(State { slots }),
+            Err(error) => Err(error),
+        }
     }
 
     /// The document. Takes no memory.

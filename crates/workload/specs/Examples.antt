@@ -1,5 +1,5 @@
 -- The first draws, and the texts of the first three transactions.
-use Rattle.std.specs.Prelude.{◌≡◌, ℕ, List, [], ◌∷◌, ◌++◌, codes, refl}
+use Rattle.std.specs.Prelude.{◌≡◌, [], ◌∷◌, codes, refl}
 use Rattle.workload.specs.Draws.{draws}
 use Rattle.workload.specs.Edits.{after, made_text, next_edit}
 use Rattle.workload.specs.MadeLines.{beginning}

@@ -27,18 +27,30 @@ written ch = if ch == 10 then codes "\\n" else ch ∷ []
 abbrev pub written_text : ℕ → ℕ → List ℕ
 written_text size letter = flat_map written (made_text size letter)
 
--- the end of an update of one change: the annotation of its time, and the brackets that are open
-abbrev pub timed_end : ℕ → List ℕ
-timed_end time = codes "}],\"annotations\":[{\"type\":\"time\",\"value\":" ++ decimal time ++ codes "}]}]}"
+-- an update of one spec: a text inserted at a position, up to the text
+abbrev pub insert_start : ℕ → List ℕ
+insert_start at = codes "{\"update\":[{\"changes\":[{\"from\":" ++ decimal at ++ codes ",\"insert\":\""
 
--- the update of one spec that does an edit at a time in milliseconds
+-- what follows the text: the annotation of the time in milliseconds
+abbrev pub insert_end : ℕ → List ℕ
+insert_end time = codes "\"}],\"annotations\":[{\"type\":\"time\",\"value\":" ++ decimal time ++ codes "}]}]}"
+
+-- an update of one spec: the characters between two positions deleted, at a time in milliseconds
+abbrev pub delete_line : ℕ → ℕ → ℕ → List ℕ
+delete_line time from to =
+    codes "{\"update\":[{\"changes\":[{\"from\":" ++ (decimal from ++ (codes ",\"to\":" ++ (decimal to
+    ++ (codes "}],\"annotations\":[{\"type\":\"time\",\"value\":" ++ (decimal time ++ codes "}]}]}")))))
+
+-- an update of one spec: the effect `mark` of two positions
+abbrev pub mark_line : ℕ → ℕ → List ℕ
+mark_line from to =
+    codes "{\"update\":[{\"effects\":[{\"effect\":\"mark\",\"value\":[" ++ (decimal from ++ (codes "," ++ (decimal to ++ codes "]}]}]}")))
+
+-- the update that does an edit at a time in milliseconds
 abbrev pub edit_line : ℕ → Edit → List ℕ
-edit_line time (Insert at size letter) =
-    codes "{\"update\":[{\"changes\":[{\"from\":" ++ decimal at ++ codes ",\"insert\":\"" ++ written_text size letter ++ codes "\"" ++ timed_end time
-edit_line time (Delete from to) =
-    codes "{\"update\":[{\"changes\":[{\"from\":" ++ decimal from ++ codes ",\"to\":" ++ decimal to ++ timed_end time
-edit_line time (Mark from to) =
-    codes "{\"update\":[{\"effects\":[{\"effect\":\"mark\",\"value\":[" ++ decimal from ++ codes "," ++ decimal to ++ codes "]}]}]}"
+edit_line time (Insert at size letter) = insert_start at ++ written_text size letter ++ insert_end time
+edit_line time (Delete from to) = delete_line time from to
+edit_line time (Mark from to) = mark_line from to
 
 -- the lines of the next transactions, whose times are 100 milliseconds apart
 abbrev pub edit_lines : ℕ → Progress → List (List ℕ)
@@ -48,6 +60,10 @@ edit_lines (suc count) p = edit_line (100 * p.number) (next_edit p) ∷ edit_lin
 -- before the first transaction: the document is empty, and the generator's number is 1
 abbrev pub beginning : Progress
 beginning = record { number = 1; seed = 1; length = 0 }
+
+-- the greatest number of transactions
+abbrev pub max_transactions : ℕ
+max_transactions = 1000000
 
 -- the lines of a workload of `count` transactions
 abbrev pub made_lines : ℕ → List (List ℕ)

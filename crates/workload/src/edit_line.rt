@@ -1,8 +1,8 @@
 // An edit as a line.
-ghost use Rattle.std.specs.Prelude.{◌≡◌, ◌+◌, ◌*◌, ◌<◌, ◌≤◌, ◌^◌, ◌++◌, IfOk, OnOk};
+ghost use Rattle.std.specs.Prelude.{◌≡◌, ◌++◌, IfOk, OnOk};
 ghost use Rattle.std.specs.String.{string_bytes};
 ghost use Rattle.workload.specs.Edits.{character};
-ghost use Rattle.workload.specs.MadeLines.{edit_line, timed_end, written, written_text};
+ghost use Rattle.workload.specs.MadeLines.{delete_line, edit_line, insert_end, insert_start, mark_line, written, written_text};
 ghost use Rattle.workload.specs.declared.edit.Edit.TheVariants.{Insert};
 
 use crate::edit::Edit;
@@ -14,11 +14,25 @@ pub(crate) fn edit_as_line(alloc: Global, time: u32, edit: Edit) -> Result<Strin
 {
     match edit {
         Edit::Insert { at, size, letter } => insert_line(alloc, time, at, size, letter),
-        Edit::Delete { from, to } => format!(in alloc;
-            "{{\"update\":[{{\"changes\":[{{\"from\":{from},\"to\":{to}}}],\"annotations\":[{{\"type\":\"time\",\"value\":{time}}}]}}]}}"),
-        Edit::Mark { from, to } => format!(in alloc;
-            "{{\"update\":[{{\"effects\":[{{\"effect\":\"mark\",\"value\":[{from},{to}]}}]}}]}}"),
+        Edit::Delete { from, to } => delete_line(alloc, time, from, to),
+        Edit::Mark { from, to } => mark_line(alloc, from, to),
     }
+}
+
+fn delete_line(alloc: Global, time: u32, from: u32, to: u32) -> Result<String, AllocError>
+    ensures { IfOk result (λ line. string_bytes line ≡ delete_line time from to) }
+{
+    format!(in alloc;
+        "{{\"update\":[{{\"changes\":[{{\"from\":{from},\"to\":{to}}}],\"annotations\":[{{\"type\":\"time\",\"value\":{time}}}]}}]}}"
+    )
+}
+
+fn mark_line(alloc: Global, from: u32, to: u32) -> Result<String, AllocError>
+    ensures { IfOk result (λ line. string_bytes line ≡ mark_line from to) }
+{
+    format!(in alloc;
+        "{{\"update\":[{{\"effects\":[{{\"effect\":\"mark\",\"value\":[{from},{to}]}}]}}]}}"
+    )
 }
 
 /// The line of an insertion.
@@ -31,14 +45,27 @@ fn insert_line(
 ) -> Result<String, AllocError>
     ensures { IfOk result (λ line. string_bytes line ≡ edit_line time (Insert at size letter)) }
 {
-    let mut line =
-        format!(in alloc; "{{\"update\":[{{\"changes\":[{{\"from\":{at},\"insert\":\"")?;
+    let mut line = insert_start(alloc, at)?;
     push_text(&mut line, size, letter)?;
-    write!(
-        line,
-        "\"}}],\"annotations\":[{{\"type\":\"time\",\"value\":{time}}}]}}]}}"
-    )?;
+    push_end(&mut line, time)?;
     Ok(line)
+}
+
+/// An insertion's line up to the text.
+fn insert_start(alloc: Global, at: u32) -> Result<String, AllocError>
+    ensures { IfOk result (λ line. string_bytes line ≡ insert_start at) }
+{
+    format!(in alloc; "{{\"update\":[{{\"changes\":[{{\"from\":{at},\"insert\":\"")
+}
+
+/// What follows the text of an insertion's line.
+fn push_end(out: &mut String, time: u32) -> Result<(), AllocError>
+    ensures { OnOk result (string_bytes out.new ≡ string_bytes out.old ++ insert_end time) }
+{
+    write!(
+        out,
+        "\"}}],\"annotations\":[{{\"type\":\"time\",\"value\":{time}}}]}}]}}"
+    )
 }
 
 /// The made text of a size from 1 to 8 in a JSON text.

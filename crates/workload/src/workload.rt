@@ -1,5 +1,5 @@
 ghost use Rattle.std.specs.Prelude.{◌≡◌, ◌+◌, ◌*◌, ◌<◌, ◌≤◌, [], ◌∷◌, List, ℕ, drop, IfOk, OnErr, MatchOption};
-ghost use Rattle.workload.specs.MadeLines.{first_lines, made_lines};
+ghost use Rattle.workload.specs.MadeLines.{first_lines, made_lines, max_transactions};
 
 use crate::edit_line::edit_as_line;
 use crate::progress::{Progress, next_transaction};
@@ -21,19 +21,19 @@ pub struct Workload {
 
 impl Model for Workload {
     ghost use Rattle.std.specs.Prelude.{ℕ, List, [], ◌∷◌, ◌++◌, ◌+◌, ◌*◌, ◌≤◌, drop, if◌then◌else◌};
-    ghost use Rattle.workload.specs.MadeLines.{edit_lines, first_lines, summary};
+    ghost use Rattle.workload.specs.MadeLines.{edit_lines, first_lines, max_transactions, summary};
 
     ghost Value = { List (List ℕ) };
 
     ghost view = { λ w. drop w.first first_lines ++ edit_lines w.left w.progress ++ (if w.ended then [] else summary ∷ []) };
 
-    ghost invariant = { λ w. (w.first ≤ 4) × (w.progress.number + w.left ≤ 1000001) × (w.progress.length ≤ 8 * w.progress.number) };
+    ghost invariant = { λ w. (w.first ≤ 4) × (w.progress.number + w.left ≤ max_transactions + 1) × (w.progress.length ≤ 8 * w.progress.number) };
 }
 
 impl Workload {
     /// The workload of so many transactions, at most `MAX_TRANSACTIONS`.
     pub fn new(alloc: Global, transactions: u32) -> Workload
-        requires { transactions ≤ 1000000 }
+        requires { transactions ≤ max_transactions }
         ensures { result ≡ made_lines transactions }
     {
         Workload {
@@ -82,7 +82,8 @@ fn first_line(index: u8) -> &'static str
 {
     match index {
         0 => "{\"effect\":{\"name\":\"mark\",\"map\":2}}",
-        1 => "{\"field\":{\"name\":\"marks\",\"create\":5,\"update\":4,\"listens\":[\"mark\"],\"provides\":[{\"facet\":\"decorations\",\"rule\":6}]}}",
+        1 =>
+            "{\"field\":{\"name\":\"marks\",\"create\":5,\"update\":4,\"listens\":[\"mark\"],\"provides\":[{\"facet\":\"decorations\",\"rule\":6}]}}",
         2 => "{\"field\":{\"name\":\"count\",\"create\":2,\"update\":2}}",
         _ => "{\"start\":{\"extensions\":[\"history\",\"marks\",\"count\"]}}",
     }

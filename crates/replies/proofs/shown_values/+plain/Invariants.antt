@@ -12,4 +12,4 @@ abbrev pub decreases-plain_value : goal.decreases-plain_value
 decreases-plain_value l = depth (datum_of l.plain.now) * 2
 
 abbrev pub invariant-list_value-loop-item : goal.invariant-list_value-loop-item
-invariant-list_value-loop-item l = map view l.values.items ≡ map (λ p. plain_data (datum_of p)) (take l.item-index l.items)
+invariant-list_value-loop-item l = map view l.values.items ≡ map (λ p. plain_data (datum_of p)) (take l.item-index l.item-items)

@@ -1,10 +1,6 @@
-use Rattle.std.proofs.Common.{◌≡◌, ◌≤◌, ◌+◌, ◌∙◌, Bool, List, Some, ap, refl, subst, sym}
+use Rattle.std.proofs.Common.{◌≡◌, ◌≤◌, ◌+◌, ◌∙◌, ap, refl, subst, sym}
 use Rattle.std.proofs.lemmas.Result.{IfOk-weaker}
-use Rattle.configuration.specs.declared.facet_def.FacetDef.{FacetDef}
-use Rattle.configuration.specs.declared.node_def.NodeDef.{NodeDef}
-use Rattle.configuration.specs.Config.{ConfigView}
 use Rattle.registry.specs.Predeclared.{predeclared, predeclared_facets}
-use Rattle.values.specs.declared.val.Val.{Val}
 use Rattle.facet_slots.specs.Due.{transition_calls}
 use Rattle.facet_slots.specs.Found.{scene_of}
 use Rattle.facet_slots.specs.Lawful.{IsLawful}
@@ -17,11 +13,10 @@ use Rattle.facet_slots.specs.Stepping.{Enter, creation, empty_state}
 use Rattle.facet_slots.proofs.Declared.{definitions-grown}
 use Rattle.facet_slots.proofs.Growing.{stays-got}
 use Rattle.facet_slots.proofs.Ordered.{resolved-ordered}
-use Rattle.state.specs.Creating.{created_state, start_scene}
-use Rattle.state.specs.Cutting.{config_allows_several}
+use Rattle.state.specs.Creating.{created_state}
 use Rattle.state.specs.Reconfigured.{setup_in}
 use Rattle.state.proofs.Registered.{lawful-in, resolved-in, setup-is, setup_with}
-use Rattle.state.proofs.Several.{several_def, start-is}
+use Rattle.state.proofs.Several.{several-known, several_def, start-is}
 use Rattle.state.proofs.created.created.Goals as goal
 
 pub fresh-requires-clause-resolved : goal.fresh-requires-clause-resolved
@@ -54,3 +49,6 @@ returns-clause-cost g c =
     let start = c.in_ok-start.ensures.cut ∙ start-is rules g.met.M.Meanings.keeps d c.defs.ensures.lawful (stays-got predeclared_facets d.facets (definitions-grown predeclared d c.known.ensures.grown).facets 1 several_def refl) c.requires.config.0 c.args.config c.requires.config.1 (resolved-ordered (setup_in d c.args.config) (resolved-in rules d c.defs.ensures.lawful c.defs.result.now there c.requires.config.0 c.args.config c.requires.config.1)) (scene_of c.args.scene) c.config_allows_several-several.result c.defs.result.now.node_defs there.node_defs_are c.config_allows_several-several.ensures in
     subst (λ (s : SceneView). c.fresh.new.calls ≤ c.args.calls.now + transition_calls rules Enter (empty_state s) (setup_in d c.args.config)) start
     (subst (λ (x : Setup). c.fresh.new.calls ≤ c.args.calls.now + transition_calls rules Enter (empty_state (scene_of c.in_ok-start.start)) x) same c.fresh.ensures.cost)
+
+pub config_allows_several-several-requires : goal.config_allows_several-several-requires
+config_allows_several-several-requires g c = several-known c.args.registry.now c.known.ensures.grown c.requires.config.0 c.args.config c.requires.config.1

@@ -1,15 +1,13 @@
-use Rattle.std.proofs.Common.{◌≡◌, ◌≤◌, ◌+◌, ◌∙◌, Option, Some, None, ap, refl, subst, sym}
+use Rattle.std.proofs.Common.{◌≡◌, ◌≤◌, ◌+◌, ◌∙◌, Some, ap, refl, subst, sym}
 use Rattle.std.proofs.lemmas.Result.{IfOk-weaker}
-use Rattle.configuration.specs.Config.{ConfigView}
 use Rattle.facet_slots.specs.Due.{transition_calls}
 use Rattle.facet_slots.specs.Lawful.{IsLawful}
 use Rattle.facet_slots.specs.Lent.{defs_of}
 use Rattle.facet_slots.specs.Resolving.{IsResolved}
 use Rattle.facet_slots.specs.Setups.{Setup}
 use Rattle.facet_slots.specs.Slotted.{plain}
-use Rattle.facet_slots.specs.Stepping.{Becomes, Stays, Target, Update, next, step}
+use Rattle.facet_slots.specs.Stepping.{Becomes, Target, Update, next, step}
 use Rattle.state.specs.Steps.{entered_target, step_calls}
-use Rattle.state.specs.Reconfigured.{setup_in}
 use Rattle.state.specs.PrivateStepping.{IsEntered}
 use Rattle.state.proofs.Registered.{later-in, lawful-in, resolved-in, setup-is, setup_with}
 use Rattle.state.proofs.stepped.stepped.Goals as goal

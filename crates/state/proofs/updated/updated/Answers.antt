@@ -1,6 +1,6 @@
 use Rattle.std.proofs.Common.{inr}
 use Rattle.facet_slots.specs.Slotted.{plain}
-use Rattle.state.proofs.Steps.{found-entered, new-defs, not-found, paid-found, specs-refused, step-is, step-paid}
+use Rattle.state.proofs.Steps.{new-defs, paid-found, step-is, step-paid}
 use Rattle.state.proofs.updated.updated.Goals as goal
 
 pub returns-in_err-slots-clause-paid : goal.returns-in_err-slots-clause-paid

@@ -1,4 +1,4 @@
-use Rattle.std.proofs.Common.{◌≡◌, ◌≤◌, ◌+◌, ◌∙◌, ap, inr, subst, sym}
+use Rattle.std.proofs.Common.{◌≤◌, ◌+◌, ◌∙◌, ap, inr, subst, sym}
 use Rattle.values.specs.declared.scene.Scene.{Scene}
 use Rattle.registry.specs.Predeclared.{predeclared}
 use Rattle.facet_slots.specs.Agreement.{IsGrown}
