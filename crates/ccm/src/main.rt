@@ -10,14 +10,13 @@ mod standard_output;
 #[cfg(test)]
 mod tests;
 
-ghost use Rattle.values.specs.Shipped.{shipped};
-ghost use Rattle.values.specs.Whole.{IsWhole};
+ghost use Rattle.std.specs.Prelude.{⊤};
 
 use cm_outside::{Sink, Source, Status, Store};
 use cm_plain::Str;
 use folder_store::FolderStore;
 use session::run;
-use shipped_kit::with_kit;
+use shipped_kit::{KitUser, lend_kit};
 use shipped_rules::Shipped;
 use standard_input::StandardInput;
 use standard_output::StandardOutput;
@@ -50,6 +49,24 @@ fn complaint(status: Status) -> Option<&'static str> {
     }
 }
 
+/// What a run needs beside the kit.
+struct Run<'a, S: Source, K: Sink, D: Store> {
+    words: &'a [Str],
+    source: &'a mut S,
+    sink: &'a mut K,
+    store: &'a mut D,
+}
+
+impl<'a, S: Source, K: Sink, D: Store> KitUser for Run<'a, S, K, D> {
+    type Answer = Status;
+
+    ghost gives = { λ before answer after. ⊤ };
+
+    fn use_kit(&mut self, alloc: Global, kit: &Kit<Shipped>) -> Status {
+        run(alloc, self.words, kit, self.source, self.sink, self.store)
+    }
+}
+
 /// Does what the words ask for, with the kit of the shipped rules.
 fn run_shipped<S: Source, K: Sink, D: Store>(
     alloc: Global,
@@ -58,13 +75,13 @@ fn run_shipped<S: Source, K: Sink, D: Store>(
     sink: &mut K,
     store: &mut D,
 ) -> Status {
-    let status = with_kit(
-        alloc,
-        |kit: &Kit<Shipped>| -> Status
-            requires { IsWhole shipped kit.now }
-        { run(alloc, words, kit, source, sink, store) },
-    );
-    match status {
+    let mut run = Run {
+        words,
+        source,
+        sink,
+        store,
+    };
+    match lend_kit(alloc, &mut run) {
         Ok(status) => status,
         Err(_) => Status::NoMemory,
     }

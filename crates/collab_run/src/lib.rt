@@ -1,8 +1,8 @@
 //! Runs of collaboration over lines: `Play::line` answers one line, which begins a world of clients and an authority, lets an event
 //! happen in it or asks for its text, and `collab` answers each line of a source to a sink.
 //!
-//! The layer above may rely on this: under each status of a run the sink holds exactly the replies that the definition of the
-//! transcript gives for the lines of the bytes taken, or a prefix of them where a write failed or out of memory; a refused line
+//! The layer above may rely on this: under each status of a run the sink holds exactly the replies of the plain
+//! play to the lines of the bytes taken, or a prefix of them where a write failed or out of memory; a refused line
 //! changes nothing.
 #![tactic(auto)]
 

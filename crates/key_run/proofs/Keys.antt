@@ -1,5 +1,5 @@
 -- Keys up to the first Quit, and the times at which they are pressed.
-use Rattle.std.proofs.Common.{◌≡◌, ℕ, suc, ◌+◌, pos, Bool, true, false, cond, not, ◌||◌, List, [], ◌∷◌, ◌++◌, length, take, take_while, Option, Some, None, IfSome, IsSomeAnd, refl, ap, ◌∙◌, arith}
+use Rattle.std.proofs.Common.{◌≡◌, ℕ, suc, ◌+◌, pos, Bool, true, false, cond, not, ◌||◌, List, [], ◌∷◌, ◌++◌, length, take, take_while, Option, Some, None, IfSome, refl, ap, ◌∙◌, arith}
 use Rattle.std.specs.List.{list_any, prefix_len}
 use Rattle.cm_outside.specs.Times.{Times}
 use Rattle.term_keys.specs.declared.key.Key.{Key}

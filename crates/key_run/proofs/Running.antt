@@ -1,13 +1,13 @@
 -- A run over keys: what was answered so far, and how it ends.
-use Rattle.std.proofs.Common.{◌≡◌, ℕ, ◌+◌, ◌-◌, ◌<◌, ◌≤◌, ◌⊎◌, inl, inr, pos, ℤ, Bool, true, false, not, if◌then◌else◌, List, [], ◌∷◌, ◌++◌, length, take, drop, take_while, Option, Some, None, IfSome, IsSomeAnd, option_to_list, refl, sym, ap, subst, ◌∙◌, append_assoc, arith}
+use Rattle.std.proofs.Common.{◌≡◌, ℕ, ◌+◌, ◌<◌, ◌⊎◌, inl, inr, pos, Bool, true, false, not, if◌then◌else◌, List, [], ◌∷◌, ◌++◌, length, take, drop, take_while, Option, Some, None, IfSome, option_to_list, refl, sym, ap, subst, ◌∙◌, append_assoc, arith}
 use Rattle.std.proofs.lemmas.List.{append-nil, length-append, length-drop, drop-drop, take_at, drop_at}
 use Rattle.std.specs.List.{list_any}
 use Rattle.std.specs.Prelude.{Result, ⊤}
 use Rattle.std.specs.declared.result.Result.TheVariants as result
-use Rattle.cm_outside.specs.Answering.{Machine, AnswererTold, Exchange, exchange_of, after_all, AllAnswered, EndedBetween, EndedByStore, EndedWriting}
+use Rattle.cm_outside.specs.Answering.{Exchange, exchange_of, after_all, AllAnswered, EndedBetween, EndedByStore, EndedWriting}
 use Rattle.cm_outside.specs.NextBytes.{IsFirstByte}
 use Rattle.cm_outside.specs.Progress.{Progress}
-use Rattle.cm_outside.specs.Responding.{RespondsTo, IsSame, IsStop}
+use Rattle.cm_outside.specs.Responding.{RespondsTo, IsStop}
 use Rattle.cm_outside.specs.Runs.{Gave}
 use Rattle.cm_outside.specs.Times.{Times}
 use Rattle.cm_outside.specs.declared.status.Status.{Status}

@@ -1,5 +1,5 @@
 -- A whole run over keys, and one that ends before it reads.
-use Rattle.std.proofs.Common.{◌≡◌, ℕ, ◌-◌, ◌⊎◌, inr, List, [], length, drop, Option, Some, None, IfSome, refl, sym, ap, subst, arith}
+use Rattle.std.proofs.Common.{◌≡◌, ℕ, ◌-◌, ◌⊎◌, inr, List, [], drop, Option, Some, None, IfSome, refl, sym, ap, subst, arith}
 use Rattle.cm_outside.specs.Answering.{AnswererTold, exchange_of, EndedBetween}
 use Rattle.cm_outside.specs.Runs.{Run, Gave}
 use Rattle.cm_outside.specs.Sink.{SinkTold}

@@ -1,5 +1,5 @@
 -- A run over keys: what was written and what the answerer is under each status, and why the run ended so.
-use Rattle.std.specs.Prelude.{◌≡◌, ℕ, ◌+◌, ◌≤◌, ◌<◌, ◌⊎◌, Bool, true, false, if◌then◌else◌, List, length, take, Option, Some, IfSome}
+use Rattle.std.specs.Prelude.{◌≡◌, ℕ, ◌+◌, ◌≤◌, ◌<◌, ◌⊎◌, true, false, if◌then◌else◌, List, length, take, Option, IfSome}
 use Rattle.std.specs.Option.{IsSomeAnd}
 use Rattle.cm_outside.specs.declared.status.Status.{Status}
 use Rattle.cm_outside.specs.declared.status.Status.TheVariants.{Ok, Usage, ReadFault, WriteFault, StoreFault, NoMemory, TooMuch, BadFile}

@@ -7,4 +7,6 @@ mod kit;
 #[cfg(test)]
 mod more;
 #[cfg(test)]
+mod more_kit;
+#[cfg(test)]
 mod views;

@@ -22,13 +22,14 @@ module _ {K : Type 0} (text_of : K → List ℕ) where
   pub added : (key : K) (thing : Named) (es : List (K × Named)) → meaning_of (text_of key) (seen es) ≡ None
       → seen (insert_entry (λ a b. bytes_eq (text_of a) (text_of b)) es key thing) ≡ with_name (seen es) (text_of key) thing
   added key thing [] h = refl
-  added key thing (e ∷ es) h = by (bytes_eq (text_of key) (text_of e.0)) refl h where
-    by : (b : Bool) → bytes_eq (text_of key) (text_of e.0) ≡ b → cond (bytes_eq (text_of key) (text_of e.0)) (Some e.1) (meaning_of (text_of key) (seen es)) ≡ None
+  added key thing (e ∷ es) h = by (λ none. added key thing es none) (bytes_eq (text_of key) (text_of e.0)) refl h where
+    by : (meaning_of (text_of key) (seen es) ≡ None → seen (insert_entry (λ a b. bytes_eq (text_of a) (text_of b)) es key thing) ≡ with_name (seen es) (text_of key) thing)
+        → (b : Bool) → bytes_eq (text_of key) (text_of e.0) ≡ b → cond (bytes_eq (text_of key) (text_of e.0)) (Some e.1) (meaning_of (text_of key) (seen es)) ≡ None
         → seen (cond (bytes_eq (text_of key) (text_of e.0)) ((e.0, thing) ∷ es) (e ∷ insert_entry (λ a b. bytes_eq (text_of a) (text_of b)) es key thing)) ≡ with_name (seen (e ∷ es)) (text_of key) thing
-    by true is none = absurd (true≢false (ap is_some (sym (ap (λ b. cond b (Some e.1) (meaning_of (text_of key) (seen es))) is) ∙ none)))
-    by false is none =
+    by later true is none = absurd (true≢false (ap is_some (sym (ap (λ b. cond b (Some e.1) (meaning_of (text_of key) (seen es))) is) ∙ none)))
+    by later false is none =
         ap (λ b. seen (cond b ((e.0, thing) ∷ es) (e ∷ insert_entry (λ a b. bytes_eq (text_of a) (text_of b)) es key thing))) is
-        ∙ ap (λ rest. (text_of e.0, e.1) ∷ rest) (added key thing es (sym (ap (λ b. cond b (Some e.1) (meaning_of (text_of key) (seen es))) is) ∙ none))
+        ∙ ap (λ rest. (text_of e.0, e.1) ∷ rest) (later (sym (ap (λ b. cond b (Some e.1) (meaning_of (text_of key) (seen es))) is) ∙ none))
 
   -- the entry at a place, and those after it
   at_place : (es : List (K × Named)) (place : ℕ) (e : K × Named) → slice_get es place ≡ Some e → drop place es ≡ e ∷ drop (place + 1) es
@@ -44,4 +45,4 @@ module _ {K : Type 0} (text_of : K → List ℕ) where
   is_later sort id es place e is has = ap (λ l. name_of sort id (seen l)) (at_place es place e is) ∙ ap (λ b. cond b (Some (text_of e.0)) (name_of sort id (seen (drop (place + 1) es)))) has
 
   pub is_nowhere : (sort : IdSort) (id : ℕ) (es : List (K × Named)) (place : ℕ) → length es ≤ place → name_of sort id (seen (drop place es)) ≡ None
-  is_nowhere sort id es place h = ap (λ l. name_of sort id (seen l)) (drop_all es place h)
+  is_nowhere sort id es place h = ap (λ l. name_of sort id (seen l)) (drop_all place es h)

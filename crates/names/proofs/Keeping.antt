@@ -1,5 +1,6 @@
 -- Each name stands for what is declared, and what has to have a name has one, after a declaration too.
-use Rattle.std.proofs.Common.{◌≡◌, ℕ, ◌+◌, ◌<◌, ◌≤◌, List, [], ◌∷◌, ◌++◌, length, set, get_or, Bool, true, false, Option, Some, None, is_none, Result, Ok, Err, ⊤, ⊥, refl, sym, ap, ◌∙◌, subst, arith, true≢false, option_and_then, slice_get, if◌then◌else◌, is_ok}
+use Rattle.std.specs.Bool.{⊤}
+use Rattle.std.proofs.Common.{◌≡◌, ℕ, ◌+◌, ◌<◌, ◌≤◌, List, [], ◌∷◌, ◌++◌, length, set, get_or, Bool, true, false, Option, Some, None, is_none, Result, Ok, Err, ⊥, refl, sym, ap, ◌∙◌, subst, arith, true≢false, option_and_then, slice_get, if◌then◌else◌, is_ok, OnErr}
 use Rattle.std.specs.Result.{result_unwrap_or}
 use Rattle.std.specs.List.{AllByRecursion}
 use Rattle.std.proofs.lemmas.List.{length-append, append-nil}
@@ -19,7 +20,8 @@ use Rattle.registry.proofs.Providing.{inputs-length}
 use Rattle.requests.specs.declared.declaration.Declaration.{Declaration}
 use Rattle.requests.specs.declared.declaration.Declaration.TheVariants as declare
 use Rattle.script.specs.declared.refusal.Refusal.{Refusal}
-use Rattle.script.specs.Reading.{◌>>=◌}
+use Rattle.script.specs.declared.refusal.LineError.{LineError}
+use Rattle.script.specs.Reading.{◌>>=◌, Gives}
 use Rattle.script.specs.Refused.{unless}
 use Rattle.names.specs.Adding.{World, world, new_in, new_refusals, next_named, passing, with_new, with_thing}
 use Rattle.names.specs.Declaring.{computed, declared_in, field_def}
@@ -171,3 +173,11 @@ still_kept rules w v declaration h grows kept =
       are_known = subst (λ names. AreKnown names v.declared) (sym s.names_are) (all-append (λ e. IsKnown v.declared e.1) w.names s.added (all_grown w.names w.declared v.declared grows kept.are_known) s.are_known);
       are_named = s.are_named kept.are_named;
     }
+
+-- after a declaration that is refused, or out of memory, all is as before
+pub keeps : (rules : Rules) (result : Result ⊤ LineError) (declaration : Declaration) (names after : NameList) (d next : Declarations)
+    → Gives (λ x. world after next) result (declared_in rules (world names d) declaration) → OnErr result (after ≡ names) → OnErr result (next ≡ d) → IsGrowth d next
+    → IsKept names d → IsKept after next
+keeps rules (Ok x) declaration names after d next answer names_same same grows kept = still_kept rules (world names d) (world after next) declaration answer grows kept
+keeps rules (Err e) declaration names after d next answer names_same same grows kept =
+    subst (λ ns. IsKept ns next) (sym names_same) (subst (λ ds. IsKept names ds) (sym same) kept)

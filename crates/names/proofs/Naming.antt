@@ -1,5 +1,5 @@
 -- What a refusal may name has a name, after a declaration too.
-use Rattle.std.proofs.Common.{◌≡◌, ℕ, zero, suc, ◌+◌, ◌<◌, ◌≤◌, ◌⊎◌, inl, inr, eq-or-lt_of_le, List, [], ◌∷◌, ◌++◌, length, Bool, true, false, ◌==◌, cond, Option, Some, None, is_some, slice_get, refl, sym, ap, ◌∙◌, subst, arith, true≢false}
+use Rattle.std.proofs.Common.{◌≡◌, ℕ, zero, suc, ◌+◌, ◌<◌, ◌≤◌, ◌⊎◌, inl, inr, eq-or-lt_of_le, List, [], ◌∷◌, ◌++◌, length, Bool, true, false, ◌==◌, cond, Option, Some, None, is_some, slice_get, refl, sym, ap, ◌∙◌, subst, arith, rules, true≢false}
 use Rattle.std.proofs.lemmas.Option.{slice_get_within}
 use Rattle.ext_tree.specs.declared.node.Node.{Node as Extension}
 use Rattle.ext_tree.specs.declared.node.Node.TheVariants as nodes
@@ -21,18 +21,18 @@ use Rattle.values.specs.Declarations.{Declarations, with_compartment, with_effec
 -- a name stays
 kept_name : (sort : IdSort) (id : ℕ) (names more : NameList) → HasName names sort id → HasName (names ++ more) sort id
 kept_name sort id [] more h = absurd (true≢false (sym h))
-kept_name sort id (e ∷ es) more h = here (has_id sort id e.1) h where
-  here : (b : Bool) → is_some (cond b (Some e.0) (name_of sort id es)) ≡ true → is_some (cond b (Some e.0) (name_of sort id (es ++ more))) ≡ true
-  here true h = refl
-  here false h = kept_name sort id es more h
+kept_name sort id (e ∷ es) more h = here (λ there. kept_name sort id es more there) (has_id sort id e.1) h where
+  here : (HasName es sort id → HasName (es ++ more) sort id) → (b : Bool) → is_some (cond b (Some e.0) (name_of sort id es)) ≡ true → is_some (cond b (Some e.0) (name_of sort id (es ++ more))) ≡ true
+  here later true h = refl
+  here later false h = later h
 
 -- the last name counts too
 last_name : (sort : IdSort) (id : ℕ) (names : NameList) (name : List ℕ) (thing : Named) → has_id sort id thing ≡ true → HasName (with_name names name thing) sort id
 last_name sort id [] name thing h = ap (λ b. is_some (cond b (Some name) None)) h
-last_name sort id (e ∷ es) name thing h = here (has_id sort id e.1) where
-  here : (b : Bool) → is_some (cond b (Some e.0) (name_of sort id (with_name es name thing))) ≡ true
-  here true = refl
-  here false = last_name sort id es name thing h
+last_name sort id (e ∷ es) name thing h = here (last_name sort id es name thing h) (has_id sort id e.1) where
+  here : HasName (with_name es name thing) sort id → (b : Bool) → is_some (cond b (Some e.0) (name_of sort id (with_name es name thing))) ≡ true
+  here later true = refl
+  here later false = later
 
 same_id : (n : ℕ) → (n == n) ≡ true
 same_id n = search rules
@@ -105,9 +105,9 @@ named_compartment names name d n = record {
   named id (inl e) = subst (λ i. HasName (with_name names name (Compartment d.compartments)) sorts.Compartment i) (sym e) last
   named id (inr l) = k.compartments id l
 
-is_slot : Extension → Bool
+abbrev is_slot : Extension → Bool
 is_slot (nodes.Slot compartment content) = true
-is_slot node = false
+is_slot _ = false
 
 -- inputs from a field are no slots
 named_inputs : (names : NameList) (d : Declarations) (field : ℕ) (ps : List Provided) → AreNamed names d → AreNamed names (with_inputs_from d field ps)

@@ -1,5 +1,6 @@
 -- What a declaration comes to, by what the registry answers.
-use Rattle.std.proofs.Common.{◌≡◌, ℕ, List, [], ◌∷◌, ◌++◌, length, take, Option, Some, None, Result, Ok, Err, IsOk, IsErr, IfErr, OnOk, OnErr, ⊤, refl, sym, ap, ◌∙◌, is_some, true≢false}
+use Rattle.std.specs.Bool.{⊤}
+use Rattle.std.proofs.Common.{◌≡◌, ℕ, List, [], ◌∷◌, ◌++◌, length, take, Option, Some, None, Result, Ok, Err, IsOk, IsErr, IfErr, OnOk, OnErr, refl, sym, ap, ◌∙◌, is_some, true≢false}
 use Rattle.values.specs.Declarations.{Declarations}
 use Rattle.registry.specs.declared.registry_error.RegistryError.{RegistryError}
 use Rattle.registry.specs.declared.registry_error.RegistryError.TheVariants as refused

@@ -27,9 +27,9 @@ fields : (id : ℕ) → id < 1 → HasName predeclared_names sorts.Field id
 fields zero h = refl
 fields (suc n) h = absurd (omega (arith, h))
 
-is_slot : Option Extension → Bool
+abbrev is_slot : Option Extension → Bool
 is_slot (Some (nodes.Slot compartment content)) = true
-is_slot node = false
+is_slot _ = false
 
 slots : (id compartment content : ℕ) → slice_get (nodes.Field 0 ∷ []) id ≡ Some (nodes.Slot compartment content) → HasName predeclared_names sorts.Node id
 slots zero compartment content h = refl

@@ -1,5 +1,5 @@
 // The names that are taken from the start.
-ghost use Rattle.std.specs.Prelude.{◌≡◌, ◌++◌, ◌∷◌, [], IfOk, None, OnErr, OnOk};
+ghost use Rattle.std.specs.Prelude.{◌≡◌, [], IfOk, None, OnOk, take};
 ghost use Rattle.std.specs.Str.{chars};
 ghost use Rattle.names.specs.Known.{IsKept};
 ghost use Rattle.names.specs.Names.{meaning_of, with_name};
@@ -26,41 +26,65 @@ impl Names {
         self.add(alloc, &name, thing)
     }
 
-    /// The names of the document, of the selection and of what a registry has from the start. `Err`: out of memory.
-    pub fn new(alloc: Global) -> Result<Names, AllocError>
-        ensures names { IfOk result (λ names. names ≡ predeclared_names) }
-        ensures kept { IfOk result (λ names. IsKept names predeclared) }
+    /// Adds the names of the document, of the selection and of the first facets to no names.
+    fn take_first(&mut self, alloc: Global) -> Result<(), AllocError>
+        requires { self.old ≡ [] }
+        ensures { OnOk result (self.new ≡ take 5 predeclared_names) }
     {
-        let mut names = Names::empty(alloc);
-        names.take(alloc, "doc", Named::Doc)?;
-        names.take(alloc, "selection", Named::Selection)?;
-        names.take(alloc, "saveSeparator", Named::Facet(SAVE_SEPARATOR))?;
-        names.take(
+        self.take(alloc, "doc", Named::Doc)?;
+        self.take(alloc, "selection", Named::Selection)?;
+        self.take(alloc, "saveSeparator", Named::Facet(SAVE_SEPARATOR))?;
+        self.take(
             alloc,
             "allowMultipleSelections",
             Named::Facet(ALLOW_MULTIPLE_SELECTIONS),
         )?;
-        names.take(alloc, "tabSize", Named::Facet(TAB_SIZE))?;
-        names.take(alloc, "readOnly", Named::Facet(READ_ONLY))?;
-        names.take(alloc, "changeFilter", Named::Facet(CHANGE_FILTER))?;
-        names.take(alloc, "transactionFilter", Named::Facet(TRANSACTION_FILTER))?;
-        names.take(
+        self.take(alloc, "tabSize", Named::Facet(TAB_SIZE))
+    }
+
+    /// Adds the names of the facets after those.
+    fn take_facets(&mut self, alloc: Global) -> Result<(), AllocError>
+        requires { self.old ≡ take 5 predeclared_names }
+        ensures { OnOk result (self.new ≡ take 10 predeclared_names) }
+    {
+        self.take(alloc, "readOnly", Named::Facet(READ_ONLY))?;
+        self.take(alloc, "changeFilter", Named::Facet(CHANGE_FILTER))?;
+        self.take(alloc, "transactionFilter", Named::Facet(TRANSACTION_FILTER))?;
+        self.take(
             alloc,
             "transactionExtender",
             Named::Facet(TRANSACTION_EXTENDER),
         )?;
-        names.take(alloc, "decorations", Named::Facet(DECORATIONS))?;
-        names.take(alloc, "historyConfig", Named::Facet(HISTORY_CONFIG))?;
-        names.take(alloc, "filterData", Named::Facet(FILTER_DATA))?;
-        names.take(alloc, "note", Named::Effect(NOTE))?;
-        names.take(
+        self.take(alloc, "decorations", Named::Facet(DECORATIONS))
+    }
+
+    /// Adds the names of the last facets, of the effect kind and of the field.
+    fn take_last(&mut self, alloc: Global) -> Result<(), AllocError>
+        requires { self.old ≡ take 10 predeclared_names }
+        ensures { OnOk result (self.new ≡ predeclared_names) }
+    {
+        self.take(alloc, "historyConfig", Named::Facet(HISTORY_CONFIG))?;
+        self.take(alloc, "filterData", Named::Facet(FILTER_DATA))?;
+        self.take(alloc, "note", Named::Effect(NOTE))?;
+        self.take(
             alloc,
             "history",
             Named::Field {
                 field: HISTORY,
                 node: HISTORY_NODE,
             },
-        )?;
+        )
+    }
+
+    /// The names of the document, of the selection and of what a registry has from the start. `Err`: out of memory.
+    pub fn new(alloc: Global) -> Result<Names, AllocError>
+        ensures names { IfOk result (λ names. names ≡ predeclared_names) }
+        ensures kept { IfOk result (λ names. IsKept names predeclared) }
+    {
+        let mut names = Names::empty(alloc);
+        names.take_first(alloc)?;
+        names.take_facets(alloc)?;
+        names.take_last(alloc)?;
         Ok(names)
     }
 }

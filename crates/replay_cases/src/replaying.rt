@@ -1,9 +1,8 @@
-ghost use Rattle.values.specs.Shipped.{shipped};
-ghost use Rattle.values.specs.Whole.{IsWhole};
+ghost use Rattle.std.specs.Prelude.{⊤};
 
 use cm_outside::{Leaves, MemSink, MemSource, MemStore, Piece, Status};
 use session::{LIMIT, replay};
-use shipped_kit::with_kit;
+use shipped_kit::{KitUser, lend_kit};
 use shipped_rules::Shipped;
 use std::alloc::{AllocError, Global};
 use values::Kit;
@@ -36,6 +35,24 @@ pub(crate) fn store(alloc: Global, failing: &[u64]) -> Result<MemStore, AllocErr
     Ok(MemStore::new(alloc, Vec::from_slice(alloc, failing)?, Leaves::AsBefore))
 }
 
+/// What a run over lines needs beside the kit.
+struct Replay<'a> {
+    limit: u64,
+    source: &'a mut MemSource,
+    sink: &'a mut MemSink,
+    store: &'a mut MemStore,
+}
+
+impl<'a> KitUser for Replay<'a> {
+    type Answer = Status;
+
+    ghost gives = { λ before answer after. ⊤ };
+
+    fn use_kit(&mut self, alloc: Global, kit: &Kit<Shipped>) -> Status {
+        replay(alloc, kit, self.limit, self.source, self.sink, self.store)
+    }
+}
+
 /// How a run by the shipped rules ends.
 pub(crate) fn replayed(
     alloc: Global,
@@ -44,12 +61,13 @@ pub(crate) fn replayed(
     sink: &mut MemSink,
     store: &mut MemStore,
 ) -> Result<Status, AllocError> {
-    with_kit(
-        alloc,
-        |kit: &Kit<Shipped>| -> Status
-            requires { IsWhole shipped kit.now }
-        { replay(alloc, kit, limit, source, sink, store) },
-    )
+    let mut replay = Replay {
+        limit,
+        source,
+        sink,
+        store,
+    };
+    lend_kit(alloc, &mut replay)
 }
 
 /// Whether a run over these lines ends `Ok` and writes exactly these replies.

@@ -1,11 +1,10 @@
-ghost use Rattle.values.specs.Shipped.{shipped};
-ghost use Rattle.values.specs.Whole.{IsWhole};
+ghost use Rattle.std.specs.Prelude.{⊤};
 
 use crate::replaying::{replayed, sink, source, store};
-use cm_outside::Status;
+use cm_outside::{MemSink, MemSource, MemStore, Status};
 use cm_plain::Str;
 use session::run;
-use shipped_kit::with_kit;
+use shipped_kit::{KitUser, lend_kit};
 use shipped_rules::Shipped;
 use std::alloc::{AllocError, Global};
 use std::test::Fail;
@@ -87,27 +86,37 @@ fn two_words_are_accepted_alone(rt: HostRuntime) -> Result<(), Fail> {
     Ok(())
 }
 
+/// What a run of the program needs beside the kit.
+struct Program<'a> {
+    words: &'a [Str],
+    source: &'a mut MemSource,
+    sink: &'a mut MemSink,
+    store: &'a mut MemStore,
+}
+
+impl<'a> KitUser for Program<'a> {
+    type Answer = Status;
+
+    ghost gives = { λ before answer after. ⊤ };
+
+    fn use_kit(&mut self, alloc: Global, kit: &Kit<Shipped>) -> Status {
+        run(alloc, self.words, kit, self.source, self.sink, self.store)
+    }
+}
+
 /// Whether the program's run over one line, with these words, ends so and writes this.
 fn run_ends(alloc: Global, words: &[&str], want: (Status, &[u8])) -> Result<bool, AllocError> {
     let words = words_of(alloc, words)?;
     let mut source = source(alloc, START, 100, &[])?;
     let mut sink = sink(alloc, &[])?;
     let mut store = store(alloc, &[])?;
-    let status = with_kit(
-        alloc,
-        |kit: &Kit<Shipped>| -> Status
-            requires { IsWhole shipped kit.now }
-        {
-            run(
-                alloc,
-                words.as_slice(),
-                kit,
-                &mut source,
-                &mut sink,
-                &mut store,
-            )
-        },
-    )?;
+    let mut program = Program {
+        words: words.as_slice(),
+        source: &mut source,
+        sink: &mut sink,
+        store: &mut store,
+    };
+    let status = lend_kit(alloc, &mut program)?;
     Ok(status == want.0 && sink.bytes() == want.1)
 }
 

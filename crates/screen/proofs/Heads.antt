@@ -34,6 +34,7 @@ found_one test (x ∷ xs) k b is takes only =
     after : test x ≡ false → ((i : ℕ) → slice_get xs i ≡ Some b → find test xs ≡ Some b) → (i : ℕ) → slice_get (x ∷ xs) i ≡ Some b → find test xs ≡ Some b
     after fails more zero found = cc
     after fails more (suc i) found = more i found
+
     by : ((i : ℕ) → slice_get xs i ≡ Some b → find test xs ≡ Some b) → (t : Bool) → test x ≡ t → cond t (Some x) (find test xs) ≡ Some b
     by more true passes = ap Some (only 0 x refl passes)
     by more false fails = after fails more k is

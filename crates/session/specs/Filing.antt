@@ -3,6 +3,7 @@ use Rattle.std.specs.Prelude.{ℕ, List, [], ◌∷◌, length, Option, None, So
 use Rattle.std.specs.Str.{bytes_eq}
 use Rattle.cm_outside.specs.Files.{Files}
 use Rattle.cm_plain.specs.declared.plain.Plain.TheVariants as plain
+use Rattle.facet_slots.specs.Stepping.{State}
 use Rattle.file_text.specs.Files.{saved_bytes, read_chars}
 use Rattle.names.specs.Names.{all_found, as_node}
 use Rattle.registry.specs.declared.predeclared.TheConstants.{SAVE_SEPARATOR}
@@ -32,12 +33,13 @@ separator_in v = codes "\n"
 abbrev pub with_file : Files → (name bytes : List ℕ) → Files
 with_file files name bytes other = if bytes_eq other name then Some bytes else files other
 
+-- the bytes that a save of a state writes
+abbrev pub bytes_of : State → List ℕ
+bytes_of s = saved_bytes (separator_in (facet_in s SAVE_SEPARATOR)) s.scene.document
+
 -- Save: the document's text with the save separator in place of each break, under a name
 abbrev pub save : PlainSession → Files → (name : List ℕ) → Result (Answer × Files) Refusal
-save s files name = do
-  state ← started s.state
-  let bytes = saved_bytes (separator_in (facet_in state SAVE_SEPARATOR)) state.scene.document in
-  Ok (Bytes (length bytes), with_file files name bytes)
+save s files name = started s.state >>= λ state. Ok (Bytes (length (bytes_of state)), with_file files name (bytes_of state))
 
 -- the bytes of a file, if there is one of this name
 abbrev pub or_missing : (name : List ℕ) → Option (List ℕ) → Result (List ℕ) Refusal

@@ -10,7 +10,7 @@
 -- lines), `machine` (Transcript.antt: what a line does, and the reply to it), `act` (Session.antt: what a command does) and
 -- `PlainSession` (State.antt); of the crate `state` the files Plainly.antt and Drafting.antt: one step. For `collab` the files
 -- Transcript.antt and Playing.antt of collab_run/specs. How input is cut into lines is cm_outside/specs/Lines.antt.
-use Rattle.std.specs.Prelude.{◌≡◌, ℕ, Option, Some, None, option_map}
+use Rattle.std.specs.Prelude.{◌≡◌, ℕ, Option, Some, None}
 use Rattle.cm_outside.specs.Answering.{AnswererTold}
 use Rattle.cm_outside.specs.Files.{Files}
 use Rattle.cm_outside.specs.Runs.{Run}
@@ -20,7 +20,7 @@ use Rattle.line_run.specs.Run.{Ran, RanAlone}
 use Rattle.values.specs.Rules.{Rules}
 use Rattle.words.specs.declared.words.Words.{Words}
 use Rattle.words.specs.declared.words.Words.TheVariants.{Replay, Collab}
-use Rattle.session.specs.State.{PlainSession, Desk, fresh}
+use Rattle.session.specs.State.{PlainSession, Desk, desk_of, fresh}
 use Rattle.session.specs.Transcript.{machine}
 use Rattle.collab_run.specs.Transcript as plays
 
@@ -32,10 +32,6 @@ byte_limit = 4294967296
 pub record StoreTold : Type 0 where
   pub files : Option Files
   pub faults : ℕ
-
--- a session beside a store, where that tells its files
-abbrev pub desk_of : PlainSession → Option Files → Option Desk
-desk_of s files = option_map (λ fs. record { session = s; files = fs }) files
 
 abbrev pub desk_told : PlainSession → StoreTold → AnswererTold Desk
 desk_told s store = record { plain = desk_of s store.files; faults = store.faults }

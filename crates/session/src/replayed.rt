@@ -1,5 +1,5 @@
 // A session with the kit by which it answers lines.
-ghost use Rattle.session.specs.Headline.{desk_of};
+ghost use Rattle.session.specs.State.{desk_of};
 ghost use Rattle.session.specs.Transcript.{machine};
 
 use crate::session::Session;

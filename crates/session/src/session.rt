@@ -8,11 +8,10 @@ ghost use Rattle.script.specs.declared.refusal.Refusal.{Refusal as RefusalData};
 ghost use Rattle.script.specs.declared.refusal.Refusal.TheVariants.{LineTooLong};
 ghost use Rattle.script.specs.Reading.{Gives};
 ghost use Rattle.values.specs.Whole.{IsWhole};
-ghost use Rattle.session.specs.Headline.{desk_of};
 ghost use Rattle.session.specs.Outcomes.{Done, done_by};
 ghost use Rattle.session.specs.PrivateSession.{DoneWith, IsGrownIn, IsRefusalText, is_inner};
 ghost use Rattle.session.specs.Session.{act, declare};
-ghost use Rattle.session.specs.State.{fresh, window_of};
+ghost use Rattle.session.specs.State.{desk_of, fresh, window_of};
 ghost use Rattle.session.specs.Transcript.{machine};
 
 use crate::filing::{opened, saved};

@@ -1,9 +1,10 @@
-// The kit of the shipped rules, lent to a call.
-ghost use Rattle.std.specs.Prelude.{◌≡◌, IfOk};
+// The kit of the shipped rules, lent to who uses it.
+ghost use Rattle.std.specs.Prelude.{◌≡◌, IfOk, OnErr};
 ghost use Rattle.values.specs.Shipped.{shipped};
 ghost use Rattle.values.specs.Stored.{Combines, Compares, Computes, ComputesLists, Creates, Extends, Filters, Guards, MapsEffects, Updates};
 ghost use Rattle.values.specs.Whole.{IsWhole};
 
+use crate::kit_user::KitUser;
 use change_desc::Desc;
 use listed::Listed;
 use shipped_rules::{
@@ -18,31 +19,29 @@ use values::{
     UpdateBox, UpdateView, Updater, Val,
 };
 
-/// What `act` makes of a kit that is lent to it. `Err`: there is none.
-fn lent<R, F: FnOnce(&Kit<Shipped>) -> R + Drop>(
+/// What a user makes of a kit. `Err`: there is none.
+fn lent<U: KitUser>(
+    alloc: Global,
     kit: Result<Kit<Shipped>, Gap>,
-    act: F,
-) -> Result<R, AllocError>
-    requires whole { IfOk kit (λ kit. IsWhole shipped kit) }
-    requires act { (kit : _) → IsWhole shipped kit.now → F.pre act kit }
-    ensures { IfOk result (λ made. (kit : _) × IsWhole shipped kit.now × F.post act kit made) }
+    user: &mut U,
+) -> Result<U::Answer, AllocError>
+    requires { IfOk kit (λ kit. IsWhole shipped kit) }
+    ensures given { IfOk result (λ answer. U.gives user.old answer user.new) }
+    ensures same { OnErr result (user.new ≡ user.old) }
 {
     match kit {
-        Ok(kit) => Ok(act(&kit)),
+        Ok(kit) => Ok(user.use_kit(alloc, &kit)),
         Err(_) => Err(AllocError),
     }
 }
 
-/// What `act` makes of the whole kit of the shipped rules, which is lent to it once. `Err`: out of memory, and `act` wasn't called.
+/// What a user makes of the kit of the shipped rules, which is lent to it once. `Err`: out of memory, and the user is as before.
 //
-// The ten sorts stand in one body: a function that made the rules of one sort would hand out boxed closures, whose clauses its
-// callers couldn't rely on, and a macro holds no clause.
-pub fn with_kit<R, F: FnOnce(&Kit<Shipped>) -> R + Drop>(
-    alloc: Global,
-    act: F,
-) -> Result<R, AllocError>
-    requires { (kit : _) → IsWhole shipped kit.now → F.pre act kit }
-    ensures { IfOk result (λ made. (kit : _) × IsWhole shipped kit.now × F.post act kit made) }
+// All ten sorts stand in one body: a function that made the rules of one sort would hand out boxed closures, on whose clauses its
+// caller couldn't rely, and a macro holds no clause.
+pub fn lend_kit<U: KitUser>(alloc: Global, user: &mut U) -> Result<U::Answer, AllocError>
+    ensures given { IfOk result (λ answer. U.gives user.old answer user.new) }
+    ensures same { OnErr result (user.new ≡ user.old) }
 {
     let combiners = each_or_none(
         alloc,
@@ -206,5 +205,5 @@ pub fn with_kit<R, F: FnOnce(&Kit<Shipped>) -> R + Drop>(
         filters,
         extenders,
     });
-    lent(kit, act)
+    lent(alloc, kit, user)
 }

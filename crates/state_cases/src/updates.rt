@@ -242,7 +242,7 @@ fn all_give(
 }
 
 /// The index of the first case that fails; past them all where nothing could be declared.
-pub(crate) fn first_failure(
+fn first_failure(
     alloc: Global,
     kit: &Kit<Shipped>,
     cases: &[(&str, Case<'_>, &[Has<'_>])],
