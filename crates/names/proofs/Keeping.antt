@@ -1,6 +1,6 @@
 -- Each name stands for what is declared, and what has to have a name has one, after a declaration too.
 use Rattle.std.specs.Bool.{⊤}
-use Rattle.std.proofs.Common.{◌≡◌, ℕ, ◌+◌, ◌<◌, ◌≤◌, List, [], ◌∷◌, ◌++◌, length, set, get_or, Bool, true, false, Option, Some, None, is_none, Result, Ok, Err, ⊥, refl, sym, ap, ◌∙◌, subst, arith, true≢false, option_and_then, slice_get, if◌then◌else◌, is_ok, OnErr}
+use Rattle.std.proofs.Common.{◌≡◌, ℕ, ◌+◌, ◌<◌, ◌≤◌, List, [], ◌∷◌, ◌++◌, length, set, get_or, Bool, true, false, Option, Some, None, is_none, Result, Ok, Err, refl, sym, ap, ◌∙◌, subst, arith, true≢false, option_and_then, slice_get, if◌then◌else◌, is_ok, OnErr}
 use Rattle.std.specs.Result.{result_unwrap_or}
 use Rattle.std.specs.List.{AllByRecursion}
 use Rattle.std.proofs.lemmas.List.{length-append, append-nil}
@@ -14,22 +14,27 @@ use Rattle.values.specs.Growth.{IsGrowth, Keeps}
 use Rattle.values.specs.Rules.{Rules}
 use Rattle.registry.specs.declared.provided.Provided.{Provided}
 use Rattle.registry.specs.declared.registry_error.RegistryError.{RegistryError}
-use Rattle.registry.specs.Refusals.{first_of}
-use Rattle.registry.specs.WholeFields.{with_inputs_from, with_input_from, with_whole_field}
+use Rattle.registry.specs.Refusals.{first_of, pair_refusals}
+use Rattle.registry.specs.WholeFields.{whole_field_refusals, with_inputs_from, with_input_from, with_whole_field}
 use Rattle.registry.proofs.Providing.{inputs-length}
 use Rattle.requests.specs.declared.declaration.Declaration.{Declaration}
+use Rattle.requests.specs.declared.effect_declarations.InverseDeclaration.{InverseDeclaration}
+use Rattle.requests.specs.declared.field_declaration.FieldDeclaration.{FieldDeclaration}
+use Rattle.requests.specs.declared.written.Written.{Written}
+use Rattle.names.specs.Sets.{value_of}
+use Rattle.values.specs.declared.val.Val.{Val}
 use Rattle.requests.specs.declared.declaration.Declaration.TheVariants as declare
 use Rattle.script.specs.declared.refusal.Refusal.{Refusal}
 use Rattle.script.specs.declared.refusal.LineError.{LineError}
 use Rattle.script.specs.Reading.{◌>>=◌, Gives}
 use Rattle.script.specs.Refused.{unless}
 use Rattle.names.specs.Adding.{World, world, new_in, new_refusals, next_named, passing, with_new, with_thing}
-use Rattle.names.specs.Declaring.{computed, declared_in, field_def}
+use Rattle.names.specs.Declaring.{computed, declared_in, field_def, field_in, field_names, field_things, field_with, inverse_in, one_of}
 use Rattle.names.specs.declared.new_thing.NewThing.{NewThing}
 use Rattle.names.specs.declared.new_thing.NewThing.TheVariants as new
 use Rattle.names.proofs.Naming.{named_compartment, named_effect, named_facet, named_field, named_node, named_pair}
 use Rattle.names.specs.Known.{AreKnown, AreNamed, IsKept, IsKnown}
-use Rattle.names.specs.Names.{NameList, with_name}
+use Rattle.names.specs.Names.{NameList, all_found, as_compartment, as_effect, as_facet, as_field, as_node, as_read, found, is_free, with_name}
 use Rattle.names.specs.RegistryRefusals.{registry_refusal}
 use Rattle.names.specs.declared.named.Named.{Named}
 use Rattle.names.specs.declared.named.Named.TheVariants.{Doc, Selection, Compartment, Effect, Facet, Field, Node}
@@ -62,10 +67,10 @@ record Steps (w v : World) : Type 0 where
 
 -- what holds however it was read on
 read_on : {A B P : Type 0} (r : Result A Refusal) (f : A → Result B Refusal) (y : B) → ((x : A) → f x ≡ Ok y → P) → (r >>= f) ≡ Ok y → P
-read_on (Ok x) f y then h = then x h
-read_on (Err e) f y then h = absurd (true≢false (sym (ap is_ok h)))
+read_on (Ok x) f y goes h = goes x h
+read_on (Err e) f y goes h = absurd (true≢false (sym (ap is_ok h)))
 
-same : {A : Type 0} (x y : A) → Ok {T = A} {E = Refusal} x ≡ Ok y → x ≡ y
+same : {A : Type 0} (x y : A) → (let r : Result A Refusal = Ok x in r) ≡ Ok y → x ≡ y
 same x y h = ap (λ r. result_unwrap_or r x) h
 
 was_passed : (refusal : Option Refusal) (next declared : Declarations) → unless refusal next ≡ Ok declared → declared ≡ next
@@ -146,24 +151,56 @@ new_next : (rules : Rules) (w v : World) (name other : List ℕ) (thing : NewThi
 new_next rules w v name other thing h =
     named_next w v name (next_named w.declared thing) (λ id. other) (new_refusals rules w.declared thing) (with_new w.declared thing) (thing_known w.declared thing) (λ n. thing_named w.names name w.declared thing n) h
 
+-- a declaration under a name that is free
+free_next : (rules : Rules) (w v : World) (name other : List ℕ) (thing : NewThing) → (is_free w.names name >>= λ free. new_in rules w name other thing) ≡ Ok v → Steps w v
+free_next rules w v name other thing h = read_on (is_free w.names name) (λ free. new_in rules w name other thing) v (λ free h. new_next rules w v name other thing h) h
+
+-- after one look-up
+one_next : {A : Type 0} (rules : Rules) (w v : World) (r : Result A Refusal) (name other : List ℕ) (thing : A → NewThing)
+    → (r >>= λ x. is_free w.names name >>= λ free. new_in rules w name other (thing x)) ≡ Ok v → Steps w v
+one_next rules w v r name other thing h =
+    read_on r (λ x. is_free w.names name >>= λ free. new_in rules w name other (thing x)) v (λ x h. free_next rules w v name other (thing x) h) h
+
+-- after two
+two_next : {A B : Type 0} (rules : Rules) (w v : World) (r : Result A Refusal) (q : Result B Refusal) (name other : List ℕ) (thing : A → B → NewThing)
+    → (r >>= λ x. q >>= λ y. is_free w.names name >>= λ free. new_in rules w name other (thing x y)) ≡ Ok v → Steps w v
+two_next rules w v r q name other thing h =
+    read_on r (λ x. q >>= λ y. is_free w.names name >>= λ free. new_in rules w name other (thing x y)) v (λ x h. one_next rules w v q name other (thing x) h) h
+
+-- after one, with a value that is written
+value_next : {A : Type 0} (rules : Rules) (w v : World) (r : Result A Refusal) (written : Written) (name other : List ℕ) (thing : A → Val → NewThing)
+    → (r >>= λ x. is_free w.names name >>= λ free. value_of written >>= λ value. new_in rules w name other (thing x value)) ≡ Ok v → Steps w v
+value_next rules w v r written name other thing h =
+    read_on r (λ x. is_free w.names name >>= λ free. value_of written >>= λ value. new_in rules w name other (thing x value)) v
+    (λ x h. read_on (is_free w.names name) (λ free. value_of written >>= λ value. new_in rules w name other (thing x value)) v
+    (λ free h. read_on (value_of written) (λ value. new_in rules w name other (thing x value)) v (λ value h. new_next rules w v name other (thing x value) h) h) h) h
+
+-- a pair of effect kinds
+pair_next : (w v : World) (i : InverseDeclaration) → inverse_in w i ≡ Ok v → Steps w v
+pair_next w v i h = read_on (found as_effect w.names i.effect) (λ effect. found as_effect w.names i.back >>= λ back. passing (one_of effect i.effect i.back) (first_of (pair_refusals w.declared effect back)) (with_pair w.declared effect back) >>= λ declared. Ok (world w.names declared)) v
+    (λ effect h. read_on (found as_effect w.names i.back) (λ back. passing (one_of effect i.effect i.back) (first_of (pair_refusals w.declared effect back)) (with_pair w.declared effect back) >>= λ declared. Ok (world w.names declared)) v (λ back h. paired w v effect back (one_of effect i.effect i.back) (pair_refusals w.declared effect back) h) h) h
+
+-- a field
+field_next : (rules : Rules) (w v : World) (f : FieldDeclaration) → field_in rules w f ≡ Ok v → Steps w v
+field_next rules w v f h = read_on (field_things w.names f) (λ things. is_free w.names f.name >>= λ free. field_with rules w f things) v
+    (λ things h. read_on (is_free w.names f.name) (λ free. field_with rules w f things) v
+    (λ free h. named_next w v f.name (Field (length w.declared.fields) (length w.declared.nodes + length things.provided)) (field_names rules f things.provided)
+    (whole_field_refusals rules w.declared (field_def f things.reads things.listens) things.provided) (with_whole_field w.declared (field_def f things.reads things.listens) things.provided)
+    (field_known w.declared (field_def f things.reads things.listens) things.provided) (λ n. named_field w.names f.name w.declared (field_def f things.reads things.listens) things.provided n) h) h) h
+
 steps : (rules : Rules) (w v : World) (declaration : Declaration) → declared_in rules w declaration ≡ Ok v → Steps w v
-steps rules w v (declare.Effect e) h = read_on _ _ v (λ free h. new_next rules w v e.name e.name (new.Effect e.map) h) h
-steps rules w v (declare.Inverse i) h = read_on _ _ v (λ effect h. read_on _ _ v (λ back h. paired w v effect back _ _ h) h) h
-steps rules w v (declare.Facet f) h = read_on _ _ v (λ enables h. read_on _ _ v (λ free h. new_next rules w v f.name f.name (new.Facet f.def enables) h) h) h
-steps rules w v (declare.Field f) h =
-    read_on _ _ v
-    (λ things h. read_on _ _ v
-    (λ free h.
-    named_next w v _ _ _ _ _ (field_known w.declared (field_def f things.reads things.listens) things.provided)
-    (λ n. named_field w.names f.name w.declared (field_def f things.reads things.listens) things.provided n) h) h) h
-steps rules w v (declare.Compartment c) h = read_on _ _ v (λ free h. new_next rules w v c.name c.name new.Compartment h) h
-steps rules w v (declare.Input i) h = read_on _ _ v (λ facet h. read_on _ _ v (λ free h. read_on _ _ v (λ value h. new_next rules w v i.name i.facet (new.Input facet value) h) h) h) h
-steps rules w v (declare.Compute c) h = read_on _ _ v (λ facet h. read_on _ _ v (λ rs h. read_on _ _ v (λ free h. new_next rules w v c.name c.facet (computed c.many facet c.rule rs) h) h) h) h
-steps rules w v (declare.From f) h = read_on _ _ v (λ facet h. read_on _ _ v (λ field h. read_on _ _ v (λ free h. new_next rules w v f.name f.facet (new.From facet field f.rule) h) h) h) h
-steps rules w v (declare.Init i) h = read_on _ _ v (λ field h. read_on _ _ v (λ free h. read_on _ _ v (λ value h. new_next rules w v i.name i.field (new.Init field value) h) h) h) h
-steps rules w v (declare.Group g) h = read_on _ _ v (λ of h. read_on _ _ v (λ free h. new_next rules w v g.name g.name (new.Group of) h) h) h
-steps rules w v (declare.Prec p) h = read_on _ _ v (λ of h. read_on _ _ v (λ free h. new_next rules w v p.name p.name (new.Prec p.at of) h) h) h
-steps rules w v (declare.Slot s) h = read_on _ _ v (λ compartment h. read_on _ _ v (λ of h. read_on _ _ v (λ free h. new_next rules w v s.name s.name (new.Slot compartment of) h) h) h) h
+steps rules w v (declare.Effect e) h = free_next rules w v e.name e.name (new.Effect e.map) h
+steps rules w v (declare.Inverse i) h = pair_next w v i h
+steps rules w v (declare.Facet f) h = one_next rules w v (all_found as_node w.names f.enables) f.name f.name (λ enables. new.Facet f.def enables) h
+steps rules w v (declare.Field f) h = field_next rules w v f h
+steps rules w v (declare.Compartment c) h = free_next rules w v c.name c.name new.Compartment h
+steps rules w v (declare.Input i) h = value_next rules w v (found as_facet w.names i.facet) i.value i.name i.facet (λ facet value. new.Input facet value) h
+steps rules w v (declare.Compute c) h = two_next rules w v (found as_facet w.names c.facet) (all_found as_read w.names c.deps) c.name c.facet (λ facet rs. computed c.many facet c.rule rs) h
+steps rules w v (declare.From f) h = two_next rules w v (found as_facet w.names f.facet) (found as_field w.names f.field) f.name f.facet (λ facet field. new.From facet field f.rule) h
+steps rules w v (declare.Init i) h = value_next rules w v (found as_field w.names i.field) i.value i.name i.field (λ field value. new.Init field value) h
+steps rules w v (declare.Group g) h = one_next rules w v (all_found as_node w.names g.of) g.name g.name (λ of. new.Group of) h
+steps rules w v (declare.Prec p) h = one_next rules w v (found as_node w.names p.of) p.name p.name (λ of. new.Prec p.at of) h
+steps rules w v (declare.Slot s) h = two_next rules w v (found as_compartment w.names s.compartment) (found as_node w.names s.of) s.name s.name (λ compartment of. new.Slot compartment of) h
 
 -- what the names and the registry keep
 pub still_kept : (rules : Rules) (w v : World) (declaration : Declaration) → declared_in rules w declaration ≡ Ok v → IsGrowth w.declared v.declared → IsKept w.names w.declared → IsKept v.names v.declared
@@ -178,6 +215,6 @@ still_kept rules w v declaration h grows kept =
 pub keeps : (rules : Rules) (result : Result ⊤ LineError) (declaration : Declaration) (names after : NameList) (d next : Declarations)
     → Gives (λ x. world after next) result (declared_in rules (world names d) declaration) → OnErr result (after ≡ names) → OnErr result (next ≡ d) → IsGrowth d next
     → IsKept names d → IsKept after next
-keeps rules (Ok x) declaration names after d next answer names_same same grows kept = still_kept rules (world names d) (world after next) declaration answer grows kept
-keeps rules (Err e) declaration names after d next answer names_same same grows kept =
-    subst (λ ns. IsKept ns next) (sym names_same) (subst (λ ds. IsKept names ds) (sym same) kept)
+keeps rules (Ok x) declaration names after d next answer names_same unchanged grows kept = still_kept rules (world names d) (world after next) declaration answer grows kept
+keeps rules (Err e) declaration names after d next answer names_same unchanged grows kept =
+    subst (λ ns. IsKept ns next) (sym names_same) (subst (λ ds. IsKept names ds) (sym unchanged) kept)

@@ -6,6 +6,7 @@ use Rattle.ext_tree.specs.declared.node.Node.TheVariants as nodes
 use Rattle.configuration.specs.declared.facet_def.FacetDef.{FacetDef}
 use Rattle.configuration.specs.declared.field_def.FieldDef.{FieldDef}
 use Rattle.configuration.specs.declared.node_def.NodeDef.{NodeDef}
+use Rattle.configuration.specs.declared.node_def.NodeDef.TheVariants as defs
 use Rattle.names.specs.Known.{AreNamed, HasName}
 use Rattle.names.specs.Names.{NameList, has_id, name_of, with_name}
 use Rattle.names.specs.declared.named.Named.{Named}
@@ -131,5 +132,5 @@ pub named_field : (names : NameList) (name : List ℕ) (d : Declarations) (def :
 named_field names name d def ps n =
     let all = with_name names name (Field (length d.fields) (length d.nodes + length ps)) in
     let made = with_inputs_from (with_field d def) (length d.fields) ps in
-    let k = more_nodes all made (nodes.Field (length d.fields)) _ (named_inputs all (with_field d def) (length d.fields) ps (named_last_field names name d def (length d.nodes + length ps) n)) (λ compartment content h. absurd (true≢false (sym (ap is_slot h)))) in
+    let k = more_nodes all made (nodes.Field (length d.fields)) defs.Field (named_inputs all (with_field d def) (length d.fields) ps (named_last_field names name d def (length d.nodes + length ps) n)) (λ compartment content h. absurd (true≢false (sym (ap is_slot h)))) in
     record { facets = k.facets; fields = k.fields; compartments = k.compartments; slots = k.slots }

@@ -72,7 +72,7 @@ none_gone (Err error) count names after counted h = h ∙ ap (λ n. take n names
   take_whole (n ∷ ns) = ap (λ rest. n ∷ rest) (take_whole ns)
 
 -- a refusal leaves what the registry leaves
-pub leaves : {T P : Type 0} (result : Result ⊤ LineError) (outcome : Result T RegistryError) → OnErr result (IsErr outcome) → OnErr outcome P → OnErr result P
-leaves (Ok x) outcome failed h = tt
-leaves (Err e) (Ok t) failed h = absurd (true≢false (sym failed))
-leaves (Err e) (Err error) failed h = h
+pub leaves : {T : Type 0} (P : Type 0) (result : Result ⊤ LineError) (outcome : Result T RegistryError) → OnErr result (IsErr outcome) → OnErr outcome P → OnErr result P
+leaves P (Ok x) outcome failed h = tt
+leaves P (Err e) (Ok t) failed h = absurd (true≢false (sym failed))
+leaves P (Err e) (Err error) failed h = h

@@ -1,5 +1,5 @@
 // Declarations of fields.
-ghost use Rattle.std.specs.Prelude.{◌≡◌, ◌+◌, IfOk, None, OnErr, OnOk, length};
+ghost use Rattle.std.specs.Prelude.{◌≡◌, ◌==◌, ◌+◌, IfOk, None, OnErr, OnOk, length, position};
 ghost use Rattle.script.specs.Reading.{Gives};
 ghost use Rattle.registry.specs.Refusals.{is_rule};
 ghost use Rattle.values.specs.Growth.{IsGrowth};
@@ -31,6 +31,13 @@ struct FieldIdNames<'a> {
     provided: &'a [Provided],
 }
 
+/// The place of the first input of a facet among those that a field provides.
+fn place_of(provided: &[Provided], id: u32) -> Option<usize>
+    ensures { result ≡ position (λ q. q.facet == id) provided.now }
+{
+    provided.iter().position(|made| made.facet == id)
+}
+
 /// The name of a facet among those that a field provides inputs of, and else the field's own.
 fn provided_name<'a>(
     own: &'a Str,
@@ -40,7 +47,7 @@ fn provided_name<'a>(
 ) -> &'a Str
     ensures { result.now ≡ provided_name own.now provides.now provided.now id }
 {
-    match provided.iter().position(|made| made.facet == id) {
+    match place_of(provided, id) {
         None => own,
         Some(place) => match provides.get(place) {
             None => own,

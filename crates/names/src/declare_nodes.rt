@@ -3,8 +3,7 @@ ghost use Rattle.std.specs.Prelude.{◌≡◌, OnErr};
 ghost use Rattle.script.specs.Reading.{Gives};
 ghost use Rattle.values.specs.Growth.{IsGrowth};
 ghost use Rattle.names.specs.Adding.{world};
-ghost use Rattle.names.specs.Declaring.{compute_in, computed, from_in, group_in, init_in, input_in, node_in, node_refusals, prec_in, slot_in, with_new_thing};
-ghost use Rattle.names.specs.Names.{meaning_of, with_name};
+ghost use Rattle.names.specs.Declaring.{compute_in, computed, from_in, group_in, init_in, input_in, prec_in, slot_in};
 
 use crate::declare_new::declare_new;
 use crate::finding::{Compartments, Facets, Fields, Nodes, Reads, all_found, found};

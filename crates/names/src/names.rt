@@ -57,8 +57,12 @@ impl Names {
     {
         for place in 0..self.entries.len() {
             match self.entries.get_index(place) {
-                Some((name, thing)) if has_id(sort, id, *thing) => return Some(name.as_slice()),
-                _ => {}
+                Some((name, thing)) => {
+                    if has_id(sort, id, *thing) {
+                        return Some(name.as_slice());
+                    }
+                }
+                None => {}
             }
         }
         None

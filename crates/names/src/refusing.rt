@@ -9,7 +9,6 @@ use registry::{IdSort, RegistryError, RuleSort};
 use script::{DeclarationRefusal, LineError, Refusal};
 use std::alloc::{AllocError, Global};
 
-#[tactic(auto, unfolding(std::specs::Str::chars))]
 fn rule_sort_word(alloc: Global, sort: RuleSort) -> Result<Str, AllocError>
     ensures { IfOk result (λ word. word ≡ rule_sort_word sort) }
 {
@@ -24,7 +23,6 @@ fn rule_sort_word(alloc: Global, sort: RuleSort) -> Result<Str, AllocError>
     }
 }
 
-#[tactic(auto, unfolding(std::specs::Str::chars))]
 fn kind_word(alloc: Global, kind: IdSort) -> Result<Str, AllocError>
     ensures { IfOk result (λ word. word ≡ kind_word kind) }
 {
