@@ -83,11 +83,11 @@ impl<'a, R: Files + AllocGlobal> FolderStore<'a, R> {
     }
 
     /// Counts a fault.
-    fn counted<T: Drop>(&mut self, result: Result<T, StoreFault>) -> Result<T, StoreFault> {
-        if let Err(StoreFault::Failed) = result {
+    fn counted<T: Drop>(&mut self, outcome: Result<T, StoreFault>) -> Result<T, StoreFault> {
+        if let Err(StoreFault::Failed) = outcome {
             self.faults = self.faults.saturating_add(1);
         }
-        result
+        outcome
     }
 
     fn load_named(&self, name: &Str) -> Result<Option<Vec<u8>>, StoreFault> {

@@ -44,3 +44,10 @@ abbrev pub delete_spec : Side → SceneView → Option (Spec Val)
 delete_spec side s =
     cond (s.read_only || list_all (has_nothing side s.document) s.selection.ranges) None
     (Some (editing s (map (deleted side s.document) s.selection.ranges) None (delete_event side)))
+
+-- what the commands of the two sides send
+abbrev pub delete_back_spec : SceneView → Option (Spec Val)
+delete_back_spec s = delete_spec Back s
+
+abbrev pub delete_forward_spec : SceneView → Option (Spec Val)
+delete_forward_spec s = delete_spec Forward s

@@ -1,10 +1,9 @@
 -- The command `do`: a command of the editor (Reference Manual: StateCommand).
 use Rattle.std.specs.Prelude.{ℕ, List, [], ◌∷◌, Bool, true, false, length, Option, None, Some, Result, Ok}
 use Rattle.line_tree.specs.Text.{cut}
-use Rattle.commands.specs.declared.side.Side.TheVariants.{Back, Forward}
 use Rattle.commands.specs.Editing.{SceneView}
 use Rattle.commands.specs.Inserting.{insert_spec, newline_spec}
-use Rattle.commands.specs.Deleting.{delete_spec}
+use Rattle.commands.specs.Deleting.{delete_back_spec, delete_forward_spec}
 use Rattle.commands.specs.Moving.{move_spec, select_all_spec}
 use Rattle.commands.specs.Undoing.{undo_spec, redo_spec, undo_selection_spec, redo_selection_spec}
 use Rattle.facet_slots.specs.Stepping.{State}
@@ -28,8 +27,8 @@ use Rattle.session.specs.Views.{scene_of}
 abbrev pub sent : EditorCommand → SceneView → DoRequest → Option (Spec Val)
 sent Insert scene r = insert_spec scene (cut r.text)
 sent Newline scene r = newline_spec scene
-sent DeleteBack scene r = delete_spec Back scene
-sent DeleteForward scene r = delete_spec Forward scene
+sent DeleteBack scene r = delete_back_spec scene
+sent DeleteForward scene r = delete_forward_spec scene
 sent Move scene r = move_spec scene r.direction r.extend
 sent SelectAll scene r = select_all_spec scene
 sent Undo scene r = undo_spec scene

@@ -38,7 +38,12 @@ fn made<K: Drop>(key: Result<K, KeyError>) -> Result<K, AllocError>
 impl<M: Meanings> Model for Keys<M> {
     ghost use Rattle.session.specs.PrivateKeys.{KeysView, AreKeys};
 
+    ghost use Rattle.std.specs.Coded.{codes};
+    ghost use Rattle.cm_plain.specs.Form.{coded_form};
+
     ghost Value = { KeysView };
+
+    ghost coded = { Prim.hlevel (codes, coded_form) };
 
     ghost view = { λ k. record { read_only = k.read_only; tab_size = k.tab_size; decorations = k.decorations; history = k.history } };
 

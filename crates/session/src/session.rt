@@ -53,7 +53,7 @@ impl<M: Meanings> Model for Session<M> {
     ghost use Rattle.facet_slots.specs.Agreement.{IsGrown};
     ghost use Rattle.facet_slots.specs.Lent.{definitions};
     ghost use Rattle.facet_slots.specs.Slotted.{Slotted};
-    ghost use Rattle.names.specs.Declaring.{world};
+    ghost use Rattle.names.specs.Adding.{world};
     ghost use Rattle.session.specs.Outcomes.{plain_state};
     ghost use Rattle.session.specs.State.{PlainSession};
 
