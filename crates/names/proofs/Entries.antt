@@ -1,5 +1,5 @@
 -- Names as a map keeps them.
-use Rattle.std.proofs.Common.{◌≡◌, ℕ, zero, suc, take, ◌+◌, ◌≤◌, List, [], ◌∷◌, ◌++◌, map, drop, length, cond, Bool, true, false, Option, Some, None, slice_get, refl, sym, ap, ◌∙◌, is_some, true≢false}
+use Rattle.std.proofs.Common.{◌≡◌, ℕ, zero, suc, take, ◌+◌, ◌≤◌, List, [], ◌∷◌, map, drop, length, cond, Bool, true, false, Some, None, slice_get, refl, sym, ap, ◌∙◌, is_some, true≢false}
 use Rattle.std.proofs.lemmas.List.{drop_more, drop_all}
 use Rattle.std.proofs.lemmas.Option.{get_or_from_slice_get, slice_get_within}
 use Rattle.std.specs.Global.{Vec}

@@ -1,15 +1,14 @@
 -- Each name stands for what is declared, and what has to have a name has one, after a declaration too.
 use Rattle.std.specs.Bool.{⊤}
-use Rattle.std.proofs.Common.{◌≡◌, ℕ, ◌+◌, ◌<◌, ◌≤◌, List, [], ◌∷◌, ◌++◌, length, set, get_or, Bool, true, false, Option, Some, None, is_none, Result, Ok, Err, refl, sym, ap, ◌∙◌, subst, arith, true≢false, option_and_then, slice_get, if◌then◌else◌, is_ok, OnErr}
+use Rattle.std.proofs.Common.{◌≡◌, ℕ, ◌+◌, ◌<◌, List, [], ◌∷◌, ◌++◌, length, get_or, Option, Some, None, Result, Ok, Err, refl, sym, ap, ◌∙◌, subst, arith, true≢false, option_and_then, is_ok, OnErr}
 use Rattle.std.specs.Result.{result_unwrap_or}
-use Rattle.std.specs.List.{AllByRecursion}
 use Rattle.std.proofs.lemmas.List.{length-append, append-nil}
 use Rattle.std.proofs.lemmas.Option.{slice_get_within, slice_get-get_or}
 use Rattle.ext_tree.proofs.Done.{all-append}
 use Rattle.configuration.specs.declared.field_def.FieldDef.{FieldDef}
 use Rattle.configuration.specs.declared.node_def.NodeDef.TheVariants as defs
 use Rattle.ext_tree.specs.declared.node.Node.TheVariants as tree
-use Rattle.values.specs.Declarations.{Declarations, with_field, with_node, with_pair}
+use Rattle.values.specs.Declarations.{Declarations, with_field, with_pair}
 use Rattle.values.specs.Growth.{IsGrowth, Keeps}
 use Rattle.values.specs.Rules.{Rules}
 use Rattle.registry.specs.declared.provided.Provided.{Provided}

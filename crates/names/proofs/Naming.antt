@@ -1,5 +1,5 @@
 -- What a refusal may name has a name, after a declaration too.
-use Rattle.std.proofs.Common.{◌≡◌, ℕ, zero, suc, ◌+◌, ◌<◌, ◌≤◌, ◌⊎◌, inl, inr, eq-or-lt_of_le, List, [], ◌∷◌, ◌++◌, length, Bool, true, false, ◌==◌, cond, Option, Some, None, is_some, slice_get, refl, sym, ap, ◌∙◌, subst, arith, rules, true≢false}
+use Rattle.std.proofs.Common.{◌≡◌, ℕ, ◌+◌, ◌<◌, ◌⊎◌, inl, inr, eq-or-lt_of_le, List, [], ◌∷◌, ◌++◌, length, Bool, true, false, ◌==◌, cond, Option, Some, None, is_some, refl, sym, ap, subst, arith, rules, true≢false}
 use Rattle.std.proofs.lemmas.Option.{slice_get_within}
 use Rattle.ext_tree.specs.declared.node.Node.{Node as Extension}
 use Rattle.ext_tree.specs.declared.node.Node.TheVariants as nodes

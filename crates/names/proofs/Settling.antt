@@ -1,6 +1,6 @@
 -- What a declaration comes to, by what the registry answers.
 use Rattle.std.specs.Bool.{⊤}
-use Rattle.std.proofs.Common.{◌≡◌, ℕ, List, [], ◌∷◌, ◌++◌, length, take, Option, Some, None, Result, Ok, Err, IsOk, IsErr, IfErr, OnOk, OnErr, refl, sym, ap, ◌∙◌, is_some, true≢false}
+use Rattle.std.proofs.Common.{◌≡◌, ℕ, List, [], ◌∷◌, ◌++◌, length, take, Option, Some, Result, Ok, Err, IsOk, IsErr, IfErr, OnOk, OnErr, refl, sym, ap, ◌∙◌, is_some, true≢false}
 use Rattle.values.specs.Declarations.{Declarations}
 use Rattle.registry.specs.declared.registry_error.RegistryError.{RegistryError}
 use Rattle.registry.specs.declared.registry_error.RegistryError.TheVariants as refused
@@ -8,7 +8,7 @@ use Rattle.registry.specs.Refusals.{first_of, IsRefused, Passes}
 use Rattle.script.specs.declared.refusal.Refusal.{Refusal}
 use Rattle.script.specs.declared.refusal.LineError.{LineError}
 use Rattle.script.specs.declared.refusal.LineError.TheVariants as errors
-use Rattle.script.specs.Reading.{◌>>=◌, Fails, Gives}
+use Rattle.script.specs.Reading.{◌>>=◌, Gives}
 use Rattle.script.specs.Refused.{unless}
 use Rattle.names.specs.declared.named.Named.{Named}
 use Rattle.names.specs.Names.{NameList}

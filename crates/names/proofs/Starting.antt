@@ -1,8 +1,8 @@
 -- The names at the start stand for what is predeclared, all of which has a name.
-use Rattle.std.proofs.Common.{◌≡◌, ℕ, zero, suc, ◌<◌, List, [], ◌∷◌, length, Bool, true, false, Option, Some, None, slice_get, refl, sym, ap, arith, true≢false}
+use Rattle.std.proofs.Common.{◌≡◌, ℕ, zero, suc, ◌<◌, [], ◌∷◌, Bool, true, false, Option, Some, slice_get, refl, sym, ap, arith, true≢false}
 use Rattle.ext_tree.specs.declared.node.Node.{Node as Extension}
 use Rattle.ext_tree.specs.declared.node.Node.TheVariants as nodes
-use Rattle.names.specs.Known.{AreKnown, AreNamed, HasName, IsKept}
+use Rattle.names.specs.Known.{AreKnown, HasName, IsKept}
 use Rattle.names.specs.Predeclared.{predeclared_names}
 use Rattle.registry.specs.declared.id_sort.IdSort.TheVariants as sorts
 use Rattle.registry.specs.Predeclared.{predeclared}

@@ -1,11 +1,10 @@
 -- What each declaring command makes of the registry and the names, or the first refusal: a name that is not declared or of
 -- another sort, in the order of the fields; a name that is taken; what a written value is refused as; what the registry refuses,
 -- with ids as the names that the command has for them.
-use Rattle.std.specs.Prelude.{ℕ, ◌+◌, List, [], ◌∷◌, length, Bool, true, false, ◌&&◌, ◌==◌, Option, Some, None, Result, Ok, Err, if◌then◌else◌, option_and_then, slice_get, position}
+use Rattle.std.specs.Prelude.{ℕ, ◌+◌, List, length, Bool, true, false, ◌&&◌, ◌==◌, Result, Ok, if◌then◌else◌, option_and_then, slice_get, position}
 use Rattle.std.specs.Option.{option_map_or}
 use Rattle.cm_plain.specs.Form.{fits}
 use Rattle.configuration.specs.declared.dependency.Dependency.{Dependency}
-use Rattle.configuration.specs.declared.facet_def.FacetDef.{FacetDef}
 use Rattle.configuration.specs.declared.field_def.FieldDef.{FieldDef}
 use Rattle.values.specs.Declarations.{with_pair}
 use Rattle.values.specs.Rules.{Rules}

@@ -1,5 +1,5 @@
 -- The names that are taken from the start: those of what is predeclared, and of the document and the selection.
-use Rattle.std.specs.Prelude.{ℕ, List, [], ◌∷◌, codes}
+use Rattle.std.specs.Prelude.{[], ◌∷◌, codes}
 use Rattle.names.specs.declared.named.Named.TheVariants.{Doc, Selection, Effect, Facet, Field}
 use Rattle.names.specs.Names.{NameList}
 

@@ -26,7 +26,7 @@ impl Names {
         self.add(alloc, &name, thing)
     }
 
-    /// Adds the names of the document, of the selection and of the first facets to no names.
+    /// Adds the names of the document, of the selection and of the first three facets, where there are no names yet.
     fn take_first(&mut self, alloc: Global) -> Result<(), AllocError>
         requires { self.old ≡ [] }
         ensures { OnOk result (self.new ≡ take 5 predeclared_names) }
@@ -42,7 +42,7 @@ impl Names {
         self.take(alloc, "tabSize", Named::Facet(TAB_SIZE))
     }
 
-    /// Adds the names of the facets after those.
+    /// Adds the names of the next five facets.
     fn take_facets(&mut self, alloc: Global) -> Result<(), AllocError>
         requires { self.old ≡ take 5 predeclared_names }
         ensures { OnOk result (self.new ≡ take 10 predeclared_names) }
@@ -58,7 +58,7 @@ impl Names {
         self.take(alloc, "decorations", Named::Facet(DECORATIONS))
     }
 
-    /// Adds the names of the last facets, of the effect kind and of the field.
+    /// Adds the names of the last two facets, of the effect kind and of the field.
     fn take_last(&mut self, alloc: Global) -> Result<(), AllocError>
         requires { self.old ≡ take 10 predeclared_names }
         ensures { OnOk result (self.new ≡ predeclared_names) }

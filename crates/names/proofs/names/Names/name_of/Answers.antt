@@ -1,4 +1,4 @@
-use Rattle.std.proofs.Common.{◌≤◌, ◌<◌, length, Some, sym, ap, ◌∙◌, true≢false}
+use Rattle.std.proofs.Common.{Some, sym, ap, ◌∙◌, true≢false}
 use Rattle.names.specs.Names.{name_of}
 use Rattle.names.proofs.Entries.{is_here, is_later, is_nowhere}
 use Rattle.names.proofs.names.Names.name_of.Goals as goal
@@ -12,10 +12,12 @@ returns-then-has_id c =
 
 pub loop-place-preserved : goal.loop-place-preserved
 loop-place-preserved c =
-    elim c.match-get_index.branch [ in-Some+else-has_id w ↦
-        c.loop-place.invariant
-        ∙ is_later c.args.sort c.args.id c.self.inside.entries.entries c.loop-place.place (w.in-Some.name.now, w.in-Some.thing.now) (sym w.in-Some.ensures.entry) (sym w.if-has_id.ensures)
-    | in-None w ↦ absurd (true≢false (sym (w.in-None.ensures.found.1 (rw c.len-place-end.ensures.len at c.loop-place-test.true)))) ]
+    elim c.match-get_index.branch [
+      | in-Some+else-has_id w ↦
+          c.loop-place.invariant
+          ∙ is_later c.args.sort c.args.id c.self.inside.entries.entries c.loop-place.place (w.in-Some.name.now, w.in-Some.thing.now) (sym w.in-Some.ensures.entry) (sym w.if-has_id.ensures)
+      | in-None w ↦ absurd (true≢false (sym (w.in-None.ensures.found.1 (rw c.len-place-end.ensures.len at c.loop-place-test.true))))
+    ]
 
 pub returns : goal.returns
 returns c =
