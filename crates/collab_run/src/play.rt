@@ -1,6 +1,7 @@
 ghost use Rattle.std.specs.Prelude.{◌≡◌, ◌<◌, List, ℕ, length, IsErr, IfOk, OnOk, OnErr, Some, string_bytes};
 ghost use Rattle.cm_outside.specs.Lines.{max_line};
 ghost use Rattle.script.specs.Reading.{Gives};
+ghost use Rattle.replies.specs.Replies.{reply_text};
 ghost use Rattle.collab_run.specs.Playing.{act};
 ghost use Rattle.collab_run.specs.Transcript.{PlainPlay, fresh, outcome, after, reply, machine};
 
@@ -12,7 +13,7 @@ use crate::outcome::Outcome;
 use cm_outside::StoreFault;
 use collab::World;
 use line_run::Answers;
-use replies::{Reply, reply_text};
+use replies::{Answer, Reply, reply_text};
 use script::{LineError, Refusal, line_command};
 use std::alloc::{AllocError, Global};
 use std::marker::Model;
@@ -40,6 +41,18 @@ fn outcome_of(alloc: Global, line: &[u8], world: &Option<World>) -> Result<Outco
     act(alloc, command, world)
 }
 
+fn answered(alloc: Global, answer: Answer) -> Result<String, AllocError>
+    ensures { IfOk result (λ r. string_bytes r ≡ reply_text (Reply.Ok answer)) }
+{
+    reply_text(alloc, &Reply::Ok(answer))
+}
+
+fn refused(alloc: Global, refusal: Refusal) -> Result<String, AllocError>
+    ensures { IfOk result (λ r. string_bytes r ≡ reply_text (Reply.No refusal)) }
+{
+    reply_text(alloc, &Reply::No(refusal))
+}
+
 /// A play of collaboration: lines begin a world, let events happen in it and ask for its text.
 #[derive(Drop)]
 pub struct Play {
@@ -63,6 +76,17 @@ impl Play {
         Play { alloc, world: None }
     }
 
+    /// Puts a new world in place of the one before, and gives the reply. The only error is out of memory, which changes nothing.
+    fn change(&mut self, answer: Answer, world: World) -> Result<String, AllocError>
+        ensures reply { IfOk result (λ r. string_bytes r ≡ reply_text (Reply.Ok answer)) }
+        ensures changed { OnOk result (self.new ≡ record { world = Some world }) }
+        ensures err { OnErr result (self.new ≡ self.old) }
+    {
+        let reply = answered(self.alloc, answer)?;
+        self.world = Some(world);
+        Ok(reply)
+    }
+
     /// Does what a line, without its LF, asks for, and gives the reply with its LF. The only error is out of memory.
     /// A refused line changes nothing, and neither does out of memory.
     #[tactic(auto, unfolding(crate::specs::Transcript::after, crate::specs::Transcript::reply))]
@@ -74,13 +98,9 @@ impl Play {
     {
         match outcome_of(self.alloc, line, &self.world) {
             Err(LineError::NoMemory) => Err(AllocError),
-            Err(LineError::Refused(refusal)) => reply_text(self.alloc, &Reply::No(refusal)),
-            Ok(Outcome::Answered(answer)) => reply_text(self.alloc, &Reply::Ok(answer)),
-            Ok(Outcome::Changed(answer, world)) => {
-                let reply = reply_text(self.alloc, &Reply::Ok(answer))?;
-                self.world = Some(world);
-                Ok(reply)
-            }
+            Err(LineError::Refused(refusal)) => refused(self.alloc, refusal),
+            Ok(Outcome::Answered(answer)) => answered(self.alloc, answer),
+            Ok(Outcome::Changed(answer, world)) => self.change(answer, world),
         }
     }
 
@@ -90,7 +110,7 @@ impl Play {
         ensures reply { IfOk result (λ r. (line : List ℕ) → max_line < length line → string_bytes r ≡ reply line self.now) }
         ensures after { (line : List ℕ) → max_line < length line → self.now ≡ after line self.now }
     {
-        reply_text(self.alloc, &Reply::No(Refusal::LineTooLong))
+        refused(self.alloc, Refusal::LineTooLong)
     }
 }
 
