@@ -1,6 +1,6 @@
 -- What a command does that isn't refused.
 use Rattle.std.specs.Prelude.{ℕ, ◌+◌, length, min, Option, Some, None, Result, Ok, Err}
-use Rattle.facet_slots.specs.Slotted.{Slotted, plain}
+use Rattle.facet_slots.specs.Slotted.{Slotted}
 use Rattle.facet_slots.specs.Stepping.{State}
 use Rattle.names.specs.Names.{NameList}
 use Rattle.replies.specs.declared.answer.Answer.{Answer}
@@ -9,10 +9,9 @@ use Rattle.screen.specs.Reveal.{revealed_window}
 use Rattle.script.specs.declared.refusal.Refusal.{Refusal}
 use Rattle.script.specs.Refused.{unless}
 use Rattle.state.specs.declared.state_error.StateError.{StateError}
-use Rattle.state.specs.Plainly.{unordered}
 use Rattle.viewport.specs.Window.{Window}
 use Rattle.session.specs.Refused.{state_refusal}
-use Rattle.session.specs.State.{PlainSession, window_of}
+use Rattle.session.specs.State.{PlainSession, plain_state, window_of}
 use Rattle.session.specs.Views.{view_of}
 use Rattle.session.specs.declared.outcome.Outcome.{Outcome}
 use Rattle.session.specs.declared.outcome.Outcome.TheVariants.{Answered, Changed, Viewed}
@@ -52,10 +51,6 @@ put_started s = put_if Length s 0 (window_of s.window.rows s.window.cols)
 -- Stepped: the state after a transaction, which is counted
 abbrev pub put_stepped : (ℕ → Answer) → PlainSession → Result State StateError → Result Done Refusal
 put_stepped said s = put_if said s (counted s.count) s.window
-
--- a state of the program, as plain data
-abbrev pub plain_state : Slotted → State
-plain_state slots = unordered (plain slots)
 
 -- an outcome as what it does to a session
 abbrev pub done_by : PlainSession → Outcome Slotted → Done

@@ -1,5 +1,5 @@
 -- What a call of a session leaves, and which requests need the store. Private clauses alone speak of it.
-use Rattle.std.specs.Prelude.{◌≡◌, ◌≢◌, ℕ, List, Bool, true, false, Result, Ok, Err, String, string_bytes, ⊤}
+use Rattle.std.specs.Prelude.{◌≡◌, ◌≢◌, ℕ, List, Bool, true, false, Result, Ok, Err, String, string_bytes, IfSome, ⊤}
 use Rattle.std.specs.declared.alloc.AllocError.{AllocError}
 use Rattle.std.specs.declared.alloc.Global.{Global}
 use Rattle.facet_slots.specs.Agreement.{IsGrown}
@@ -12,14 +12,17 @@ use Rattle.replies.specs.Replies.{reply_text}
 use Rattle.replies.specs.declared.answer.Reply.TheVariants as replies
 use Rattle.requests.specs.declared.request.Request.{Request}
 use Rattle.requests.specs.declared.request.Request.TheVariants.{Declare, Start, Open, Save, Update, Do, Text, Selection, Get, Map, View, Screen, Summary}
+use Rattle.screen.specs.Head.{ShowsHead}
 use Rattle.script.specs.declared.refusal.LineError.{LineError}
 use Rattle.script.specs.declared.refusal.LineError.TheVariants as errors
 use Rattle.script.specs.declared.refusal.Refusal.{Refusal}
+use Rattle.viewport.specs.Window.{Window}
 use Rattle.session.specs.declared.outcome.Outcome.{Outcome}
 use Rattle.session.specs.declared.outcome.Outcome.TheVariants.{Answered, Changed, Viewed}
-use Rattle.session.specs.Outcomes.{Done, plain_state}
+use Rattle.session.specs.Outcomes.{Done}
 use Rattle.session.specs.Session.{left_by, reply_of}
-use Rattle.session.specs.State.{PlainSession}
+use Rattle.session.specs.State.{Held, plain_session, plain_state}
+use Rattle.session.specs.Views.{view_of}
 
 -- the line that answers with an error: out of memory has none
 abbrev pub IsRefusalText : LineError → List ℕ → Type 0
@@ -27,8 +30,8 @@ IsRefusalText errors.NoMemory text = ⊥
 IsRefusalText (errors.Refused refusal) text = text ≡ reply_text (replies.No refusal)
 
 -- the reply to a line that does this, and the session after it; out of memory changes nothing
-abbrev pub DoneWith : Result Done Refusal → (old new : PlainSession) → Result (String Global) AllocError → Type 0
-DoneWith outcome old new (Ok text) = (string_bytes text ≡ reply_text (reply_of outcome)) × (new ≡ left_by old outcome)
+abbrev pub DoneWith : Result Done Refusal → (old new : Held) → Result (String Global) AllocError → Type 0
+DoneWith outcome old new (Ok text) = (string_bytes text ≡ reply_text (reply_of outcome)) × (plain_session new ≡ left_by (plain_session old) outcome)
 DoneWith outcome old new (Err error) = new ≡ old
 
 -- what was found is what a definition says, but for out of memory
@@ -36,11 +39,16 @@ abbrev pub Finds : Result State StateError → Result Slotted StateError → Typ
 Finds out (Ok slots) = out ≡ Ok (plain_state slots)
 Finds out (Err error) = error ≢ causes.NoMemory → out ≡ Err error
 
--- a state that is put in place stands over what is declared
-abbrev pub IsGrownIn : PlainSession → Outcome Slotted → Type 0
-IsGrownIn s (Answered answer) = ⊤
-IsGrownIn s (Changed answer next) = IsGrown next.state.setup.defs (definitions s.world.declared)
-IsGrownIn s (Viewed window) = ⊤
+-- a state that is put in place stands over what is declared, and the window shows its main range's head
+pub record IsPutIn (held : Held) (slots : Slotted) (window : Window) : Type 0 where
+  pub grown : IsGrown slots.setup.defs (definitions held.world.declared)
+  pub shows : ShowsHead (view_of (plain_state slots) window)
+
+-- what an outcome puts in place
+abbrev pub IsPut : Held → Outcome Slotted → Type 0
+IsPut held (Answered answer) = ⊤
+IsPut held (Changed answer next) = IsPutIn held next.state next.window
+IsPut held (Viewed window) = IfSome held.state (λ slots. ShowsHead (view_of (plain_state slots) window))
 
 -- whether a request declares something
 abbrev pub declares : Request → Bool

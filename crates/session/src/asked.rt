@@ -1,5 +1,6 @@
 ghost use Rattle.script.specs.Reading.{Gives};
 ghost use Rattle.session.specs.Asked.{selection, text};
+ghost use Rattle.session.specs.State.{plain_session};
 
 use crate::session::Session;
 use crate::started::started;
@@ -10,7 +11,7 @@ use values::Meanings;
 
 /// The command `text`. The only error but `NoSession` is out of memory.
 pub(crate) fn text_of<M: Meanings>(session: &Session<M>) -> Result<Answer, LineError>
-    ensures { Gives (λ a. a) result (text session.now) }
+    ensures { Gives (λ a. a) result (text (plain_session session.now)) }
 {
     let state = started(session)?;
     Ok(Answer::Text(InsertedText::of(state.doc().try_copy()?)))
@@ -18,7 +19,7 @@ pub(crate) fn text_of<M: Meanings>(session: &Session<M>) -> Result<Answer, LineE
 
 /// The command `selection`. The only error but `NoSession` is out of memory.
 pub(crate) fn selection_of<M: Meanings>(session: &Session<M>) -> Result<Answer, LineError>
-    ensures { Gives (λ a. a) result (selection session.now) }
+    ensures { Gives (λ a. a) result (selection (plain_session session.now)) }
 {
     let state = started(session)?;
     Ok(Answer::Selection(state.selection().try_copy()?))

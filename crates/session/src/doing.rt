@@ -1,13 +1,17 @@
 // The commands of the editor.
-ghost use Rattle.std.specs.Prelude.{◌≡◌, IfOk, length, option_map};
+ghost use Rattle.std.specs.Prelude.{◌≡◌, IfOk, length, option_copied, option_map};
+ghost use Rattle.configuration.specs.declared.vertex.Vertex.TheVariants.{Field};
+ghost use Rattle.typed_keys.specs.Read.{history_in, truth_in};
 ghost use Rattle.line_tree.specs.Text.{cut};
 ghost use Rattle.commands.specs.Editing.{shown_scene};
 ghost use Rattle.selection.specs.Selections.{LieIn};
 ghost use Rattle.script.specs.Reading.{Gives};
 ghost use Rattle.values.specs.Whole.{IsWhole};
 ghost use Rattle.session.specs.Doing.{do_command, done_with, sent};
-ghost use Rattle.session.specs.Outcomes.{done_by, plain_state};
-ghost use Rattle.session.specs.Views.{scene_of};
+ghost use Rattle.session.specs.Outcomes.{done_by};
+ghost use Rattle.session.specs.Views.{facet_in, scene_of};
+ghost use Rattle.session.specs.State.{plain_session, plain_state};
+ghost use Rattle.session.specs.PrivateSession.{IsPut};
 
 use crate::outcome::Outcome;
 use crate::putting::done_to;
@@ -18,6 +22,8 @@ use commands::{
     EditScene, delete_back, delete_forward, insert, move_to, newline, redo, redo_selection,
     select_all, undo, undo_selection,
 };
+use history::History;
+use registry::{HISTORY, READ_ONLY};
 use replies::Answer;
 use requests::{DoRequest, EditorCommand};
 use script::{LineError, cut_text};
@@ -49,6 +55,30 @@ fn sent(
     }
 }
 
+/// What a command sends over a state that is read only or not and has this history, if it has anything to send. `Err`: out of
+/// memory.
+fn sent_with<M: Meanings>(
+    alloc: Global,
+    state: &State<M>,
+    read_only: bool,
+    history: Option<&History>,
+    request: &DoRequest,
+) -> Result<Option<Spec<Val>>, AllocError>
+    requires read_only { read_only ≡ truth_in (facet_in (plain_state state.now) READ_ONLY) }
+    requires history { option_copied history ≡ option_map history_in ((plain_state state.now).values (Field HISTORY)) }
+    ensures { IfOk result (λ spec. spec ≡ sent request.now.command (scene_of (plain_state state.now) request.now.time) request.now) }
+{
+    state.known();
+    let scene = EditScene {
+        doc: state.doc(),
+        selection: state.selection(),
+        read_only,
+        history,
+        time: request.time,
+    };
+    sent(alloc, &scene, request)
+}
+
 /// What a command sends over a state, if it has anything to send. `Err`: out of memory.
 fn sent_over<M: Meanings>(
     session: &Session<M>,
@@ -59,15 +89,7 @@ fn sent_over<M: Meanings>(
 {
     let read_only = session.keys.read_only(session.alloc, state)?;
     let history = session.keys.history(session.alloc, state)?;
-    state.known();
-    let scene = EditScene {
-        doc: state.doc(),
-        selection: state.selection(),
-        read_only,
-        history: history.as_ref(),
-        time: request.time,
-    };
-    sent(session.alloc, &scene, request)
+    sent_with(session.alloc, state, read_only, history.as_ref(), request)
 }
 
 /// The command `do`, or its first refusal. The only other error is out of memory.
@@ -77,7 +99,8 @@ pub(crate) fn do_command<M: Meanings>(
     request: &DoRequest,
 ) -> Result<Outcome<State<M>>, LineError>
     requires whole { IsWhole M.rules kit.now }
-    ensures { Gives (done_by session.now) result (do_command M.rules session.now request.now) }
+    ensures put { IfOk result (IsPut session.now) }
+    ensures done { Gives (done_by (plain_session session.now)) result (do_command M.rules (plain_session session.now) request.now) }
 {
     let old = started(session)?;
     match sent_over(session, old, request)? {

@@ -1,13 +1,13 @@
 // The value of a facet or a field.
-ghost use Rattle.std.specs.Prelude.{◌≡◌, ◌<◌, IfOk, map, option_copied, option_map, slice_get};
+ghost use Rattle.std.specs.Prelude.{◌≡◌, ◌<◌, IfOk, map, option_map, slice_get};
 ghost use Rattle.facet_slots.specs.Agreement.{IsGrown};
 ghost use Rattle.facet_slots.specs.Lent.{definitions};
 ghost use Rattle.script.specs.Reading.{Gives};
 ghost use Rattle.transaction.specs.Numbers.{IsNumber};
 ghost use Rattle.values.specs.Whole.{IsWhole};
 ghost use Rattle.session.specs.Asked.{get};
-ghost use Rattle.session.specs.Outcomes.{plain_state};
 ghost use Rattle.session.specs.Values.{shown, shown_range, shown_ranges, unfilled, value_of};
+ghost use Rattle.session.specs.State.{plain_session, plain_state};
 
 use crate::session::Session;
 use crate::started::started;
@@ -54,7 +54,7 @@ fn shown_layers(alloc: Global, sets: &[DecoSet]) -> Result<Listed<Listed<ShownRa
 
 /// A value, or that there is none, as it is answered.
 fn shown(alloc: Global, value: Option<&Val>) -> Result<Shown, AllocError>
-    ensures { IfOk result (λ s. s ≡ shown (option_copied value)) }
+    ensures { IfOk result (λ s. s ≡ shown (option_map (λ v. v.now) value)) }
 {
     match value {
         None => Ok(Shown::Absent),
@@ -132,7 +132,7 @@ pub(crate) fn get<M: Meanings>(
     name: &Str,
 ) -> Result<Answer, LineError>
     requires whole { IsWhole M.rules kit.now }
-    ensures { Gives (λ a. a) result (get M.rules session.now name.now) }
+    ensures { Gives (λ a. a) result (get M.rules (plain_session session.now) name.now) }
 {
     let thing = found::<Values>(&session.names, name)?;
     let state = started(session)?;

@@ -37,7 +37,6 @@ fn made<K: Drop>(key: Result<K, KeyError>) -> Result<K, AllocError>
 
 impl<M: Meanings> Model for Keys<M> {
     ghost use Rattle.session.specs.PrivateKeys.{KeysView, AreKeys};
-
     ghost use Rattle.std.specs.Coded.{codes};
     ghost use Rattle.cm_plain.specs.Form.{coded_form};
 

@@ -1,12 +1,13 @@
 // What a request does to a session.
-ghost use Rattle.std.specs.Prelude.{◌≡◌, false, true};
+ghost use Rattle.std.specs.Prelude.{◌≡◌, false, true, IfOk};
 ghost use Rattle.cm_outside.specs.Files.{Files};
 ghost use Rattle.script.specs.Reading.{Gives};
 ghost use Rattle.values.specs.Whole.{IsWhole};
 ghost use Rattle.session.specs.Asked.{map_answer};
 ghost use Rattle.session.specs.Outcomes.{answered, done_by};
-ghost use Rattle.session.specs.PrivateSession.{asks, declares, is_inner};
+ghost use Rattle.session.specs.PrivateSession.{IsPut, asks, declares, is_inner};
 ghost use Rattle.session.specs.Session.{act};
+ghost use Rattle.session.specs.State.{plain_session};
 
 use crate::asked::{selection_of, text_of};
 use crate::doing::do_command;
@@ -39,7 +40,7 @@ fn answer_of<M: Meanings>(
 ) -> Result<Answer, LineError>
     requires whole { IsWhole M.rules kit.now }
     requires asks { asks request.now ≡ true }
-    ensures { (files : Files) → Gives (answered session.now) result (act M.rules request.now session.now files) }
+    ensures { (files : Files) → Gives (answered (plain_session session.now)) result (act M.rules request.now (plain_session session.now) files) }
 {
     match request {
         Request::Text => text_of(session),
@@ -61,7 +62,8 @@ pub(crate) fn outcome_of<M: Meanings>(
     requires whole { IsWhole M.rules kit.now }
     requires inner { is_inner request ≡ true }
     requires other { declares request ≡ false }
-    ensures { (files : Files) → Gives (done_by session.now) result (act M.rules request session.now files) }
+    ensures put { IfOk result (IsPut session.now) }
+    ensures done { (files : Files) → Gives (done_by (plain_session session.now)) result (act M.rules request (plain_session session.now) files) }
 {
     match request {
         Request::Start(request) => start(session, kit, &request),

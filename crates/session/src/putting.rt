@@ -1,15 +1,18 @@
 // A new state in place of the one before.
 ghost use Rattle.std.specs.Prelude.{◌≡◌, true, IfErr, IfOk, Ok, Result};
+ghost use Rattle.facet_slots.specs.Agreement.{IsGrown};
+ghost use Rattle.facet_slots.specs.Lent.{definitions};
+ghost use Rattle.screen.specs.Head.{ShowsHead};
 ghost use Rattle.screen.specs.Screen.{shown_view};
 ghost use Rattle.facet_slots.specs.Stepping.{State as StateData};
 ghost use Rattle.replies.specs.declared.answer.Answer.TheVariants.{Length};
 ghost use Rattle.script.specs.Reading.{Gives};
 ghost use Rattle.state.specs.declared.state_error.StateError.{StateError as StateErrorData};
 ghost use Rattle.session.specs.Doing.{said};
-ghost use Rattle.session.specs.Outcomes.{counted, done_by, plain_state, put_started, put_stepped, shown_in};
-ghost use Rattle.session.specs.PrivateSession.{Finds};
+ghost use Rattle.session.specs.Outcomes.{counted, done_by, put_started, put_stepped, shown_in};
+ghost use Rattle.session.specs.PrivateSession.{Finds, IsPut};
 ghost use Rattle.session.specs.Refused.{Refuses};
-ghost use Rattle.session.specs.State.{window_of};
+ghost use Rattle.session.specs.State.{plain_session, plain_state, window_of};
 ghost use Rattle.session.specs.Views.{facet_in, tab_in, view_of};
 ghost use Rattle.typed_keys.specs.Read.{layers_in};
 
@@ -52,7 +55,8 @@ pub(crate) fn shown_in<M: Meanings>(
     state: &State<M>,
     window: &Viewport,
 ) -> Result<Viewport, AllocError>
-    ensures { IfOk result (λ moved. moved ≡ shown_in (plain_state state.now) window.now) }
+    ensures moved { IfOk result (λ moved. moved ≡ shown_in (plain_state state.now) window.now) }
+    ensures shows { IfOk result (λ moved. ShowsHead (view_of (plain_state state.now) moved)) }
 {
     let layers = session.keys.decorations(session.alloc, state)?;
     let tab = session.keys.tab_size(session.alloc, state)?;
@@ -88,6 +92,7 @@ fn next<M: Meanings>(
     ensures state { IfOk result (λ next. state ≡ Ok next.state) }
     ensures count { IfOk result (λ next. next.count ≡ count) }
     ensures window { IfOk result (λ next. next.window ≡ shown_in (plain_state next.state) window.now) }
+    ensures shows { IfOk result (λ next. ShowsHead (view_of (plain_state next.state) next.window)) }
     ensures refused { IfErr result (λ error. IfErr state (λ cause. Refuses session.now.world.names cause error)) }
     ensures made { IfErr result (λ error. IfOk state (λ new. error ≡ LineError.NoMemory)) }
 {
@@ -109,7 +114,9 @@ pub(crate) fn started_as<M: Meanings>(
     session: &Session<M>,
     state: Result<State<M>, StateError>,
 ) -> Result<Outcome<State<M>>, LineError>
-    ensures { (out : Result StateData StateErrorData) → Finds out state → Gives (done_by session.now) result (put_started session.now out) }
+    requires grown { IfOk state (λ s. IsGrown s.setup.defs (definitions session.now.world.declared)) }
+    ensures put { IfOk result (IsPut session.now) }
+    ensures done { (out : Result StateData StateErrorData) → Finds out state → Gives (done_by (plain_session session.now)) result (put_started (plain_session session.now) out) }
 {
     let next = next(session, state, 0, &rewound(&session.window))?;
     Ok(Outcome::Changed(Answer::Length(next.state.doc().len()), next))
@@ -120,7 +127,9 @@ pub(crate) fn updated_to<M: Meanings>(
     session: &Session<M>,
     state: Result<State<M>, StateError>,
 ) -> Result<Outcome<State<M>>, LineError>
-    ensures { (out : Result StateData StateErrorData) → Finds out state → Gives (done_by session.now) result (put_stepped Length session.now out) }
+    requires grown { IfOk state (λ s. IsGrown s.setup.defs (definitions session.now.world.declared)) }
+    ensures put { IfOk result (IsPut session.now) }
+    ensures done { (out : Result StateData StateErrorData) → Finds out state → Gives (done_by (plain_session session.now)) result (put_stepped Length (plain_session session.now) out) }
 {
     let next = next(session, state, counted(session.count), &session.window)?;
     Ok(Outcome::Changed(Answer::Length(next.state.doc().len()), next))
@@ -131,7 +140,9 @@ pub(crate) fn done_to<M: Meanings>(
     session: &Session<M>,
     state: Result<State<M>, StateError>,
 ) -> Result<Outcome<State<M>>, LineError>
-    ensures { (out : Result StateData StateErrorData) → Finds out state → Gives (done_by session.now) result (put_stepped (said true) session.now out) }
+    requires grown { IfOk state (λ s. IsGrown s.setup.defs (definitions session.now.world.declared)) }
+    ensures put { IfOk result (IsPut session.now) }
+    ensures done { (out : Result StateData StateErrorData) → Finds out state → Gives (done_by (plain_session session.now)) result (put_stepped (said true) (plain_session session.now) out) }
 {
     let next = next(session, state, counted(session.count), &session.window)?;
     let length = next.state.doc().len();

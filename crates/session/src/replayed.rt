@@ -1,5 +1,5 @@
 // A session with the kit by which it answers lines.
-ghost use Rattle.session.specs.State.{desk_of};
+ghost use Rattle.session.specs.State.{desk_of, plain_session};
 ghost use Rattle.session.specs.Transcript.{machine};
 
 use crate::session::Session;
@@ -17,10 +17,14 @@ pub(crate) struct Replayed<'a, M: Meanings> {
 }
 
 impl<'a, M: Meanings> Model for Replayed<'a, M> {
-    ghost use Rattle.session.specs.State.{PlainSession};
+    ghost use Rattle.std.specs.Coded.{codes};
+    ghost use Rattle.cm_plain.specs.Datum.{coded_datum};
+    ghost use Rattle.session.specs.State.{Held};
     ghost use Rattle.values.specs.Whole.{IsWhole};
 
-    ghost Value = { PlainSession };
+    ghost Value = { Held };
+
+    ghost coded = { Prim.hlevel (codes, coded_datum) };
 
     ghost view = { λ r. r.session };
 
@@ -45,7 +49,7 @@ impl<'a, M: Meanings, D: Store> Answers<D> for Replayed<'a, M> {
 
     ghost Plain = { Desk };
 
-    ghost told = { λ session store. desk_of session (D.files store) };
+    ghost told = { λ held store. desk_of (plain_session held) (D.files store) };
 
     ghost machine = { machine M.rules };
 

@@ -9,9 +9,9 @@ ghost use Rattle.script.specs.declared.refusal.Refusal.TheVariants.{LineTooLong}
 ghost use Rattle.script.specs.Reading.{Gives};
 ghost use Rattle.values.specs.Whole.{IsWhole};
 ghost use Rattle.session.specs.Outcomes.{Done, done_by};
-ghost use Rattle.session.specs.PrivateSession.{DoneWith, IsGrownIn, IsRefusalText, is_inner};
+ghost use Rattle.session.specs.PrivateSession.{DoneWith, IsPut, IsRefusalText, is_inner};
 ghost use Rattle.session.specs.Session.{act, declare};
-ghost use Rattle.session.specs.State.{desk_of, fresh, window_of};
+ghost use Rattle.session.specs.State.{desk_of, fresh, plain_session, window_of};
 ghost use Rattle.session.specs.Transcript.{machine};
 
 use crate::filing::{opened, saved};
@@ -49,19 +49,21 @@ pub struct Session<M: Meanings> {
 }
 
 impl<M: Meanings> Model for Session<M> {
-    ghost use Rattle.std.specs.Prelude.{IfSome, option_map};
-    ghost use Rattle.facet_slots.specs.Agreement.{IsGrown};
-    ghost use Rattle.facet_slots.specs.Lent.{definitions};
+    ghost use Rattle.std.specs.Prelude.{IfSome};
+    ghost use Rattle.std.specs.Coded.{codes};
+    ghost use Rattle.cm_plain.specs.Datum.{coded_datum};
     ghost use Rattle.facet_slots.specs.Slotted.{Slotted};
     ghost use Rattle.names.specs.Adding.{world};
-    ghost use Rattle.session.specs.Outcomes.{plain_state};
-    ghost use Rattle.session.specs.State.{PlainSession};
+    ghost use Rattle.session.specs.PrivateSession.{IsPutIn};
+    ghost use Rattle.session.specs.State.{Held};
 
-    ghost Value = { PlainSession };
+    ghost Value = { Held };
 
-    ghost view = { λ s. record { world = world s.names s.registry; state = option_map plain_state s.state; count = s.count; window = s.window } };
+    ghost coded = { Prim.hlevel (codes, coded_datum) };
 
-    ghost invariant = { λ s. IfSome s.state (λ (state : Slotted). IsGrown state.setup.defs (definitions s.registry)) };
+    ghost view = { λ s. record { world = world s.names s.registry; state = s.state; count = s.count; window = s.window } };
+
+    ghost invariant = { λ s. IfSome s.state (λ (state : Slotted). IsPutIn (record { world = world s.names s.registry; state = s.state; count = s.count; window = s.window }) state s.window) };
 }
 
 /// The line that answers with why a line is not carried out. `Err`: out of memory.
@@ -88,7 +90,7 @@ impl<M: Meanings> Session<M> {
     /// A session in which no document was started, with what is declared from the start and a window of 24 rows and 80 columns.
     /// `Err`: out of memory.
     pub fn new(alloc: Global) -> Result<Session<M>, AllocError>
-        ensures { IfOk result (λ s. s ≡ fresh) }
+        ensures { IfOk result (λ s. plain_session s ≡ fresh) }
     {
         let names = Names::new(alloc)?;
         let registry = Registry::new(alloc)?;
@@ -115,7 +117,7 @@ impl<M: Meanings> Session<M> {
         line: &[u8],
     ) -> Result<String, StoreFault>
         requires whole { IsWhole M.rules kit.now }
-        ensures answered { IfSome (desk_of self.old (D.files store.old)) (λ d. Answered (machine M.rules) line.now d (desk_of self.new (D.files store.new)) result) }
+        ensures answered { IfSome (desk_of (plain_session self.old) (D.files store.old)) (λ d. Answered (machine M.rules) line.now d (desk_of (plain_session self.new) (D.files store.new)) result) }
         ensures later { D.faults store.old ≤ D.faults store.new }
         ensures cause { result ≡ Err StoreFault.Failed → Rose (D.faults store.old) (D.faults store.new) }
     {
@@ -178,7 +180,7 @@ impl<M: Meanings> Session<M> {
     fn inner(&mut self, kit: &Kit<M>, request: Request) -> Result<String, AllocError>
         requires whole { IsWhole M.rules kit.now }
         requires inner { is_inner request ≡ true }
-        ensures { (files : Files) → DoneWith (act M.rules request self.old files) self.old self.new result }
+        ensures { (files : Files) → DoneWith (act M.rules request (plain_session self.old) files) self.old self.new result }
     {
         match request {
             Request::Declare(declaration) => self.declare(&declaration),
@@ -191,7 +193,7 @@ impl<M: Meanings> Session<M> {
 
     /// Declares something, whole or not at all. The answer is made first.
     fn declare(&mut self, declaration: &Declaration) -> Result<String, AllocError>
-        ensures { DoneWith (declare M.rules self.old declaration.now) self.old self.new result }
+        ensures { DoneWith (declare M.rules (plain_session self.old) declaration.now) self.old self.new result }
     {
         let done = reply_text(self.alloc, &Reply::Ok(Answer::Nothing))?;
         match declare(self.alloc, &mut self.registry, &mut self.names, declaration) {
@@ -205,8 +207,8 @@ impl<M: Meanings> Session<M> {
         &mut self,
         outcome: Result<Outcome<State<M>>, LineError>,
     ) -> Result<String, AllocError>
-        requires grown { IfOk outcome (λ done. IsGrownIn self.old done) }
-        ensures { (out : Result Done Refusal) → Gives (done_by self.old) outcome out → DoneWith out self.old self.new result }
+        requires put { IfOk outcome (λ done. IsPut self.old done) }
+        ensures { (out : Result Done Refusal) → Gives (done_by (plain_session self.old)) outcome out → DoneWith out self.old self.new result }
     {
         match outcome {
             Err(error) => refusal_text(self.alloc, error),

@@ -1,28 +1,31 @@
 // The commands of the window.
 ghost use Rattle.std.specs.Prelude.{◌≡◌, ◌<◌, map, IfOk};
+ghost use Rattle.screen.specs.Head.{ShowsHead};
 ghost use Rattle.screen.specs.Screen.{row_cells, shown_count};
 ghost use Rattle.term_bytes.specs.Shown.{shown_row};
 ghost use Rattle.script.specs.Reading.{Gives};
-ghost use Rattle.session.specs.Outcomes.{done_by, plain_state};
+ghost use Rattle.session.specs.Outcomes.{done_by};
 ghost use Rattle.session.specs.Viewing.{screen, shown_cursor, shown_screen_of, summary, view, window_or};
 ghost use Rattle.session.specs.Views.{view_of};
 ghost use Rattle.viewport.specs.Window.{first_window};
+ghost use Rattle.session.specs.State.{plain_session, plain_state};
+ghost use Rattle.session.specs.PrivateSession.{IsPut};
 
 use crate::outcome::Outcome;
 use crate::putting::{shown_in, view};
 use crate::session::Session;
 use crate::started::started;
+use listed::Listed;
 use replies::{Answer, ShownCursor, ShownRun, ShownScreen, Summary};
 use requests::ViewRequest;
-use listed::Listed;
 use screen::{DrawnRow, Screen, shown_rows};
-use term_bytes::shown_row;
 use script::{LineError, Refusal, WindowRefusal};
 use state::State;
 use std::alloc::{AllocError, Global};
 use std::marker::Brand;
 use std::sync::ledger::{Blank, Ledger};
 use steps::Steps;
+use term_bytes::shown_row;
 use values::Meanings;
 use viewport::{SizeError, Viewport};
 
@@ -46,7 +49,8 @@ pub(crate) fn view_as<M: Meanings>(
     session: &Session<M>,
     request: ViewRequest,
 ) -> Result<Outcome<State<M>>, LineError>
-    ensures { Gives (done_by session.now) result (view session.now request) }
+    ensures put { IfOk result (IsPut session.now) }
+    ensures done { Gives (done_by (plain_session session.now)) result (view (plain_session session.now) request) }
 {
     let state = started(session)?;
     let window = sized(request)?;
@@ -87,6 +91,7 @@ fn drawn<M: Meanings, L: Ledger>(
     requires name { blank.name ≡ L.name }
     requires parts { blank.parts ≡ L.parts }
     requires some { 0 < blank.parts }
+    requires shows { ShowsHead (view_of (plain_state state.now) session.now.window) }
     ensures { IfOk result (λ shown. shown ≡ shown_screen_of (view_of (plain_state state.now) session.now.window)) }
 {
     let layers = session.keys.decorations(session.alloc, state)?;
@@ -99,7 +104,7 @@ fn drawn<M: Meanings, L: Ledger>(
 
 /// The command `screen`.
 pub(crate) fn screen_of<M: Meanings>(session: &Session<M>) -> Result<Answer, LineError>
-    ensures { Gives (λ a. a) result (screen session.now) }
+    ensures { Gives (λ a. a) result (screen (plain_session session.now)) }
 {
     let state = started(session)?;
     Ok(Answer::Screen(drawn::<M, Brand>(session, state, Blank::new(1))?))
@@ -116,7 +121,7 @@ fn rows_in<M: Meanings>(session: &Session<M>, state: &State<M>) -> Result<u32, A
 
 /// The command `summary`.
 pub(crate) fn summary_of<M: Meanings>(session: &Session<M>) -> Result<Answer, LineError>
-    ensures { Gives (λ a. a) result (summary session.now) }
+    ensures { Gives (λ a. a) result (summary (plain_session session.now)) }
 {
     let state = started(session)?;
     let rows = rows_in(session, state)?;
