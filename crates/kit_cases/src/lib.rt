@@ -7,6 +7,4 @@ mod kit;
 #[cfg(test)]
 mod more;
 #[cfg(test)]
-mod more_kit;
-#[cfg(test)]
 mod views;

@@ -58,18 +58,15 @@ fn maps(
 /// Two characters, and one inserted after them.
 const TYPED: [Section<u32>; 2] = [Section::Keep(2), Section::Replace(0, 1)];
 
-/// A value, and what is mapped of it over `TYPED`.
-const PLACES: &[(Made<'static>, Option<Made<'static>>)] = &[
-    (Made::Int(1), Some(Made::Int(1))),
-    (Made::Int(2), Some(Made::Int(3))),
-    (Made::Int(3), None),
-    (Made::Int(-1), None),
-    (Made::Text("a"), Some(Made::Text("a"))),
-];
-
 #[test]
 fn places_are_mapped(rt: HostRuntime) -> Result<(), Fail> {
-    for (value, want) in PLACES {
+    for (value, want) in &[
+        (Made::Int(1), Some(Made::Int(1))),
+        (Made::Int(2), Some(Made::Int(3))),
+        (Made::Int(3), None),
+        (Made::Int(-1), None),
+        (Made::Text("a"), Some(Made::Text("a"))),
+    ] {
         assert!(rt; maps(rt.alloc(), 1, *value, &TYPED, *want)?);
     }
     Ok(())
@@ -92,18 +89,15 @@ fn a_deleted_place_is_dropped(rt: HostRuntime) -> Result<(), Fail> {
     Ok(())
 }
 
-/// A value, and what is mapped of it over `TYPED`.
-const PAIRS: &[(Made<'static>, Option<Made<'static>>)] = &[
-    (Made::Ints(&[0, 2]), Some(Made::Ints(&[0, 2]))),
-    (Made::Ints(&[1, 1]), None),
-    (Made::Ints(&[2, 2]), None),
-    (Made::Ints(&[0, 3]), Some(Made::Ints(&[0, 3]))),
-    (Made::Ranges(&[]), Some(Made::Ranges(&[]))),
-];
-
 #[test]
 fn pairs_of_places_are_mapped(rt: HostRuntime) -> Result<(), Fail> {
-    for (value, want) in PAIRS {
+    for (value, want) in &[
+        (Made::Ints(&[0, 2]), Some(Made::Ints(&[0, 2]))),
+        (Made::Ints(&[1, 1]), None),
+        (Made::Ints(&[2, 2]), None),
+        (Made::Ints(&[0, 3]), Some(Made::Ints(&[0, 3]))),
+        (Made::Ranges(&[]), Some(Made::Ranges(&[]))),
+    ] {
         assert!(rt; maps(rt.alloc(), 2, *value, &TYPED, *want)?);
     }
     Ok(())

@@ -45,31 +45,26 @@ fn guards(alloc: Global, number: u32, data: Made<'_>, want: Guarded<'_>) -> Resu
     Ok(guards_by(alloc, number, &transaction, &data, want)?)
 }
 
-/// Pairs of which some are no ranges of places.
-const PLACES: &[(i64, i64)] = &[
-    (0, 2),
-    (5, 4),
-    (-1, 2),
-    (3, 4_294_967_295),
-    (0, 4_294_967_296),
-];
-
-/// By number, what is given and the answer.
-const GUARDED: &[(u32, Made<'static>, Guarded<'static>)] = &[
-    (1, Made::Pairs(&[(0, 2)]), Guarded::All),
-    (2, Made::Pairs(&[(0, 2)]), Guarded::Nothing),
-    (
-        3,
-        Made::Pairs(PLACES),
-        Guarded::Protected(&[(0, 2), (5, 4), (3, 4_294_967_295)]),
-    ),
-    (3, Made::Ints(&[0, 2]), Guarded::Protected(&[])),
-    (3, Made::Unit, Guarded::Protected(&[])),
-];
-
 #[test]
 fn guards_answer_by_number(rt: HostRuntime) -> Result<(), Fail> {
-    for (number, data, want) in GUARDED {
+    let places = [
+        (0, 2),
+        (5, 4),
+        (-1, 2),
+        (3, 4_294_967_295),
+        (0, 4_294_967_296),
+    ];
+    for (number, data, want) in &[
+        (1, Made::Pairs(&[(0, 2)]), Guarded::All),
+        (2, Made::Pairs(&[(0, 2)]), Guarded::Nothing),
+        (
+            3,
+            Made::Pairs(&places),
+            Guarded::Protected(&[(0, 2), (5, 4), (3, 4_294_967_295)]),
+        ),
+        (3, Made::Ints(&[0, 2]), Guarded::Protected(&[])),
+        (3, Made::Unit, Guarded::Protected(&[])),
+    ] {
         assert!(rt; guards(rt.alloc(), *number, *data, *want)?, "at {number}");
     }
     Ok(())
@@ -138,21 +133,18 @@ fn filters(alloc: Global, number: u32, typed: Typed<'_>, data: Made<'_>) -> Resu
     Ok(filters_by(alloc, number, &transaction, &data)?)
 }
 
-/// By number, what is typed, what is given and the answer.
-const FILTERED: &[(u32, Typed<'static>, Made<'static>, Filtered)] = &[
-    (1, TYPED, Made::Ints(&[0]), Filtered::Keep),
-    (2, TYPED, Made::Ints(&[9]), Filtered::Nothing),
-    (3, TYPED, Made::Unit, Filtered::Break(3)),
-    (3, IDLE, Made::Unit, Filtered::Keep),
-    (4, TYPED, Made::Ints(&[2, -1]), Filtered::Nothing),
-    (4, TYPED, Made::Ints(&[2, 3, 0]), Filtered::Keep),
-    (4, IDLE, Made::Ints(&[1]), Filtered::Nothing),
-    (4, TYPED, Made::Int(0), Filtered::Keep),
-];
-
 #[test]
 fn filters_answer_by_number(rt: HostRuntime) -> Result<(), Fail> {
-    for (number, typed, data, want) in FILTERED {
+    for (number, typed, data, want) in &[
+        (1, TYPED, Made::Ints(&[0]), Filtered::Keep),
+        (2, TYPED, Made::Ints(&[9]), Filtered::Nothing),
+        (3, TYPED, Made::Unit, Filtered::Break(3)),
+        (3, IDLE, Made::Unit, Filtered::Keep),
+        (4, TYPED, Made::Ints(&[2, -1]), Filtered::Nothing),
+        (4, TYPED, Made::Ints(&[2, 3, 0]), Filtered::Keep),
+        (4, IDLE, Made::Ints(&[1]), Filtered::Nothing),
+        (4, TYPED, Made::Int(0), Filtered::Keep),
+    ] {
         assert!(rt;
             filters(rt.alloc(), *number, *typed, *data)? == *want,
             "at {number}"
@@ -210,18 +202,15 @@ fn extends(alloc: Global, number: u32, typed: Typed<'_>) -> Result<Added, Fail> 
     extended(alloc, number, &transaction)
 }
 
-/// By number, what is typed and what is added.
-const EXTENDED: &[(u32, Typed<'static>, Added)] = &[
-    (1, TYPED, Added::Nothing),
-    (2, TYPED, Added::Touched),
-    (2, IDLE, Added::Nothing),
-    (3, TYPED, Added::Note(2)),
-    (3, IDLE, Added::Note(2)),
-];
-
 #[test]
 fn extenders_answer_by_number(rt: HostRuntime) -> Result<(), Fail> {
-    for (number, typed, want) in EXTENDED {
+    for (number, typed, want) in &[
+        (1, TYPED, Added::Nothing),
+        (2, TYPED, Added::Touched),
+        (2, IDLE, Added::Nothing),
+        (3, TYPED, Added::Note(2)),
+        (3, IDLE, Added::Note(2)),
+    ] {
         assert!(rt;
             extends(rt.alloc(), *number, *typed)? == *want,
             "at {number}"

@@ -9,19 +9,16 @@ fn computes(alloc: Global, number: u32, of: Read<'_>, want: Made<'_>) -> Result<
     is(alloc, &compute(alloc, number, &deps)?, want)
 }
 
-/// By number, what is read and the number that is computed.
-const COMPUTED: &[(u32, Read<'static>, i64)] = &[
-    (1, Read::Document("ab\nc"), 4),
-    (1, Read::Values(&[]), 0),
-    (2, Read::Document("ab\nc\n"), 3),
-    (2, Read::Values(&[]), 0),
-    (3, Read::Cursor("abc", 2), 2),
-    (3, Read::Document("abc"), 0),
-];
-
 #[test]
 fn computers_of_documents_answer_by_number(rt: HostRuntime) -> Result<(), Fail> {
-    for (number, of, want) in COMPUTED {
+    for (number, of, want) in &[
+        (1, Read::Document("ab\nc"), 4),
+        (1, Read::Values(&[]), 0),
+        (2, Read::Document("ab\nc\n"), 3),
+        (2, Read::Values(&[]), 0),
+        (3, Read::Cursor("abc", 2), 2),
+        (3, Read::Document("abc"), 0),
+    ] {
         assert!(rt;
             computes(rt.alloc(), *number, *of, Made::Int(*want))?,
             "at {number}"
@@ -86,20 +83,17 @@ fn creates(alloc: Global, number: u32, of: Read<'_>, want: Made<'_>) -> Result<b
     is(alloc, &create(alloc, number, &deps)?, want)
 }
 
-/// By number, the first value.
-const CREATED: &[(u32, Made<'static>)] = &[
-    (1, Made::Unit),
-    (2, Made::Int(0)),
-    (3, Made::Int(0)),
-    (4, Made::Ints(&[])),
-    (5, Made::Ranges(&[])),
-    (6, Made::History),
-    (7, Made::Unit),
-];
-
 #[test]
 fn creators_that_read_nothing_answer(rt: HostRuntime) -> Result<(), Fail> {
-    for (number, want) in CREATED {
+    for (number, want) in &[
+        (1, Made::Unit),
+        (2, Made::Int(0)),
+        (3, Made::Int(0)),
+        (4, Made::Ints(&[])),
+        (5, Made::Ranges(&[])),
+        (6, Made::History),
+        (7, Made::Unit),
+    ] {
         assert!(rt;
             creates(rt.alloc(), *number, Read::Values(&[]), *want)?,
             "at {number}"

@@ -35,29 +35,26 @@ fn is_of(alloc: Global, value: Made<'_>, form: Form) -> Result<bool, Fail> {
     Ok(value_of(alloc, value)?.is_of(&shape))
 }
 
-/// A value, a shape, and whether it is of it.
-const SHAPED: &[(Made<'static>, Form, bool)] = &[
-    (Made::Unit, Form::Any, true),
-    (Made::Bool(true), Form::Bool, true),
-    (Made::Int(3), Form::Int(1, 3), true),
-    (Made::Int(4), Form::Int(1, 3), false),
-    (Made::Text("a"), Form::Text, true),
-    (Made::Int(1), Form::Text, false),
-    (Made::Ints(&[0, 9]), Form::Ints, true),
-    (Made::Ints(&[0, 10]), Form::Ints, false),
-    (Made::Ranges(&[(0, 1)]), Form::Ranges, true),
-    (Made::Ranges(&[]), Form::Any, false),
-    (Made::Ranges(&[]), Form::Layers, false),
-    (Made::Layers(&[(0, 1)]), Form::Layers, true),
-    (Made::Layers(&[]), Form::Ranges, false),
-    (Made::History, Form::History, true),
-    (Made::History, Form::Any, false),
-    (Made::Unit, Form::History, false),
-];
-
 #[test]
 fn a_value_is_of_its_shape(rt: HostRuntime) -> Result<(), Fail> {
-    for (value, form, wanted) in SHAPED {
+    for (value, form, wanted) in &[
+        (Made::Unit, Form::Any, true),
+        (Made::Bool(true), Form::Bool, true),
+        (Made::Int(3), Form::Int(1, 3), true),
+        (Made::Int(4), Form::Int(1, 3), false),
+        (Made::Text("a"), Form::Text, true),
+        (Made::Int(1), Form::Text, false),
+        (Made::Ints(&[0, 9]), Form::Ints, true),
+        (Made::Ints(&[0, 10]), Form::Ints, false),
+        (Made::Ranges(&[(0, 1)]), Form::Ranges, true),
+        (Made::Ranges(&[]), Form::Any, false),
+        (Made::Ranges(&[]), Form::Layers, false),
+        (Made::Layers(&[(0, 1)]), Form::Layers, true),
+        (Made::Layers(&[]), Form::Ranges, false),
+        (Made::History, Form::History, true),
+        (Made::History, Form::Any, false),
+        (Made::Unit, Form::History, false),
+    ] {
         assert!(rt; is_of(rt.alloc(), *value, *form)? == *wanted);
     }
     Ok(())
@@ -74,38 +71,32 @@ fn copy_is(alloc: Global, first: Made<'_>, second: Made<'_>) -> Result<bool, Fai
     is(alloc, &copy, second)
 }
 
-/// Values to copy.
-const COPIED: &[Made<'static>] = &[
-    Made::Unit,
-    Made::Text("ab"),
-    Made::Ints(&[1, 2]),
-    Made::Ranges(&[(0, 1), (2, 3)]),
-    Made::Layers(&[(0, 1)]),
-    Made::History,
-];
-
 #[test]
 fn a_copy_is_the_same_value(rt: HostRuntime) -> Result<(), Fail> {
-    for value in COPIED {
+    for value in &[
+        Made::Unit,
+        Made::Text("ab"),
+        Made::Ints(&[1, 2]),
+        Made::Ranges(&[(0, 1), (2, 3)]),
+        Made::Layers(&[(0, 1)]),
+        Made::History,
+    ] {
         assert!(rt; copy_is(rt.alloc(), *value, *value)?);
     }
     Ok(())
 }
 
-/// Two values that differ.
-const DIFFERENT: &[(Made<'static>, Made<'static>)] = &[
-    (Made::Unit, Made::Bool(false)),
-    (Made::Text("ab"), Made::Text("b")),
-    (Made::Ints(&[1, 2]), Made::Ints(&[2, 1])),
-    (Made::Ranges(&[(0, 1)]), Made::Ranges(&[(0, 2)])),
-    (Made::Layers(&[]), Made::Ranges(&[])),
-    (Made::Layers(&[(0, 1)]), Made::Layers(&[(1, 2)])),
-    (Made::History, Made::Unit),
-];
-
 #[test]
 fn other_values_are_not_the_same(rt: HostRuntime) -> Result<(), Fail> {
-    for (first, second) in DIFFERENT {
+    for (first, second) in &[
+        (Made::Unit, Made::Bool(false)),
+        (Made::Text("ab"), Made::Text("b")),
+        (Made::Ints(&[1, 2]), Made::Ints(&[2, 1])),
+        (Made::Ranges(&[(0, 1)]), Made::Ranges(&[(0, 2)])),
+        (Made::Layers(&[]), Made::Ranges(&[])),
+        (Made::Layers(&[(0, 1)]), Made::Layers(&[(1, 2)])),
+        (Made::History, Made::Unit),
+    ] {
         assert!(rt; !copy_is(rt.alloc(), *first, *second)?);
     }
     Ok(())

@@ -48,35 +48,24 @@ fn updates(
 /// No reads.
 const NONE: Read<'static> = Read::Values(&[]);
 
-/// Effects of a number, a text and a set.
-const MIXED: Of<'static> = Of(&[Made::Int(1), Made::Text("a"), Made::Ranges(&[])]);
-
-/// By number, the old value, what is typed, effects and the new value.
-const UPDATED: &[(
-    u32,
-    Made<'static>,
-    Typed<'static>,
-    Of<'static>,
-    Made<'static>,
-)] = &[
-    (1, Made::Int(3), TYPED, MIXED, Made::Int(3)),
-    (2, Made::Int(3), TYPED, MIXED, Made::Int(4)),
-    (2, Made::Int(3), IDLE, MIXED, Made::Int(3)),
-    (2, Made::Int(i64::MAX), TYPED, Of(&[]), Made::Int(i64::MAX)),
-    (3, Made::Int(3), TYPED, MIXED, Made::Text("a")),
-    (3, Made::Int(3), TYPED, Of(&[]), Made::Int(3)),
-    (
-        7,
-        Made::Ints(&[5]),
-        IDLE,
-        Of(&[Made::Int(1), Made::Ranges(&[]), Made::Int(2)]),
-        Made::Ints(&[5, 1, 2]),
-    ),
-];
-
 #[test]
 fn updaters_answer_by_number(rt: HostRuntime) -> Result<(), Fail> {
-    for (number, old, typed, effects, want) in UPDATED {
+    let mixed = Of(&[Made::Int(1), Made::Text("a"), Made::Ranges(&[])]);
+    for (number, old, typed, effects, want) in &[
+        (1, Made::Int(3), TYPED, mixed, Made::Int(3)),
+        (2, Made::Int(3), TYPED, mixed, Made::Int(4)),
+        (2, Made::Int(3), IDLE, mixed, Made::Int(3)),
+        (2, Made::Int(i64::MAX), TYPED, Of(&[]), Made::Int(i64::MAX)),
+        (3, Made::Int(3), TYPED, mixed, Made::Text("a")),
+        (3, Made::Int(3), TYPED, Of(&[]), Made::Int(3)),
+        (
+            7,
+            Made::Ints(&[5]),
+            IDLE,
+            Of(&[Made::Int(1), Made::Ranges(&[]), Made::Int(2)]),
+            Made::Ints(&[5, 1, 2]),
+        ),
+    ] {
         assert!(rt;
             updates(rt.alloc(), *number, *old, *typed, *effects, NONE, *want)?,
             "at {number}"
@@ -85,16 +74,13 @@ fn updaters_answer_by_number(rt: HostRuntime) -> Result<(), Fail> {
     Ok(())
 }
 
-/// What is read first, and the new value.
-const FIRST_READ: &[(Option<Made<'static>>, Made<'static>)] = &[
-    (Some(Made::Text("a")), Made::Text("a")),
-    (Some(Made::Ranges(&[])), Made::Unit),
-    (None, Made::Unit),
-];
-
 #[test]
 fn the_first_read_is_the_new_value(rt: HostRuntime) -> Result<(), Fail> {
-    for (read, want) in FIRST_READ {
+    for (read, want) in &[
+        (Some(Made::Text("a")), Made::Text("a")),
+        (Some(Made::Ranges(&[])), Made::Unit),
+        (None, Made::Unit),
+    ] {
         let reads = [*read, Some(Made::Int(1))];
         assert!(rt;
             updates(
@@ -119,29 +105,26 @@ const BEFORE: Typed<'static> = Typed {
     insert: "c",
 };
 
-/// What is typed, effects and the marks after them.
-const MARKED: &[(Typed<'static>, Of<'static>, Made<'static>)] = &[
-    (BEFORE, Of(&[]), Made::Set(&[Drawn::Mark(1, 2)])),
-    (
-        BEFORE,
-        Of(&[
-            Made::Ints(&[1, 3]),
-            Made::Ints(&[0, 4]),
-            Made::Ints(&[1, 1]),
-        ]),
-        Made::Set(&[Drawn::Mark(1, 2), Drawn::Reversed(1, 3)]),
-    ),
-    (
-        IDLE,
-        Of(&[Made::Ints(&[1, 2]), Made::Unit, Made::Ints(&[0, 1])]),
-        Made::Set(&[Drawn::Reversed(0, 1), Drawn::Reversed(1, 2)]),
-    ),
-];
-
 #[test]
 fn marks_are_mapped_and_added(rt: HostRuntime) -> Result<(), Fail> {
     let old = Made::Ranges(&[(0, 1), (1, 9)]);
-    for (typed, effects, want) in MARKED {
+    for (typed, effects, want) in &[
+        (BEFORE, Of(&[]), Made::Set(&[Drawn::Mark(1, 2)])),
+        (
+            BEFORE,
+            Of(&[
+                Made::Ints(&[1, 3]),
+                Made::Ints(&[0, 4]),
+                Made::Ints(&[1, 1]),
+            ]),
+            Made::Set(&[Drawn::Mark(1, 2), Drawn::Reversed(1, 3)]),
+        ),
+        (
+            IDLE,
+            Of(&[Made::Ints(&[1, 2]), Made::Unit, Made::Ints(&[0, 1])]),
+            Made::Set(&[Drawn::Reversed(0, 1), Drawn::Reversed(1, 2)]),
+        ),
+    ] {
         assert!(rt; updates(rt.alloc(), 4, old, *typed, *effects, NONE, *want)?);
     }
     Ok(())
@@ -190,35 +173,29 @@ fn first(
     Ok(depth(&stepped(alloc, &old, typed, note, read)?))
 }
 
-/// What is typed, a note, and how many Changes can be undone.
-const TAKEN: &[(Typed<'static>, Note<'static>, usize)] = &[
-    (TYPED, Note::None, 1),
-    (IDLE, Note::None, 0),
-    (TYPED, Note::Of("addToHistory", Made::Bool(false)), 0),
-    (TYPED, Note::Of("addToHistory", Made::Int(0)), 1),
-    (TYPED, Note::Of("fromHistory", Made::Int(0)), 0),
-    (IDLE, Note::Undoes(1), 1),
-];
-
 #[test]
 fn a_history_takes_what_is_typed(rt: HostRuntime) -> Result<(), Fail> {
-    for (typed, note, want) in TAKEN {
+    for (typed, note, want) in &[
+        (TYPED, Note::None, 1),
+        (IDLE, Note::None, 0),
+        (TYPED, Note::Of("addToHistory", Made::Bool(false)), 0),
+        (TYPED, Note::Of("addToHistory", Made::Int(0)), 1),
+        (TYPED, Note::Of("fromHistory", Made::Int(0)), 0),
+        (IDLE, Note::Undoes(1), 1),
+    ] {
         assert!(rt; first(rt.alloc(), *typed, *note, NONE)? == Some((*want, 0)));
     }
     Ok(())
 }
 
-/// What is read first, and how many Changes can be undone.
-const BOUNDS: &[(Made<'static>, usize)] = &[
-    (Made::Ints(&[0, 500]), 0),
-    (Made::Ints(&[1, 0]), 1),
-    (Made::Ints(&[0]), 1),
-    (Made::Int(0), 1),
-];
-
 #[test]
 fn a_history_reads_its_depth_first(rt: HostRuntime) -> Result<(), Fail> {
-    for (bounds, want) in BOUNDS {
+    for (bounds, want) in &[
+        (Made::Ints(&[0, 500]), 0),
+        (Made::Ints(&[1, 0]), 1),
+        (Made::Ints(&[0]), 1),
+        (Made::Int(0), 1),
+    ] {
         let reads = [Some(*bounds)];
         assert!(rt;
             first(rt.alloc(), TYPED, Note::None, Read::Values(&reads))? == Some((*want, 0))

@@ -2,14 +2,14 @@ use Rattle.std.proofs.Common.{All, List, ℕ}
 use Rattle.transaction.specs.Numbers.{IsNumber}
 use Rattle.values.specs.Shipped.{shipped}
 use Rattle.values.specs.Stored.{Combines, Compares, Computes, ComputesLists, Creates, Extends, Filters, Guards, MapsEffects, Updates}
-use Rattle.slot_cases.proofs.all.calls_that_are_not_due_are_not_made.Goals as goal
+use Rattle.filters_cases.proofs.asked.a_whole_kit_is_asked.Goals as goal
 
 -- what is said of each rule that was made of a number
 said_of : {X : Type 0} {count : ℕ} {R : ℕ → X → Type 0} {Q : X → Type 0} → ((n : ℕ) (x : X) → R n x → Q x) → (xs : List X) → All (λ x. (n : ℕ) × (IsNumber count n × R n x)) xs → All Q xs
 said_of t xs h i d inside = let p = h i d inside in t p.0 _ p.1.1
 
-pub new-refusing-requires : goal.new-kit-requires
-new-refusing-requires g c = record {
+pub new-kit-requires : goal.new-kit-requires
+new-kit-requires g c = record {
   combiners = said_of {Q = Combines shipped} (λ n rule r. r) _ c.each_or_none-combiners.ensures;
   comparers = said_of {Q = Compares shipped} (λ n rule r. r) _ c.each_or_none-comparers.ensures;
   computers = said_of {Q = Computes shipped} (λ n rule r. r) _ c.each_or_none-computers.ensures;

@@ -2,7 +2,7 @@ use Rattle.std.proofs.Common.{All, List, ℕ}
 use Rattle.transaction.specs.Numbers.{IsNumber}
 use Rattle.kit_cases.specs.More.{more}
 use Rattle.values.specs.Stored.{Combines, Compares, Computes, ComputesLists, Creates, Extends, Filters, Guards, MapsEffects, Updates}
-use Rattle.kit_cases.proofs.more_kit.holds.Goals as goal
+use Rattle.kit_cases.proofs.kit.a_kit_with_one_more_rule.Goals as goal
 
 -- what is said of each rule that was made of a number
 said_of : {X : Type 0} {count : ℕ} {R : ℕ → X → Type 0} {Q : X → Type 0} → ((n : ℕ) (x : X) → R n x → Q x) → (xs : List X) → All (λ x. (n : ℕ) × (IsNumber count n × R n x)) xs → All Q xs
