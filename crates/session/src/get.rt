@@ -1,5 +1,5 @@
 // The value of a facet or a field.
-ghost use Rattle.std.specs.Prelude.{◌≡◌, ◌<◌, IfOk, map, option_map, slice_get};
+ghost use Rattle.std.specs.Prelude.{◌≡◌, ◌<◌, IfOk, map, option_copied, option_map, slice_get};
 ghost use Rattle.facet_slots.specs.Agreement.{IsGrown};
 ghost use Rattle.facet_slots.specs.Lent.{definitions};
 ghost use Rattle.script.specs.Reading.{Gives};
@@ -54,7 +54,7 @@ fn shown_layers(alloc: Global, sets: &[DecoSet]) -> Result<Listed<Listed<ShownRa
 
 /// A value, or that there is none, as it is answered.
 fn shown(alloc: Global, value: Option<&Val>) -> Result<Shown, AllocError>
-    ensures { IfOk result (λ s. s ≡ shown (option_map (λ v. v.now) value)) }
+    ensures { IfOk result (λ s. s ≡ shown (option_copied value.entry)) }
 {
     match value {
         None => Ok(Shown::Absent),
