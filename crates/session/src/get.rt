@@ -1,7 +1,5 @@
 // The value of a facet or a field.
 ghost use Rattle.std.specs.Prelude.{◌≡◌, ◌<◌, IfOk, IfSome, map, option_copied, option_map, slice_get};
-ghost use Rattle.facet_slots.specs.Agreement.{IsGrown};
-ghost use Rattle.facet_slots.specs.Lent.{definitions};
 ghost use Rattle.script.specs.Reading.{Gives};
 ghost use Rattle.transaction.specs.Numbers.{IsNumber};
 ghost use Rattle.values.specs.Whole.{IsWhole};
@@ -93,12 +91,7 @@ fn facet_def<M: Meanings>(session: &Session<M>, id: u32) -> Option<&FacetDef>
     ensures value { option_copied result ≡ slice_get session.now.world.declared.facets id }
     ensures number { IfSome result (λ def. IsNumber M.rules.combiners def.now.combine) }
 {
-    session
-        .registry
-        .defs()
-        .facets
-        .as_slice()
-        .get(id as usize)
+    session.registry.defs().facets.as_slice().get(id as usize)
 }
 
 /// The value of a facet that was declared after the state was made, as it is answered.
