@@ -1,5 +1,5 @@
 -- The value of a facet or a field, and how it is answered.
-use Rattle.std.specs.Prelude.{ℕ, List, [], map, length, ltb, Option, None, Some, option_map, slice_get, if◌then◌else◌}
+use Rattle.std.specs.Prelude.{List, [], map, length, ltb, Option, None, Some, option_map, slice_get, if◌then◌else◌}
 use Rattle.configuration.specs.declared.facet_def.FacetDef.{FacetDef}
 use Rattle.configuration.specs.declared.vertex.Vertex.TheVariants.{Facet, Field}
 use Rattle.decoration.specs.declared.deco.Deco.{Deco}

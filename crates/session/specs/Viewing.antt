@@ -1,7 +1,6 @@
 -- The commands of the window.
-use Rattle.std.specs.Prelude.{ℕ, length, map, Result, Ok, Err}
+use Rattle.std.specs.Prelude.{length, map, Result, Ok, Err}
 use Rattle.line_tree.specs.Lines.{lines_of}
-use Rattle.facet_slots.specs.Stepping.{State}
 use Rattle.replies.specs.declared.answer.Answer.{Answer}
 use Rattle.replies.specs.declared.answer.Answer.TheVariants.{Nothing, Screen, Summary}
 use Rattle.replies.specs.declared.shown_screen.ShownCursor.{ShownCursor}

@@ -1,7 +1,5 @@
 // The value of a facet or a field.
-ghost use Rattle.std.specs.Prelude.{◌≡◌, ◌<◌, IfOk, map, option_map, slice_get};
-ghost use Rattle.facet_slots.specs.Agreement.{IsGrown};
-ghost use Rattle.facet_slots.specs.Lent.{definitions};
+ghost use Rattle.std.specs.Prelude.{◌≡◌, ◌<◌, IfOk, IfSome, map, option_copied, option_map, slice_get};
 ghost use Rattle.script.specs.Reading.{Gives};
 ghost use Rattle.transaction.specs.Numbers.{IsNumber};
 ghost use Rattle.values.specs.Whole.{IsWhole};
@@ -54,7 +52,7 @@ fn shown_layers(alloc: Global, sets: &[DecoSet]) -> Result<Listed<Listed<ShownRa
 
 /// A value, or that there is none, as it is answered.
 fn shown(alloc: Global, value: Option<&Val>) -> Result<Shown, AllocError>
-    ensures { IfOk result (λ s. s ≡ shown (option_map (λ v. v.now) value)) }
+    ensures { IfOk result (λ s. s ≡ shown (option_copied value.entry)) }
 {
     match value {
         None => Ok(Shown::Absent),
@@ -88,6 +86,14 @@ fn unfilled<M: Meanings, L: Ledger>(
     kit.combiner(def.combine).call(&[], &mut calls)
 }
 
+/// The definition of a facet, if it is declared.
+fn facet_def<M: Meanings>(session: &Session<M>, id: u32) -> Option<&FacetDef>
+    ensures value { option_copied result ≡ slice_get session.now.world.declared.facets id }
+    ensures number { IfSome result (λ def. IsNumber M.rules.combiners def.now.combine) }
+{
+    session.registry.defs().facets.as_slice().get(id as usize)
+}
+
 /// The value of a facet that was declared after the state was made, as it is answered.
 fn shown_unfilled<M: Meanings>(
     session: &Session<M>,
@@ -97,7 +103,7 @@ fn shown_unfilled<M: Meanings>(
     requires whole { IsWhole M.rules kit.now }
     ensures { IfOk result (λ s. s ≡ shown (option_map (unfilled M.rules) (slice_get session.now.world.declared.facets id))) }
 {
-    match session.registry.defs().facets.as_slice().get(id as usize) {
+    match facet_def(session, id) {
         None => Ok(Shown::Absent),
         Some(def) => {
             let value = unfilled::<M, Brand>(kit, def, Blank::new(1))?;

@@ -96,6 +96,7 @@ fn drawn<M: Meanings, L: Ledger>(
 {
     let layers = session.keys.decorations(session.alloc, state)?;
     let tab = session.keys.tab_size(session.alloc, state)?;
+    state.known();
     let mut laid: Steps<L> = Steps::new(blank);
     let mut screen = Screen::blank(session.alloc);
     screen.draw(&view(state, &layers, tab, &session.window), &mut laid)?;
