@@ -1,5 +1,5 @@
 // The commands of the editor.
-ghost use Rattle.std.specs.Prelude.{◌≡◌, IfOk, length, option_copied, option_map};
+ghost use Rattle.std.specs.Prelude.{◌≡◌, [], ◌∷◌, IfOk, length, option_copied, option_map};
 ghost use Rattle.configuration.specs.declared.vertex.Vertex.TheVariants.{Field};
 ghost use Rattle.typed_keys.specs.Read.{history_in, truth_in};
 ghost use Rattle.line_tree.specs.Text.{cut};
@@ -112,8 +112,10 @@ pub(crate) fn do_command<M: Meanings>(
     }
 }
 
-/// A list of one spec.
-fn one(alloc: Global, spec: Spec<Val>) -> Result<Vec<Spec<Val>>, AllocError> {
+/// A list of one spec. `Err`: out of memory.
+fn one(alloc: Global, spec: Spec<Val>) -> Result<Vec<Spec<Val>>, AllocError>
+    ensures { IfOk result (λ specs. specs.items ≡ spec ∷ []) }
+{
     let mut specs = Vec::new(alloc);
     specs.push(spec)?;
     Ok(specs)
