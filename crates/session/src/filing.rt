@@ -1,11 +1,12 @@
 // The commands of files.
-ghost use Rattle.std.specs.Prelude.{◌≡◌, ◌≢◌, IfErr, IfOk, Ok, Err, option_map, vec_items};
+ghost use Rattle.std.specs.Prelude.{◌≡◌, ◌≢◌, IfErr, IfOk, Ok, Err, Some};
+ghost use Rattle.cm_outside.specs.Files.{found_bytes};
 ghost use Rattle.facet_slots.specs.Agreement.{IsGrown};
 ghost use Rattle.facet_slots.specs.Lent.{definitions};
 ghost use Rattle.script.specs.Reading.{Gives};
 ghost use Rattle.state.specs.Plainly.{created_from};
 ghost use Rattle.values.specs.Whole.{IsWhole};
-ghost use Rattle.session.specs.Filing.{at_start, open_bytes, open_found, separator_in, written};
+ghost use Rattle.session.specs.Filing.{at_start, opened, saved, separator_in};
 ghost use Rattle.session.specs.Outcomes.{done_by};
 ghost use Rattle.session.specs.PrivateSession.{IsPut};
 ghost use Rattle.session.specs.State.{plain_session, plain_state};
@@ -46,7 +47,7 @@ fn separator<M: Meanings>(state: &State<M>) -> &[char]
 
 /// The bytes that the command `save` writes, or `NoSession`. The only other error is out of memory.
 pub(crate) fn saved<M: Meanings>(session: &Session<M>) -> Result<Vec<u8>, LineError>
-    ensures { Gives (λ bytes. bytes.items) result (written (plain_session session.now)) }
+    ensures { Gives (λ v. v.items) result (saved (plain_session session.now)) }
 {
     let state = started(session)?;
     Ok(saved_bytes(session.alloc, state.doc(), separator(state))?)
@@ -95,7 +96,7 @@ fn opened_from<M: Meanings>(
 ) -> Result<Outcome<State<M>>, LineError>
     requires whole { IsWhole M.rules kit.now }
     ensures put { IfOk result (IsPut session.now) }
-    ensures done { Gives (done_by (plain_session session.now)) result (open_bytes M.rules (plain_session session.now) base.now name.now bytes.now) }
+    ensures done { Gives (done_by (plain_session session.now)) result (opened M.rules (plain_session session.now) name.now base.now (Some bytes.now)) }
 {
     match file_text(session.alloc, bytes) {
         Ok(text) => started_as(session, created_over(session, kit, text, base)),
@@ -118,7 +119,7 @@ pub(crate) fn opened<M: Meanings>(
 ) -> Result<Outcome<State<M>>, LineError>
     requires whole { IsWhole M.rules kit.now }
     ensures put { IfOk result (IsPut session.now) }
-    ensures done { Gives (done_by (plain_session session.now)) result (open_found M.rules (plain_session session.now) base.now name.now (option_map vec_items found)) }
+    ensures done { Gives (done_by (plain_session session.now)) result (opened M.rules (plain_session session.now) name.now base.now (found_bytes found)) }
 {
     match found {
         None => Err(missing(name)?),
