@@ -37,9 +37,13 @@ with_file files name bytes other = if bytes_eq other name then Some bytes else f
 abbrev pub bytes_of : State → List ℕ
 bytes_of s = saved_bytes (separator_in (facet_in s SAVE_SEPARATOR)) s.scene.document
 
+-- the bytes that a save writes, if a state was started
+abbrev pub saved : PlainSession → Result (List ℕ) Refusal
+saved s = started s.state >>= λ state. Ok (bytes_of state)
+
 -- Save: the document's text with the save separator in place of each break, under a name
 abbrev pub save : PlainSession → Files → (name : List ℕ) → Result (Answer × Files) Refusal
-save s files name = started s.state >>= λ state. Ok (Bytes (length (bytes_of state)), with_file files name (bytes_of state))
+save s files name = saved s >>= λ bytes. Ok (Bytes (length bytes), with_file files name bytes)
 
 -- the bytes of a file, if there is one of this name
 abbrev pub or_missing : (name : List ℕ) → Option (List ℕ) → Result (List ℕ) Refusal
@@ -55,10 +59,15 @@ or_not_utf8 name (Some text) = Ok text
 abbrev pub at_start : SelectionView
 at_start = record { ranges = record { anchor = 0; head = 0 } ∷ []; main = 0 }
 
+-- the state that nodes come to over the text of a file of this name, whose bytes were found if there is one
+abbrev pub opened : Rules → PlainSession → (name : List ℕ) → (base : List ℕ) → Option (List ℕ) → Result Done Refusal
+opened rules s name base found = do
+  bytes ← or_missing name found
+  text ← or_not_utf8 name (read_chars bytes)
+  put_started s (created_from rules s.world.declared base (record { document = text; selection = at_start }))
+
 -- Open: the state that the named extensions come to over a file's text
 abbrev pub open_file : Rules → PlainSession → Files → OpenRequest → Result Done Refusal
 open_file rules s files request = do
   base ← all_found as_node s.world.names request.extensions
-  bytes ← or_missing request.file (files request.file)
-  text ← or_not_utf8 request.file (read_chars bytes)
-  put_started s (created_from rules s.world.declared base (record { document = text; selection = at_start }))
+  opened rules s request.file base (files request.file)

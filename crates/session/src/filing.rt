@@ -1,7 +1,12 @@
 // The commands of files.
 ghost use Rattle.std.specs.Prelude.{◌≡◌, IfErr, IfOk, Ok, Err};
+ghost use Rattle.cm_outside.specs.Files.{found_bytes};
 ghost use Rattle.script.specs.Reading.{Gives};
 ghost use Rattle.values.specs.Whole.{IsWhole};
+ghost use Rattle.session.specs.Filing.{opened, saved};
+ghost use Rattle.session.specs.Outcomes.{done_by};
+ghost use Rattle.session.specs.PrivateSession.{IsPut};
+ghost use Rattle.session.specs.State.{plain_session};
 
 use crate::outcome::Outcome;
 use crate::putting::started_as;
@@ -28,7 +33,9 @@ fn separator<M: Meanings>(state: &State<M>) -> &[char] {
 }
 
 /// The bytes that the command `save` writes, or `NoSession`. The only other error is out of memory.
-pub(crate) fn saved<M: Meanings>(session: &Session<M>) -> Result<Vec<u8>, LineError> {
+pub(crate) fn saved<M: Meanings>(session: &Session<M>) -> Result<Vec<u8>, LineError>
+    ensures { Gives (λ v. v.items) result (saved (plain_session session.now)) }
+{
     let state = started(session)?;
     Ok(saved_bytes(session.alloc, state.doc(), separator(state))?)
 }
@@ -66,7 +73,11 @@ pub(crate) fn opened<M: Meanings>(
     name: &Str,
     base: &[u32],
     found: Option<Vec<u8>>,
-) -> Result<Outcome<State<M>>, LineError> {
+) -> Result<Outcome<State<M>>, LineError>
+    requires whole { IsWhole M.rules kit.now }
+    ensures put { IfOk result (IsPut session.now) }
+    ensures done { Gives (done_by (plain_session session.now)) result (opened M.rules (plain_session session.now) name.now base.now (found_bytes found)) }
+{
     let Some(bytes) = found else {
         return Err(missing(name)?);
     };
