@@ -1,7 +1,10 @@
 -- What a call of a session leaves, and which requests need the store. Private clauses alone speak of it.
-use Rattle.std.specs.Prelude.{◌≡◌, ◌≢◌, ℕ, List, Bool, true, false, Result, Ok, Err, String, string_bytes, IfSome, ⊤}
+use Rattle.std.specs.Prelude.{◌≡◌, ◌≢◌, ◌⊎◌, ℕ, List, Bool, true, false, Option, Some, Result, Ok, Err, String, string_bytes, IfSome, ⊤}
 use Rattle.std.specs.declared.alloc.AllocError.{AllocError}
 use Rattle.std.specs.declared.alloc.Global.{Global}
+use Rattle.cm_outside.specs.Files.{Files}
+use Rattle.cm_outside.specs.declared.store_fault.StoreFault.{StoreFault}
+use Rattle.cm_outside.specs.declared.store_fault.StoreFault.TheVariants as faults
 use Rattle.facet_slots.specs.Agreement.{IsGrown}
 use Rattle.facet_slots.specs.Lent.{definitions}
 use Rattle.facet_slots.specs.Slotted.{Slotted}
@@ -16,11 +19,12 @@ use Rattle.screen.specs.Head.{ShowsHead}
 use Rattle.script.specs.declared.refusal.LineError.{LineError}
 use Rattle.script.specs.declared.refusal.LineError.TheVariants as errors
 use Rattle.script.specs.declared.refusal.Refusal.{Refusal}
+use Rattle.values.specs.Rules.{Rules}
 use Rattle.viewport.specs.Window.{Window}
 use Rattle.session.specs.declared.outcome.Outcome.{Outcome}
 use Rattle.session.specs.declared.outcome.Outcome.TheVariants.{Answered, Changed, Viewed}
 use Rattle.session.specs.Outcomes.{Done}
-use Rattle.session.specs.Session.{left_by, reply_of}
+use Rattle.session.specs.Session.{act, files_after, left_by, reply_of}
 use Rattle.session.specs.State.{Held, plain_session, plain_state}
 use Rattle.session.specs.Views.{view_of}
 
@@ -33,6 +37,18 @@ IsRefusalText (errors.Refused refusal) text = text ≡ reply_text (replies.No re
 abbrev pub DoneWith : Result Done Refusal → (old new : Held) → Result (String Global) AllocError → Type 0
 DoneWith outcome old new (Ok text) = (string_bytes text ≡ reply_text (reply_of outcome)) × (plain_session new ≡ left_by (plain_session old) outcome)
 DoneWith outcome old new (Err error) = new ≡ old
+
+-- What a line does with the store at hand: the reply, and the session and the files after it. A fault of the store leaves all as
+-- before, but for the files, which may be those after it; out of memory changes nothing.
+abbrev pub Carried : Result Done Refusal → (next files : Files) → (old new : Held) → (now : Option Files) → Result (String Global) StoreFault → Type 0
+Carried outcome next files old new now (Ok text) = DoneWith outcome old new (Ok text) × (now ≡ Some next)
+Carried outcome next files old new now (Err faults.Failed) = (new ≡ old) × ((now ≡ Some files) ⊎ (now ≡ Some next))
+Carried outcome next files old new now (Err faults.NoMemory) = (new ≡ old) × (now ≡ Some files)
+
+-- a line that asks for this, where the store tells its files
+abbrev pub Carries : Rules → Request → (old new : Held) → (told now : Option Files) → Result (String Global) StoreFault → Type 0
+Carries rules request old new told now result =
+    IfSome told (λ files. Carried (act rules request (plain_session old) files) (files_after request (plain_session old) files) files old new now result)
 
 -- what was found is what a definition says, but for out of memory
 abbrev pub Finds : Result State StateError → Result Slotted StateError → Type 0

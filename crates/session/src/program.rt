@@ -5,12 +5,11 @@ ghost use Rattle.values.specs.Whole.{IsWhole};
 ghost use Rattle.words.specs.Words.{words_of};
 ghost use Rattle.session.specs.Headline.{Headline, Replayed, byte_limit};
 
-use crate::replayed::Replayed;
+use crate::replayed::answer_all;
 use crate::session::Session;
-use cm_outside::{Sink, Source, Status, Store};
+use cm_outside::{LineReader, Sink, Source, Status, Store};
 use cm_plain::Str;
 use collab_run::collab;
-use line_run::run_lines;
 use std::alloc::Global;
 use values::{Kit, Meanings};
 use words::Words;
@@ -42,11 +41,13 @@ pub fn replay<M: Meanings, S: Source, K: Sink, D: Store>(
       sink_now = sink_told K.held K.faults sink.new;
     }) (record { files = D.files store.old; faults = D.faults store.old }) (record { files = D.files store.new; faults = D.faults store.new }) }
 {
-    let Ok(session) = Session::new(alloc) else {
+    let Ok(mut session) = Session::new(alloc) else {
         return Status::NoMemory;
     };
-    let mut replayed = Replayed::new(kit, session);
-    run_lines(alloc, &mut replayed, store, limit, source, sink)
+    match LineReader::new(alloc, limit) {
+        Ok(reader) => answer_all(reader, kit, &mut session, store, source, sink),
+        Err(_) => Status::NoMemory,
+    }
 }
 
 /// Does what the words of the command line, without the program's name, ask for. `replay` alone is accepted, and

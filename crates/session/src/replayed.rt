@@ -1,65 +1,87 @@
-// A session with the kit by which it answers lines.
+// The lines of a source, answered by a session with a kit. A kit holds rules that are chosen as a program runs, and what holds
+// such rules can't be handed on as what answers lines, so that the run over lines is written out here.
+ghost use Rattle.std.specs.Prelude.{◌≡◌, ◌≤◌, ◌-◌, [], Err, IfSome, IfErr, OnOk, false, length, ◌⊎◌};
+ghost use Rattle.cm_outside.specs.Answering.{exchange_of};
+ghost use Rattle.cm_outside.specs.Faults.{Rose};
+ghost use Rattle.cm_outside.specs.Runs.{Gave, HasReason};
+ghost use Rattle.line_run.specs.Responding.{EndsBy, IsLine, Responds};
+ghost use Rattle.line_run.specs.Run.{Ended};
+ghost use Rattle.values.specs.Whole.{IsWhole};
 ghost use Rattle.session.specs.State.{desk_of, plain_session};
 ghost use Rattle.session.specs.Transcript.{machine};
 
 use crate::session::Session;
-use cm_outside::{Store, StoreFault};
-use line_run::Answers;
-use std::alloc::AllocError;
-use std::marker::Model;
+use cm_outside::{LineReader, Reading, Sink, Source, Status, Store, StoreFault, write_whole};
 use values::{Kit, Meanings};
 
-/// A session that answers lines by a whole kit.
-#[derive(Drop)]
-pub(crate) struct Replayed<'a, M: Meanings> {
-    kit: &'a Kit<M>,
-    session: Session<M>,
-}
-
-impl<'a, M: Meanings> Model for Replayed<'a, M> {
-    ghost use Rattle.std.specs.Coded.{codes};
-    ghost use Rattle.cm_plain.specs.Datum.{coded_datum};
-    ghost use Rattle.session.specs.State.{Held};
-    ghost use Rattle.values.specs.Whole.{IsWhole};
-
-    ghost Value = { Held };
-
-    ghost coded = { Prim.hlevel (codes, coded_datum) };
-
-    ghost view = { λ r. r.session };
-
-    ghost invariant = { λ r. IsWhole M.rules r.kit.now };
-}
-
-impl<'a, M: Meanings> Replayed<'a, M> {
-    ghost use Rattle.std.specs.Prelude.{◌≡◌};
-    ghost use Rattle.values.specs.Whole.{IsWhole};
-
-    /// The session, which answers by this kit.
-    pub(crate) fn new(kit: &'a Kit<M>, session: Session<M>) -> Replayed<'a, M>
-        requires { IsWhole M.rules kit.now }
-        ensures { result ≡ session }
-    {
-        Replayed { kit, session }
+/// Answers what was read. An `Err` is how the run ends.
+fn respond<M: Meanings, D: Store, K: Sink>(
+    kit: &Kit<M>,
+    session: &mut Session<M>,
+    store: &mut D,
+    reading: &Reading,
+    sink: &mut K,
+) -> Result<(), Status>
+    requires whole { IsWhole M.rules kit.now }
+    ensures responds { IfSome (desk_of (plain_session session.old) (D.files store.old)) (λ p. Responds (machine M.rules) reading.now
+        (exchange_of p (desk_of (plain_session session.new) (D.files store.new)) (K.held sink.old) (K.held sink.new)) result) }
+    ensures goes_on { OnOk result (IsLine reading.now) }
+    ensures ends { IfErr result (EndsBy reading.now) }
+    ensures later { (K.faults sink.old ≤ K.faults sink.new) × (D.faults store.old ≤ D.faults store.new) }
+    ensures write_cause { result ≡ Err Status.WriteFault → Rose (K.faults sink.old) (K.faults sink.new) }
+    ensures store_cause { result ≡ Err Status.StoreFault → Rose (D.faults store.old) (D.faults store.new) }
+{
+    let answered = match reading {
+        Reading::Line(line) => session.line(kit, store, line.as_slice()),
+        Reading::TooLong => session.long_line().map_err(|_| StoreFault::NoMemory),
+        Reading::End => return Err(Status::Ok),
+        Reading::Failed => return Err(Status::ReadFault),
+        Reading::Budget => return Err(Status::TooMuch),
+    };
+    let reply = match answered {
+        Ok(reply) => reply,
+        Err(StoreFault::Failed) => return Err(Status::StoreFault),
+        Err(StoreFault::NoMemory) => return Err(Status::NoMemory),
+    };
+    if write_whole(sink, reply.as_bytes()).is_err() {
+        return Err(Status::WriteFault);
     }
+    Ok(())
 }
 
-impl<'a, M: Meanings, D: Store> Answers<D> for Replayed<'a, M> {
-    ghost use Rattle.session.specs.State.{Desk};
-
-    ghost Plain = { Desk };
-
-    ghost told = { λ held store. desk_of (plain_session held) (D.files store) };
-
-    ghost machine = { machine M.rules };
-
-    ghost faults = { D.faults };
-
-    fn answer(&mut self, line: &[u8], store: &mut D) -> Result<String, StoreFault> {
-        self.session.line(self.kit, store, line)
-    }
-
-    fn answer_long(&mut self, _store: &D) -> Result<String, AllocError> {
-        self.session.long_line()
+/// Has each line that the reader cuts off the source answered, to its end.
+pub(crate) fn answer_all<M: Meanings, D: Store, S: Source, K: Sink>(
+    mut reader: LineReader,
+    kit: &Kit<M>,
+    session: &mut Session<M>,
+    store: &mut D,
+    source: &mut S,
+    sink: &mut K,
+) -> Status
+    requires whole { IsWhole M.rules kit.now }
+    requires fresh { reader ≡ record { limit = reader.limit; taken = 0; ended = false; rest = [] } }
+    // What the run leaves, and why it ended so.
+    ensures ended { IfSome (S.left source.old) (λ input. IfSome (desk_of (plain_session session.old) (D.files store.old)) (λ first.
+        Ended (machine M.rules) result reader.limit (S.given source.new - S.given source.old) input
+        (exchange_of first (desk_of (plain_session session.new) (D.files store.new)) (K.held sink.old) (K.held sink.new)))) }
+    ensures reason { HasReason result reader.limit (S.given source.new - S.given source.old)
+        (Rose (S.faults source.old) (S.faults source.new)) (Rose (K.faults sink.old) (K.faults sink.new))
+        (Rose (D.faults store.old) (D.faults store.new)) }
+    ensures gave { IfSome (S.left source.old) (λ input.
+        Gave (S.given source.new - S.given source.old) input (S.left source.new)) }
+    // Without a fault and within the limit the input is read to its end, or out of memory.
+    ensures complete { ¬ (Rose (S.faults source.old) (S.faults source.new)) → ¬ (Rose (K.faults sink.old) (K.faults sink.new))
+        → ¬ (Rose (D.faults store.old) (D.faults store.new))
+        → IfSome (S.left source.old) (λ input. length input ≤ reader.limit → (result ≡ Status.Ok) ⊎ (result ≡ Status.NoMemory)) }
+    ensures later { (S.given source.old ≤ S.given source.new) × (S.faults source.old ≤ S.faults source.new)
+        × (K.faults sink.old ≤ K.faults sink.new) × (D.faults store.old ≤ D.faults store.new) }
+{
+    loop {
+        let Ok(reading) = reader.read_line(source) else {
+            return Status::NoMemory;
+        };
+        if let Err(status) = respond(kit, session, store, &reading, sink) {
+            return status;
+        }
     }
 }

@@ -1,18 +1,22 @@
-ghost use Rattle.std.specs.Prelude.{◌≡◌, ◌≤◌, Err, Result, true, IfOk, IfSome, string_bytes};
+ghost use Rattle.std.specs.Prelude.{◌≡◌, ◌≤◌, Err, Result, true, IfOk, IfSome, Ok, Some, string_bytes};
 ghost use Rattle.cm_outside.specs.Answering.{Answered};
 ghost use Rattle.cm_outside.specs.Faults.{Rose};
 ghost use Rattle.cm_outside.specs.Files.{Files};
 ghost use Rattle.replies.specs.Replies.{reply_text};
 ghost use Rattle.replies.specs.declared.answer.Reply.TheVariants as replies;
+ghost use Rattle.requests.specs.declared.request.Request.TheVariants as requests;
 ghost use Rattle.script.specs.declared.refusal.Refusal.{Refusal as RefusalData};
 ghost use Rattle.script.specs.declared.refusal.Refusal.TheVariants.{LineTooLong};
 ghost use Rattle.script.specs.Reading.{Gives};
+ghost use Rattle.screen.specs.Head.{ShowsHead};
 ghost use Rattle.values.specs.Whole.{IsWhole};
+ghost use Rattle.session.specs.declared.outcome.Outcome.TheVariants as outcomes;
 ghost use Rattle.session.specs.Outcomes.{Done, done_by};
-ghost use Rattle.session.specs.PrivateSession.{DoneWith, IsPut, IsRefusalText, is_inner};
+ghost use Rattle.session.specs.PrivateSession.{Carries, DoneWith, IsPut, IsPutIn, IsRefusalText, is_inner};
 ghost use Rattle.session.specs.Session.{act, declare};
-ghost use Rattle.session.specs.State.{desk_of, fresh, plain_session, window_of};
+ghost use Rattle.session.specs.State.{desk_of, fresh, plain_session, plain_state, window_of};
 ghost use Rattle.session.specs.Transcript.{machine};
+ghost use Rattle.session.specs.Views.{view_of};
 
 use crate::filing::{opened, saved};
 use crate::keys::Keys;
@@ -135,6 +139,9 @@ impl<M: Meanings> Session<M> {
         request: Request,
     ) -> Result<String, StoreFault>
         requires whole { IsWhole M.rules kit.now }
+        ensures carried { Carries M.rules request self.old self.new (D.files store.old) (D.files store.new) result }
+        ensures later { D.faults store.old ≤ D.faults store.new }
+        ensures cause { result ≡ Err StoreFault.Failed → Rose (D.faults store.old) (D.faults store.new) }
     {
         match request {
             Request::Open(request) => self.open(kit, store, &request),
@@ -151,6 +158,9 @@ impl<M: Meanings> Session<M> {
         request: &OpenRequest,
     ) -> Result<String, StoreFault>
         requires whole { IsWhole M.rules kit.now }
+        ensures carried { Carries M.rules (requests.Open request.now) self.old self.new (D.files store.old) (D.files store.new) result }
+        ensures later { D.faults store.old ≤ D.faults store.new }
+        ensures cause { result ≡ Err StoreFault.Failed → Rose (D.faults store.old) (D.faults store.new) }
     {
         let base = all_found::<Nodes>(self.alloc, &self.names, request.extensions.as_slice());
         let base = match base {
@@ -163,7 +173,11 @@ impl<M: Meanings> Session<M> {
     }
 
     /// The command `save`. The reply is made first.
-    fn save<D: Store>(&mut self, store: &mut D, name: &Str) -> Result<String, StoreFault> {
+    fn save<D: Store>(&mut self, store: &mut D, name: &Str) -> Result<String, StoreFault>
+        ensures carried { Carries M.rules (requests.Save name.now) self.old self.new (D.files store.old) (D.files store.new) result }
+        ensures later { D.faults store.old ≤ D.faults store.new }
+        ensures cause { result ≡ Err StoreFault.Failed → Rose (D.faults store.old) (D.faults store.new) }
+    {
         let bytes = match saved(self) {
             Ok(bytes) => bytes,
             Err(error) => return refusal_text(self.alloc, error).map_err(|_| StoreFault::NoMemory),
@@ -202,6 +216,44 @@ impl<M: Meanings> Session<M> {
         }
     }
 
+    /// Puts another state in place, with its count and its window.
+    fn put(&mut self, next: Next<State<M>>)
+        requires { IsPutIn self.old next.state next.window }
+        ensures { self.new ≡ record self.old { state = Some next.state; count = next.count; window = next.window } }
+    {
+        self.state = Some(next.state);
+        self.count = next.count;
+        self.window = next.window;
+    }
+
+    /// Puts another state in place, and answers. The reply is made first.
+    fn change(&mut self, answer: Answer, next: Next<State<M>>) -> Result<String, AllocError>
+        requires { IsPutIn self.old next.state next.window }
+        ensures { DoneWith (Ok (done_by (plain_session self.old) (outcomes.Changed answer next))) self.old self.new result }
+    {
+        match reply_text(self.alloc, &Reply::Ok(answer)) {
+            Ok(reply) => {
+                self.put(next);
+                Ok(reply)
+            }
+            Err(error) => Err(error),
+        }
+    }
+
+    /// Puts another window in place, and answers. The reply is made first.
+    fn show(&mut self, window: Viewport) -> Result<String, AllocError>
+        requires { IfSome self.old.state (λ slots. ShowsHead (view_of (plain_state slots) window)) }
+        ensures { DoneWith (Ok (done_by (plain_session self.old) (outcomes.Viewed window))) self.old self.new result }
+    {
+        match reply_text(self.alloc, &Reply::Ok(Answer::Nothing)) {
+            Ok(reply) => {
+                self.window = window;
+                Ok(reply)
+            }
+            Err(error) => Err(error),
+        }
+    }
+
     /// Puts in place what a command makes, or answers with its refusal. The reply is made first.
     fn settle(
         &mut self,
@@ -213,23 +265,8 @@ impl<M: Meanings> Session<M> {
         match outcome {
             Err(error) => refusal_text(self.alloc, error),
             Ok(Outcome::Answered(answer)) => reply_text(self.alloc, &Reply::Ok(answer)),
-            Ok(Outcome::Changed(answer, next)) => {
-                let reply = reply_text(self.alloc, &Reply::Ok(answer))?;
-                let Next {
-                    state,
-                    count,
-                    window,
-                } = next;
-                self.state = Some(state);
-                self.count = count;
-                self.window = window;
-                Ok(reply)
-            }
-            Ok(Outcome::Viewed(window)) => {
-                let reply = reply_text(self.alloc, &Reply::Ok(Answer::Nothing))?;
-                self.window = window;
-                Ok(reply)
-            }
+            Ok(Outcome::Changed(answer, next)) => self.change(answer, next),
+            Ok(Outcome::Viewed(window)) => self.show(window),
         }
     }
 
