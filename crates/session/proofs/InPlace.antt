@@ -1,5 +1,5 @@
 -- A new state in place of the one before, or its refusal.
-use Rattle.std.proofs.Common.{◌≡◌, ◌≢◌, ℕ, List, [], ◌∷◌, Bool, true, false, length, Option, Some, None, is_some, Result, Ok, Err, IfOk, IfErr, refl, sym, ap, ◌∙◌, subst, true≢false}
+use Rattle.std.proofs.Common.{◌≡◌, ◌≢◌, ℕ, List, [], ◌∷◌, Bool, true, false, length, Some, is_some, Result, Ok, Err, IfOk, IfErr, refl, sym, ap, ◌∙◌, subst, true≢false}
 use Rattle.facet_slots.specs.Slotted.{Slotted}
 use Rattle.facet_slots.specs.Stepping.{State}
 use Rattle.replies.specs.declared.answer.Answer.{Answer}

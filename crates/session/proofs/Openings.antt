@@ -1,6 +1,6 @@
 -- What a file opens to.
-use Rattle.std.proofs.Common.{◌≡◌, ℕ, List, Bool, true, false, cond, nat_le, length, Option, Some, None, Result, Ok, Err, is_ok, refl, sym, ap, subst, true≢false}
-use Rattle.file_text.specs.Files.{FileFault, TooLong, file_text, file_text_of, read_chars}
+use Rattle.std.proofs.Common.{◌≡◌, ℕ, List, Bool, true, false, cond, nat_le, length, Option, Some, None, Result, Ok, Err, ap}
+use Rattle.file_text.specs.Files.{TooLong, file_text, file_text_of, read_chars}
 use Rattle.facet_slots.specs.Slotted.{Slotted}
 use Rattle.line_tree.specs.Text.{max_len}
 use Rattle.script.specs.declared.refusal.LineError.{LineError}

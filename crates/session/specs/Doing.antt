@@ -1,5 +1,5 @@
 -- The command `do`: a command of the editor (Reference Manual: StateCommand).
-use Rattle.std.specs.Prelude.{ℕ, List, [], ◌∷◌, Bool, true, false, length, Option, None, Some, Result, Ok}
+use Rattle.std.specs.Prelude.{ℕ, [], ◌∷◌, Bool, true, false, length, Option, None, Some, Result, Ok}
 use Rattle.line_tree.specs.Text.{cut}
 use Rattle.commands.specs.Editing.{SceneView}
 use Rattle.commands.specs.Inserting.{insert_spec, newline_spec}

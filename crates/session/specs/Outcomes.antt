@@ -1,8 +1,7 @@
 -- What a command does that isn't refused.
-use Rattle.std.specs.Prelude.{ℕ, ◌+◌, length, min, Option, Some, None, Result, Ok, Err}
+use Rattle.std.specs.Prelude.{ℕ, ◌+◌, length, min, Some, Result, Ok, Err}
 use Rattle.facet_slots.specs.Slotted.{Slotted}
 use Rattle.facet_slots.specs.Stepping.{State}
-use Rattle.names.specs.Names.{NameList}
 use Rattle.replies.specs.declared.answer.Answer.{Answer}
 use Rattle.replies.specs.declared.answer.Answer.TheVariants.{Nothing, Length}
 use Rattle.screen.specs.Reveal.{revealed_window}

@@ -1,5 +1,5 @@
 -- Why there is no state, as a refusal of a line, with ids written as names.
-use Rattle.std.specs.Prelude.{◌≡◌, ⊤, ℕ, List, Option, None, Some}
+use Rattle.std.specs.Prelude.{◌≡◌, ⊤, Option, None, Some}
 use Rattle.configuration.specs.declared.config_error.ConfigError.TheVariants as configs
 use Rattle.names.specs.Names.{NameList}
 use Rattle.names.specs.ConfigRefusals.{config_refusal}

@@ -1,5 +1,5 @@
 -- The command `start`: a new state (Reference Manual: EditorState.create).
-use Rattle.std.specs.Prelude.{ℕ, List, option_and_then, Result}
+use Rattle.std.specs.Prelude.{option_and_then, Result}
 use Rattle.line_tree.specs.Text.{cut}
 use Rattle.selection.specs.Selections.{SelectionView, normal_form, selection_refusal}
 use Rattle.transaction.specs.declared.spec.SelectionSpec.{SelectionSpec}

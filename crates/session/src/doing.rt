@@ -2,12 +2,11 @@
 ghost use Rattle.std.specs.Prelude.{◌≡◌, [], ◌∷◌, IfOk, length, option_copied, option_map};
 ghost use Rattle.configuration.specs.declared.vertex.Vertex.TheVariants.{Field};
 ghost use Rattle.typed_keys.specs.Read.{history_in, truth_in};
-ghost use Rattle.line_tree.specs.Text.{cut};
 ghost use Rattle.commands.specs.Editing.{shown_scene};
 ghost use Rattle.selection.specs.Selections.{LieIn};
 ghost use Rattle.script.specs.Reading.{Gives};
 ghost use Rattle.values.specs.Whole.{IsWhole};
-ghost use Rattle.session.specs.Doing.{do_command, done_with, sent};
+ghost use Rattle.session.specs.Doing.{do_command, sent};
 ghost use Rattle.session.specs.Outcomes.{done_by};
 ghost use Rattle.session.specs.Views.{facet_in, scene_of};
 ghost use Rattle.session.specs.State.{plain_session, plain_state};

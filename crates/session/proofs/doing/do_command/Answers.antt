@@ -1,4 +1,4 @@
-use Rattle.std.proofs.Common.{◌≡◌, ◌∙◌, [], ◌∷◌, sym}
+use Rattle.std.proofs.Common.{◌∙◌, sym}
 use Rattle.state.specs.Plainly.{updated_from}
 use Rattle.session.specs.State.{plain_session, plain_state}
 use Rattle.session.proofs.InPlace.{done-one, found-by}

@@ -1,7 +1,6 @@
 use Rattle.std.proofs.Common.{◌∙◌, ap, length}
 use Rattle.std.proofs.lemmas.Result.{err_from_is_err_and}
 use Rattle.replies.specs.declared.answer.Answer.TheVariants.{Length}
-use Rattle.viewport.specs.Window.{Window}
 use Rattle.session.specs.Outcomes.{shown_in}
 use Rattle.session.specs.State.{Held, plain_session, plain_state, window_of}
 use Rattle.session.proofs.InPlace.{put-done, put-refused}

@@ -1,4 +1,4 @@
-use Rattle.std.proofs.Common.{◌≡◌, ◌∙◌, Ok, ap, sym}
+use Rattle.std.proofs.Common.{◌∙◌, ap, sym}
 use Rattle.names.specs.Transacting.{specs_of}
 use Rattle.state.specs.Plainly.{updated_from}
 use Rattle.session.specs.State.{Held, plain_state}
