@@ -1,4 +1,6 @@
-ghost use Rattle.std.specs.Prelude.{◌≡◌, ◌<◌, List, ℕ, length, IsErr, IfOk, OnOk, OnErr, Some, string_bytes};
+ghost use Rattle.std.specs.Prelude.{◌≡◌, ◌<◌, List, ℕ, length, IsErr, IfOk, OnOk, OnErr, Ok, Some, string_bytes};
+ghost use Rattle.replies.specs.Replies.{reply_text};
+ghost use Rattle.session.specs.Session.{reply_of, left_by};
 ghost use Rattle.cm_outside.specs.Lines.{max_line};
 ghost use Rattle.session.specs.State.{PlainSession, fresh};
 ghost use Rattle.session.specs.Transcript.{outcome, after, reply, machine};
@@ -8,7 +10,7 @@ use crate::outcome::Outcome;
 use crate::started::Started;
 use cm_outside::StoreFault;
 use line_run::Answers;
-use replies::{Reply, reply_text};
+use replies::{Answer, Reply, reply_text};
 use script::{LineError, Refusal};
 use std::alloc::{AllocError, Global};
 use std::marker::Model;
@@ -47,10 +49,22 @@ impl Session {
     {
         match outcome_of(self.alloc, line, &self.state) {
             Err(LineError::NoMemory) => Err(AllocError),
-            Err(LineError::Refused(refusal)) => reply_text(self.alloc, &Reply::No(refusal)),
-            Ok(Outcome::Answered(answer)) => reply_text(self.alloc, &Reply::Ok(answer)),
-            Ok(Outcome::Changed(answer, state)) => {
-                let reply = reply_text(self.alloc, &Reply::Ok(answer))?;
+            Err(LineError::Refused(refusal)) => refused_text(self.alloc, refusal),
+            Ok(outcome) => self.take(outcome),
+        }
+    }
+
+    /// The reply to a line that does this, and its state in the place of the one before. The only error is out of
+    /// memory, which changes nothing.
+    fn take(&mut self, outcome: Outcome) -> Result<String, AllocError>
+        ensures reply { IfOk result (λ r. string_bytes r ≡ reply_text (reply_of (Ok outcome))) }
+        ensures after { OnOk result (self.new ≡ left_by self.old (Ok outcome)) }
+        ensures err { OnErr result (self.new ≡ self.old) }
+    {
+        match outcome {
+            Outcome::Answered(answer) => answered_text(self.alloc, answer),
+            Outcome::Changed(answer, state) => {
+                let reply = answered_text(self.alloc, answer)?;
                 self.state = Some(state);
                 Ok(reply)
             }
@@ -65,6 +79,20 @@ impl Session {
     {
         reply_text(self.alloc, &Reply::No(Refusal::LineTooLong))
     }
+}
+
+/// The reply to a line that is answered. The only error is out of memory.
+fn answered_text(alloc: Global, answer: Answer) -> Result<String, AllocError>
+    ensures { IfOk result (λ r. string_bytes r ≡ reply_text (Reply.Ok answer)) }
+{
+    reply_text(alloc, &Reply::Ok(answer))
+}
+
+/// The reply to a refused line. The only error is out of memory.
+fn refused_text(alloc: Global, refusal: Refusal) -> Result<String, AllocError>
+    ensures { IfOk result (λ r. string_bytes r ≡ reply_text (Reply.No refusal)) }
+{
+    reply_text(alloc, &Reply::No(refusal))
 }
 
 impl Answers<()> for Session {
