@@ -1,7 +1,8 @@
 //! The words of the command line: what they ask for.
 //!
 //! The layer above may rely on this: `Words::of` gives what the words ask for, exactly where they have one of the
-//! accepted forms. A form more is a variant more of `Words` and an equation more of `words_of`.
+//! accepted forms, and the numbers of a form lie in their ranges. A form more is a variant more of `Words` and of
+//! `Invocation`, and an equation more of `words_of`.
 #![tactic(auto)]
 
 mod words;
