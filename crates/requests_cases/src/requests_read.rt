@@ -1,7 +1,10 @@
 // Lines that are read.
 use crate::reading::{are, declaration, is, request};
+use cm_plain::Str;
 use ext_tree::Precedence;
-use requests::{Declaration, NamedEffect, Request, Written};
+use requests::{
+    Declaration, FieldNames, NamedEffect, ProvidedDeclaration, Request, SpecRequest, Written,
+};
 use std::alloc::{AllocError, Global};
 use std::test::Fail;
 
@@ -43,58 +46,68 @@ fn declaring(declaration: &Declaration) -> &'static str {
     }
 }
 
+const EACH_COMMAND: &[(&str, &str)] = &[
+    ("{\"effect\":{\"name\":\"e\"}}", "effect"),
+    ("{\"inverse\":{\"effect\":\"a\",\"back\":\"b\"}}", "inverse"),
+    ("{\"facet\":{\"name\":\"f\",\"combine\":1}}", "facet"),
+    (
+        "{\"field\":{\"name\":\"n\",\"create\":3,\"update\":2,\"reads\":[\"doc\"]}}",
+        "field",
+    ),
+    ("{\"compartment\":{\"name\":\"c\"}}", "compartment"),
+    (
+        "{\"input\":{\"name\":\"i\",\"facet\":\"f\",\"value\":null}}",
+        "input",
+    ),
+    (
+        "{\"compute\":{\"name\":\"i\",\"facet\":\"f\",\"rule\":1,\"deps\":[]}}",
+        "compute",
+    ),
+    (
+        "{\"from\":{\"name\":\"i\",\"facet\":\"f\",\"field\":\"n\"}}",
+        "from",
+    ),
+    (
+        "{\"init\":{\"name\":\"i\",\"field\":\"n\",\"value\":{\"ranges\":[]}}}",
+        "init",
+    ),
+    ("{\"group\":{\"name\":\"g\",\"of\":[\"i\",\"i\"]}}", "group"),
+    (
+        "{\"prec\":{\"name\":\"p\",\"at\":\"highest\",\"of\":\"i\"}}",
+        "prec",
+    ),
+    (
+        "{\"slot\":{\"name\":\"s\",\"compartment\":\"c\",\"of\":\"i\"}}",
+        "slot",
+    ),
+    ("{\"start\":{}}", "start"),
+    ("{\"open\":{\"file\":\"f\"}}", "open"),
+    ("{\"save\":{\"file\":\"f\"}}", "save"),
+    ("{\"update\":[]}", "update"),
+    ("{\"do\":{\"command\":\"undo\"}}", "do"),
+    ("{\"text\":{}}", "text"),
+    ("{\"selection\":{}}", "selection"),
+    ("{\"get\":{\"name\":\"f\"}}", "get"),
+    ("{\"map\":{\"doc\":\"\",\"a\":[],\"op\":\"of\"}}", "map"),
+    ("{\"view\":{\"rows\":0,\"cols\":0}}", "view"),
+    ("{\"screen\":{}}", "screen"),
+    ("{\"summary\":{}}", "summary"),
+];
+
+/// The place of the first line that is read as another command.
+fn first_other(alloc: Global, cases: &[(&str, &str)]) -> usize {
+    for i in 0..cases.len() {
+        let (line, command) = cases[i];
+        if command_of(alloc, line) != command {
+            return i;
+        }
+    }
+    cases.len()
+}
+
 #[test]
 fn each_command_is_read(rt: HostRuntime) {
-    let cases = [
-        ("{\"effect\":{\"name\":\"e\"}}", "effect"),
-        ("{\"inverse\":{\"effect\":\"a\",\"back\":\"b\"}}", "inverse"),
-        ("{\"facet\":{\"name\":\"f\",\"combine\":1}}", "facet"),
-        (
-            "{\"field\":{\"name\":\"n\",\"create\":3,\"update\":2,\"reads\":[\"doc\"]}}",
-            "field",
-        ),
-        ("{\"compartment\":{\"name\":\"c\"}}", "compartment"),
-        (
-            "{\"input\":{\"name\":\"i\",\"facet\":\"f\",\"value\":null}}",
-            "input",
-        ),
-        (
-            "{\"compute\":{\"name\":\"i\",\"facet\":\"f\",\"rule\":1,\"deps\":[]}}",
-            "compute",
-        ),
-        (
-            "{\"from\":{\"name\":\"i\",\"facet\":\"f\",\"field\":\"n\"}}",
-            "from",
-        ),
-        (
-            "{\"init\":{\"name\":\"i\",\"field\":\"n\",\"value\":{\"ranges\":[]}}}",
-            "init",
-        ),
-        ("{\"group\":{\"name\":\"g\",\"of\":[\"i\",\"i\"]}}", "group"),
-        (
-            "{\"prec\":{\"name\":\"p\",\"at\":\"highest\",\"of\":\"i\"}}",
-            "prec",
-        ),
-        (
-            "{\"slot\":{\"name\":\"s\",\"compartment\":\"c\",\"of\":\"i\"}}",
-            "slot",
-        ),
-        ("{\"start\":{}}", "start"),
-        ("{\"open\":{\"file\":\"f\"}}", "open"),
-        ("{\"save\":{\"file\":\"f\"}}", "save"),
-        ("{\"update\":[]}", "update"),
-        ("{\"do\":{\"command\":\"undo\"}}", "do"),
-        ("{\"text\":{}}", "text"),
-        ("{\"selection\":{}}", "selection"),
-        ("{\"get\":{\"name\":\"f\"}}", "get"),
-        ("{\"map\":{\"doc\":\"\",\"a\":[],\"op\":\"of\"}}", "map"),
-        ("{\"view\":{\"rows\":0,\"cols\":0}}", "view"),
-        ("{\"screen\":{}}", "screen"),
-        ("{\"summary\":{}}", "summary"),
-    ];
-    for (line, command) in cases {
-        assert!(rt; command_of(rt.alloc(), line) == command, "{line}");
-    }
+    assert!(rt; first_other(rt.alloc(), EACH_COMMAND) == EACH_COMMAND.len());
 }
 
 /// Whether a line declares a facet f of combiner 5 with these comparers, that is static or not, with so many nodes.
@@ -108,15 +121,19 @@ fn is_facet(
 ) -> Result<bool, AllocError> {
     match declaration(alloc, line) {
         Some(Declaration::Facet(facet)) => Ok(
-            is(&facet.name, "f")?
-                && facet.def.combine == 5
+            facet.def.combine == 5
                 && facet.def.compare_input == compare_input
                 && facet.def.compare == compare
                 && facet.def.is_static == is_static
-                && are(facet.enables.as_slice(), enables)?,
+                && is_named(&facet.name, facet.enables.as_slice(), enables)?,
         ),
         _ => Ok(false),
     }
+}
+
+/// Whether this is the name f, and these are the nodes.
+fn is_named(name: &Str, nodes: &[Str], want: &[&str]) -> Result<bool, AllocError> {
+    Ok(is(name, "f")? && are(nodes, want)?)
 }
 
 #[test]
@@ -139,23 +156,38 @@ fn is_field(
     listens: &[&str],
     rule: Option<u32>,
 ) -> Result<bool, AllocError> {
-    let Some(Declaration::Field(field)) = declaration(alloc, line) else {
-        return Ok(false);
-    };
-    let provides = match (field.names.provides.as_slice(), rule) {
-        ([], None) => true,
-        ([provided], Some(rule)) => provided.rule == rule && is(&provided.facet, "f")?,
-        _ => false,
-    };
-    let rules = field.rules;
+    match declaration(alloc, line) {
+        Some(Declaration::Field(field)) => Ok(
+            field.rules.create == 3
+                && field.rules.update == 2
+                && field.rules.compare == compare
+                && has_names(&field.names, reads, listens, rule)?,
+        ),
+        _ => Ok(false),
+    }
+}
+
+/// Whether these are the reads and the effects of a field, and one input of facet f by this rule, if there is one.
+fn has_names(
+    names: &FieldNames,
+    reads: &[&str],
+    listens: &[&str],
+    rule: Option<u32>,
+) -> Result<bool, AllocError> {
     Ok(
-        provides
-            && rules.create == 3
-            && rules.update == 2
-            && rules.compare == compare
-            && are(field.names.reads.as_slice(), reads)?
-            && are(field.names.listens.as_slice(), listens)?,
+        provides(names.provides.as_slice(), rule)?
+            && are(names.reads.as_slice(), reads)?
+            && are(names.listens.as_slice(), listens)?,
     )
+}
+
+/// Whether there is one input of facet f by this rule, or none.
+fn provides(all: &[ProvidedDeclaration], rule: Option<u32>) -> Result<bool, AllocError> {
+    match (all, rule) {
+        ([], None) => Ok(true),
+        ([provided], Some(rule)) => Ok(provided.rule == rule && is(&provided.facet, "f")?),
+        _ => Ok(false),
+    }
 }
 
 #[test]
@@ -194,12 +226,21 @@ fn level_of(alloc: Global, at: &str) -> Result<Option<usize>, AllocError> {
     }
 }
 
+const LEVELS: &[&str] = &["highest", "high", "default", "low", "lowest"];
+
+/// The first level that is read otherwise.
+fn first_other_level(alloc: Global, levels: &[&str]) -> Result<usize, AllocError> {
+    for level in 0..levels.len() {
+        if level_of(alloc, levels[level])? != Some(level) {
+            return Ok(level);
+        }
+    }
+    Ok(levels.len())
+}
+
 #[test]
 fn precedences_are_read(rt: HostRuntime) -> Result<(), Fail> {
-    let cases = ["highest", "high", "default", "low", "lowest"];
-    for level in 0..cases.len() {
-        assert!(rt; level_of(rt.alloc(), cases[level])? == Some(level));
-    }
+    assert!(rt; first_other_level(rt.alloc(), LEVELS)? == LEVELS.len());
     assert!(rt; Precedence::Lowest.level() == 4);
     Ok(())
 }
@@ -207,10 +248,15 @@ fn precedences_are_read(rt: HostRuntime) -> Result<(), Fail> {
 /// The form of the only effect of an update, and the names that stand in it.
 fn is_effect(alloc: Global, effect: &str, form: &str, names: &[&str]) -> Result<bool, AllocError> {
     let line = format!(in alloc; "{{\"update\":[{{\"effects\":[{effect}]}}]}}")?;
-    let Some(Request::Update(specs)) = request(alloc, line.as_str()) else {
-        return Ok(false);
-    };
-    match specs.as_slice() {
+    match request(alloc, line.as_str()) {
+        Some(Request::Update(specs)) => is_only_effect(specs.as_slice(), form, names),
+        _ => Ok(false),
+    }
+}
+
+/// Whether the only effect of the only spec is of this form and has these names.
+fn is_only_effect(specs: &[SpecRequest], form: &str, names: &[&str]) -> Result<bool, AllocError> {
+    match specs {
         [spec] => match spec.effects.as_slice() {
             [effect] => has_form(effect, form, names),
             _ => Ok(false),
