@@ -1,17 +1,21 @@
+ghost use Rattle.std.specs.Prelude.{◌≡◌};
 ghost use Rattle.cm_outside.specs.Sink.{sink_told};
 ghost use Rattle.cm_outside.specs.Source.{source_told};
-ghost use Rattle.line_run.specs.Run.{RanAlone};
+ghost use Rattle.values.specs.Whole.{IsWhole};
 ghost use Rattle.words.specs.Words.{words_of};
-ghost use Rattle.session.specs.State.{fresh};
-ghost use Rattle.session.specs.Transcript.{machine};
-ghost use Rattle.session.specs.Headline.{Headline, byte_limit};
+ghost use Rattle.session.specs.Headline.{Headline, Replayed, ReplayedFrom};
+ghost use Rattle.session.specs.State.{plain_session};
+ghost use Rattle.session.specs.Stores.{store_told};
 
+use crate::editing::edit;
+use crate::making::make;
+use crate::replayed::answer_all;
 use crate::session::Session;
-use cm_outside::{Sink, Source, Status};
+use cm_outside::{Clock, LineReader, Sink, Source, Status, Store};
 use cm_plain::Str;
 use collab_run::collab;
-use line_run::run_lines;
 use std::alloc::Global;
+use values::{Kit, Meanings};
 use words::Words;
 
 /// The greatest number of bytes that a run of the program takes.
@@ -19,39 +23,92 @@ pub const LIMIT: u64 = 4_294_967_296;
 
 /// Answers each line of the source, in order, to its end: one reply a line, each written whole before the next line
 /// is answered. A line ends at LF or at the end of input, and a last part without bytes is no line. At most `limit`
-/// bytes are taken, and one more by which the run knows that there are more.
+/// bytes are taken, and one more by which the run knows that there are more. The rules of facets and fields are those of the
+/// kit; files are loaded from the store and saved to it.
 ///
-/// `Ok`: the input was read to its end. `ReadFault`, `WriteFault`: the count of faults of the source, of the sink
-/// rose. `TooMuch`: one byte more than the limit was taken. `NoMemory`: out of memory. No other status comes.
-pub fn replay<S: Source, K: Sink>(alloc: Global, limit: u64, source: &mut S, sink: &mut K) -> Status
-    ensures { RanAlone machine fresh result (record {
+/// `Ok`: the input was read to its end. `ReadFault`, `WriteFault`, `StoreFault`: the count of faults of the source, of the sink,
+/// of the store rose. `TooMuch`: one byte more than the limit was taken. `NoMemory`: out of memory. No other status comes.
+pub fn replay<M: Meanings, S: Source, K: Sink, D: Store>(
+    alloc: Global,
+    kit: &Kit<M>,
+    limit: u64,
+    source: &mut S,
+    sink: &mut K,
+    store: &mut D,
+) -> Status
+    requires whole { IsWhole M.rules kit.now }
+    ensures { Replayed M.rules result (record {
       limit = limit;
       source = source_told S.left S.given S.faults source.old;
       source_now = source_told S.left S.given S.faults source.new;
       sink = sink_told K.held K.faults sink.old;
       sink_now = sink_told K.held K.faults sink.new;
-    }) }
+    }) (store_told D.files D.faults store.old) (store_told D.files D.faults store.new) }
 {
-    let mut session = Session::new(alloc);
-    run_lines(alloc, &mut session, &mut (), limit, source, sink)
+    match Session::new(alloc) {
+        Ok(mut session) => replay_by(alloc, &mut session, kit, limit, source, sink, store),
+        Err(_) => Status::NoMemory,
+    }
 }
 
-/// Does what the words of the command line, without the program's name, ask for. `replay` alone is accepted, and
-/// replays the source with the limit of 4,294,967,296 bytes; `collab` alone is accepted, and answers each line of the
-/// source as a world of clients and an authority, with the same limit. In both cases the status is one of those of
-/// `replay`. `Usage` comes exactly where the words aren't accepted, and nothing is read or written then.
-pub fn run<S: Source, K: Sink>(alloc: Global, words: &[Str], source: &mut S, sink: &mut K) -> Status
-    ensures { Headline (words_of words.now) result (record {
-      limit = byte_limit;
+/// Answers each line of the source by a session, as `replay` does.
+fn replay_by<M: Meanings, S: Source, K: Sink, D: Store>(
+    alloc: Global,
+    session: &mut Session<M>,
+    kit: &Kit<M>,
+    limit: u64,
+    source: &mut S,
+    sink: &mut K,
+    store: &mut D,
+) -> Status
+    requires whole { IsWhole M.rules kit.now }
+    ensures { ReplayedFrom M.rules (plain_session session.old) result (record {
+      limit = limit;
       source = source_told S.left S.given S.faults source.old;
       source_now = source_told S.left S.given S.faults source.new;
       sink = sink_told K.held K.faults sink.old;
       sink_now = sink_told K.held K.faults sink.new;
-    }) source.old source.new sink.old sink.new }
+    }) (store_told D.files D.faults store.old) (store_told D.files D.faults store.new) }
+{
+    match LineReader::new(alloc, limit) {
+        Ok(reader) => answer_all(reader, kit, session, store, source, sink),
+        Err(_) => Status::NoMemory,
+    }
+}
+
+/// Does what the words of the command line, without the program's name, ask for, with a limit of 4,294,967,296 bytes. `replay`
+/// alone replays the source; `collab` alone answers each line of the source as a world of clients and an authority, under the
+/// statuses of `replay`; `edit FILE ROWS COLS` edits a file by the keys of the source; `make N` answers the lines of a made
+/// workload. `Usage` comes exactly where the words have none of these forms, and nothing is read or written then.
+pub fn run<M: Meanings, S: Source, K: Sink, D: Store, C: Clock>(
+    alloc: Global,
+    words: &[Str],
+    kit: &Kit<M>,
+    source: &mut S,
+    sink: &mut K,
+    store: &mut D,
+    clock: &mut C,
+) -> Status
+    requires whole { IsWhole M.rules kit.now }
+    ensures { Headline M.rules (words_of words.now) result (record {
+      left = S.left;
+      given = S.given;
+      read_faults = S.faults;
+      held = K.held;
+      write_faults = K.faults;
+      files = D.files;
+      store_faults = D.faults;
+      coming = C.coming;
+    }) (record { source = source.old; sink = sink.old; store = store.old; clock = clock.old })
+        (record { source = source.new; sink = sink.new; store = store.new; clock = clock.new }) }
 {
     match Words::of(words) {
-        Some(Words::Replay) => replay(alloc, LIMIT, source, sink),
+        Some(Words::Replay) => replay(alloc, kit, LIMIT, source, sink, store),
         Some(Words::Collab) => collab(alloc, LIMIT, source, sink),
+        Some(Words::Edit { file, rows, cols }) => edit(
+            alloc, kit, LIMIT, file, rows, cols, source, sink, store, clock,
+        ),
+        Some(Words::Make { transactions }) => make(alloc, kit, transactions, sink, store),
         None => Status::Usage,
     }
 }

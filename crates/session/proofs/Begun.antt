@@ -1,0 +1,28 @@
+-- The session in which a text is opened.
+use Rattle.std.proofs.Common.{◌≡◌, ◌∙◌, ℕ, List, [], ◌∷◌, Option, None, Some, IfSome, is_some, sym, ap, true≢false}
+use Rattle.std.specs.Prelude.{Ok, option_map}
+use Rattle.facet_slots.specs.Slotted.{Slotted}
+use Rattle.registry.specs.declared.predeclared.TheConstants.{HISTORY_NODE}
+use Rattle.replies.specs.declared.answer.Answer.{Answer}
+use Rattle.state.specs.Plainly.{created_from}
+use Rattle.values.specs.Rules.{Rules}
+use Rattle.session.specs.declared.outcome.Next.{Next}
+use Rattle.session.specs.declared.outcome.Outcome.TheVariants.{Changed}
+use Rattle.session.specs.Editing.{Edit, begun, fresh_in}
+use Rattle.session.specs.Filing.{at_start}
+use Rattle.session.specs.Outcomes.{done_by, put_started}
+use Rattle.session.specs.Session.{left_by}
+use Rattle.session.specs.State.{Held, PlainSession, plain_session, plain_state}
+
+-- a state that isn't there has each property
+pub no_state : (held : Option Slotted) (P : Slotted → Type 0) → option_map plain_state held ≡ None → IfSome held P
+no_state None P none = tt
+no_state (Some slots) P none = absurd (true≢false (ap is_some none))
+
+-- what opening a text puts in place of a fresh session is the session that begins
+pub begins_as : (rules : Rules) (e : Edit) (text : List ℕ) (old new : Held) (answer : Answer) (next : Next Slotted) → plain_session old ≡ fresh_in e
+    → put_started (plain_session old) (created_from rules old.world.declared (HISTORY_NODE ∷ []) (record { document = text; selection = at_start })) ≡ Ok (done_by (plain_session old) (Changed answer next))
+    → new ≡ record old { state = Some next.state; count = next.count; window = next.window } → plain_session new ≡ begun rules e text
+begins_as rules e text old new answer next fresh made is =
+    ap plain_session is ∙ sym (ap (left_by (plain_session old)) made)
+    ∙ ap (λ (s : PlainSession). left_by s (put_started s (created_from rules s.world.declared (HISTORY_NODE ∷ []) (record { document = text; selection = at_start })))) fresh
