@@ -1,22 +1,36 @@
-//! The program `ccm`: it answers script lines from standard input to standard output.
+//! The program `ccm`: it answers script lines from standard input to standard output, edits a file by the keys of standard
+//! input, or answers a made workload.
 //!
-//! `main` makes the two devices, whose reads and writes count their faults, hands the words of the command line to
+//! `main` makes the devices, which count their faults, hands the words of the command line to
 //! `session::run`, and ends with the status of the run; a status other than 0 gives one line to standard error.
 #![tactic(auto)]
 
+mod folder_store;
 mod standard_input;
 mod standard_output;
+mod system_clock;
 #[cfg(test)]
 mod tests;
 
-use cm_outside::Status;
+ghost use Rattle.std.specs.Prelude.{◌≡◌, ◌⊎◌};
+ghost use Rattle.session.specs.Headline.{Headline};
+ghost use Rattle.values.specs.Shipped.{shipped};
+ghost use Rattle.words.specs.Words.{words_of};
+
+use cm_outside::{Clock, Sink, Source, Status, Store};
 use cm_plain::Str;
+use folder_store::FolderStore;
 use session::run;
+use shipped_kit::{KitUser, lend_kit};
+use shipped_rules::Shipped;
 use standard_input::StandardInput;
 use standard_output::StandardOutput;
+use std::alloc::Global;
 use std::process::ExitCode;
 use std::rt::Env;
 use std::{env, io};
+use system_clock::SystemClock;
+use values::Kit;
 
 /// The words of the command line, without the program's name.
 fn words(rt: &(impl Env + AllocGlobal)) -> io::Result<Vec<Str>> {
@@ -31,7 +45,9 @@ fn words(rt: &(impl Env + AllocGlobal)) -> io::Result<Vec<Str>> {
 fn complaint(status: Status) -> Option<&'static str> {
     match status {
         Status::Ok => None,
-        Status::Usage => Some("ccm: usage: ccm replay | ccm collab"),
+        Status::Usage => Some(
+            "ccm: usage: ccm replay | ccm edit FILE ROWS COLS | ccm make N | ccm collab",
+        ),
         Status::ReadFault => Some("ccm: read fault"),
         Status::WriteFault => Some("ccm: write fault"),
         Status::StoreFault => Some("ccm: store fault"),
@@ -41,11 +57,80 @@ fn complaint(status: Status) -> Option<&'static str> {
     }
 }
 
+/// The words of the command line, without the program's name, and the devices of a run.
+#[derive(Drop)]
+struct Program<S: Source + Drop, K: Sink + Drop, D: Store + Drop, C: Clock + Drop> {
+    words: Vec<Str>,
+    source: S,
+    sink: K,
+    store: D,
+    clock: C,
+}
+
+impl<S: Source + Drop, K: Sink + Drop, D: Store + Drop, C: Clock + Drop> KitUser
+    for Program<S, K, D, C> {
+    type Answer = Status;
+
+    ghost gives = { λ before status after. Headline shipped (words_of before.words.items) status (record {
+      left = S.left;
+      given = S.given;
+      read_faults = S.faults;
+      held = K.held;
+      write_faults = K.faults;
+      files = D.files;
+      store_faults = D.faults;
+      coming = C.coming;
+    }) (record { source = before.source; sink = before.sink; store = before.store; clock = before.clock })
+        (record { source = after.source; sink = after.sink; store = after.store; clock = after.clock }) };
+
+    fn use_kit(&mut self, alloc: Global, kit: &Kit<Shipped>) -> Status {
+        run(
+            alloc,
+            self.words.as_slice(),
+            kit,
+            &mut self.source,
+            &mut self.sink,
+            &mut self.store,
+            &mut self.clock,
+        )
+    }
+}
+
+/// Does what the words ask for, with the kit of the shipped rules. Where that kit is out of memory, nothing is done.
+fn run_shipped<S: Source + Drop, K: Sink + Drop, D: Store + Drop, C: Clock + Drop>(
+    alloc: Global,
+    program: &mut Program<S, K, D, C>,
+) -> Status
+    ensures { (result ≡ Status.NoMemory) × (program.new ≡ program.old) ⊎ Headline shipped (words_of program.old.words.items) result (record {
+      left = S.left;
+      given = S.given;
+      read_faults = S.faults;
+      held = K.held;
+      write_faults = K.faults;
+      files = D.files;
+      store_faults = D.faults;
+      coming = C.coming;
+    }) (record { source = program.old.source; sink = program.old.sink; store = program.old.store; clock = program.old.clock })
+        (record { source = program.new.source; sink = program.new.sink; store = program.new.store; clock = program.new.clock }) }
+{
+    match lend_kit(alloc, program) {
+        Ok(status) => status,
+        Err(_) => Status::NoMemory,
+    }
+}
+
 fn main(rt: HostRuntime) -> ExitCode {
-    let mut source = StandardInput::new(rt.reader());
-    let mut sink = StandardOutput::new(io::writer(&rt));
     let status = match words(&rt) {
-        Ok(words) => run(rt.alloc(), words.as_slice(), &mut source, &mut sink),
+        Ok(words) => run_shipped(
+            rt.alloc(),
+            &mut Program {
+                words,
+                source: StandardInput::new(rt.reader()),
+                sink: StandardOutput::new(io::writer(&rt)),
+                store: FolderStore::new(&rt),
+                clock: SystemClock::new(&rt),
+            },
+        ),
         Err(error) if error.kind() == io::ErrorKind::OutOfMemory => Status::NoMemory,
         Err(_) => Status::Usage,
     };

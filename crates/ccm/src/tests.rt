@@ -1,7 +1,10 @@
 use super::complaint;
+use crate::folder_store::FolderStore;
 use crate::standard_input::StandardInput;
 use crate::standard_output::StandardOutput;
-use cm_outside::{Failed, Sink, Source, Status};
+use crate::system_clock::SystemClock;
+use cm_outside::{Clock, Failed, Sink, Source, Status, Store, StoreFault};
+use cm_plain::Str;
 use std::alloc::{AllocError, Global};
 use std::io::{self, ErrorKind, Read, Write};
 use std::test::Fail;
@@ -10,7 +13,10 @@ use std::test::Fail;
 fn each_status_has_its_line(rt: HostRuntime) {
     let cases = [
         (Status::Ok, None),
-        (Status::Usage, Some("ccm: usage: ccm replay | ccm collab")),
+        (
+            Status::Usage,
+            Some("ccm: usage: ccm replay | ccm edit FILE ROWS COLS | ccm make N | ccm collab"),
+        ),
         (Status::ReadFault, Some("ccm: read fault")),
         (Status::WriteFault, Some("ccm: write fault")),
         (Status::StoreFault, Some("ccm: store fault")),
@@ -86,4 +92,45 @@ fn standard_output_takes_what_its_writer_takes(rt: HostRuntime) {
     assert!(rt; sink.write(b"bc") == Ok(1));
     assert!(rt; sink.write(b"") == Ok(0));
     assert!(rt; sink.write(b"c") == Err(Failed));
+}
+
+/// Whether a store loads these bytes under a name.
+fn loads<D: Store>(
+    alloc: Global,
+    store: &mut D,
+    name: &str,
+    want: Option<&[u8]>,
+) -> Result<bool, StoreFault> {
+    let Ok(name) = Str::of_text(alloc, name) else {
+        return Err(StoreFault::NoMemory);
+    };
+    let found = store.load(&name)?;
+    Ok(match (&found, want) {
+        (None, None) => true,
+        (Some(found), Some(want)) => found.as_slice() == want,
+        _ => false,
+    })
+}
+
+#[test]
+fn a_folder_keeps_what_is_saved(rt: HostRuntime) -> Result<(), Fail> {
+    let alloc = rt.alloc();
+    let mut store = FolderStore::new(&rt);
+    let name = Str::of_text(alloc, "saved.txt")?;
+    assert!(rt; loads(alloc, &mut store, "saved.txt", None) == Ok(true));
+    assert!(rt; store.save(&name, b"one") == Ok(()));
+    assert!(rt; store.save(&name, b"two") == Ok(()));
+    assert!(rt; loads(alloc, &mut store, "saved.txt", Some(b"two")) == Ok(true));
+    assert!(rt; loads(alloc, &mut store, "saved.txt.ccm-new", None) == Ok(true));
+    assert!(rt; loads(alloc, &mut store, "../saved.txt", None) == Err(StoreFault::Failed));
+    assert!(rt; loads(alloc, &mut store, "/etc/hostname", None) == Err(StoreFault::Failed));
+    Ok(())
+}
+
+#[test]
+fn the_system_clock_tells_milliseconds(rt: HostRuntime) {
+    let mut clock = SystemClock::new(&rt);
+    let first = clock.now();
+    assert!(rt; first > 1_600_000_000_000);
+    assert!(rt; clock.now() < first + 86_400_000);
 }

@@ -2,7 +2,21 @@
 #![tactic(auto)]
 
 #[cfg(test)]
+mod configured;
+#[cfg(test)]
+mod declared;
+#[cfg(test)]
+mod done;
+#[cfg(test)]
+mod editing;
+#[cfg(test)]
+mod filed;
+#[cfg(test)]
+mod filtered;
+#[cfg(test)]
 mod lines;
+#[cfg(test)]
+mod making;
 #[cfg(test)]
 mod maps;
 #[cfg(test)]
@@ -16,4 +30,10 @@ mod script_lines;
 #[cfg(test)]
 mod selections;
 #[cfg(test)]
+mod shown;
+#[cfg(test)]
+mod talking;
+#[cfg(test)]
 mod updates;
+#[cfg(test)]
+mod words_read;

@@ -116,7 +116,7 @@ fn fields_of_specs_are_refused(rt: HostRuntime) -> Result<(), Fail> {
         (r#"{"update":[{"userEvent":1,"filter":1}]}"#, "userEvent"),
         (r#"{"update":[{"sequential":0,"filter":1}]}"#, "sequential"),
         (r#"{"update":[{"filter":null}]}"#, "filter"),
-        (r#"{"update":[{"effects":[]}]}"#, "effects"),
+        (r#"{"update":[{"effects":1}]}"#, "effects"),
         (r#"{"start":{"main":0,"selection":0}}"#, "selection"),
         (r#"{"selection":1}"#, "selection"),
     ];

@@ -1,6 +1,11 @@
-use cm_outside::{MemSink, MemSource, Piece, Status};
+ghost use Rattle.std.specs.Prelude.{⊤};
+
+use cm_outside::{Leaves, MemSink, MemSource, MemStore, Piece, Status};
 use session::{LIMIT, replay};
+use shipped_kit::{KitUser, lend_kit};
+use shipped_rules::Shipped;
 use std::alloc::{AllocError, Global};
+use values::Kit;
 
 /// A source of these bytes, in pieces of at most so many, of which the calls of these numbers fail.
 pub(crate) fn source(
@@ -25,11 +30,53 @@ pub(crate) fn sink(alloc: Global, failing: &[u64]) -> Result<MemSink, AllocError
     MemSink::new(alloc, 10_000, Vec::from_slice(alloc, failing)?)
 }
 
+/// A store without files, of which the calls of these numbers fail and leave the file as before.
+pub(crate) fn store(alloc: Global, failing: &[u64]) -> Result<MemStore, AllocError> {
+    Ok(MemStore::new(alloc, Vec::from_slice(alloc, failing)?, Leaves::AsBefore))
+}
+
+/// What a run over lines needs beside the kit.
+#[derive(Drop)]
+struct Replay<'a> {
+    limit: u64,
+    source: &'a mut MemSource,
+    sink: &'a mut MemSink,
+    store: &'a mut MemStore,
+}
+
+impl<'a> KitUser for Replay<'a> {
+    type Answer = Status;
+
+    ghost gives = { λ before answer after. ⊤ };
+
+    fn use_kit(&mut self, alloc: Global, kit: &Kit<Shipped>) -> Status {
+        replay(alloc, kit, self.limit, self.source, self.sink, self.store)
+    }
+}
+
+/// How a run by the shipped rules ends.
+pub(crate) fn replayed(
+    alloc: Global,
+    limit: u64,
+    source: &mut MemSource,
+    sink: &mut MemSink,
+    store: &mut MemStore,
+) -> Result<Status, AllocError> {
+    let mut replay = Replay {
+        limit,
+        source,
+        sink,
+        store,
+    };
+    lend_kit(alloc, &mut replay)
+}
+
 /// Whether a run over these lines ends `Ok` and writes exactly these replies.
 pub(crate) fn replies(alloc: Global, lines: &[u8], want: &[u8]) -> Result<bool, AllocError> {
     let mut source = source(alloc, lines, 1_000, &[])?;
     let mut sink = sink(alloc, &[])?;
-    let status = replay(alloc, LIMIT, &mut source, &mut sink);
+    let mut store = store(alloc, &[])?;
+    let status = replayed(alloc, LIMIT, &mut source, &mut sink, &mut store)?;
     Ok(status == Status::Ok && sink.bytes() == want)
 }
 

@@ -1,10 +1,14 @@
-use crate::replaying::{sink, source};
-use cm_outside::Status;
+ghost use Rattle.std.specs.Prelude.{⊤};
+
+use crate::replaying::{replayed, sink, source, store};
+use cm_outside::{MemClock, MemSink, MemSource, MemStore, Status};
 use cm_plain::Str;
-use session::{replay, run};
+use session::run;
+use shipped_kit::{KitUser, lend_kit};
+use shipped_rules::Shipped;
 use std::alloc::{AllocError, Global};
 use std::test::Fail;
-use words::Words;
+use values::Kit;
 
 /// A line that starts an empty document, and the beginning of another line.
 const INPUT: &[u8] = b"{\"start\":{\"doc\":\"\"}}\n{\"upd";
@@ -25,7 +29,8 @@ fn ends(
 ) -> Result<bool, AllocError> {
     let mut source = source(alloc, input.0, START.len(), input.1)?;
     let mut sink = sink(alloc, failing_writes)?;
-    let status = replay(alloc, limit, &mut source, &mut sink);
+    let mut store = store(alloc, &[])?;
+    let status = replayed(alloc, limit, &mut source, &mut sink, &mut store)?;
     Ok(status == want.0 && sink.bytes() == want.1)
 }
 
@@ -54,7 +59,8 @@ fn the_limit_ends_the_run(rt: HostRuntime) -> Result<(), Fail> {
     Ok(())
 }
 
-fn words_of(alloc: Global, words: &[&str]) -> Result<Vec<Str>, AllocError> {
+/// Words of the command line.
+pub(crate) fn words_of(alloc: Global, words: &[&str]) -> Result<Vec<Str>, AllocError> {
     let mut all = Vec::new(alloc);
     for word in words {
         all.push(Str::of_text(alloc, *word)?)?;
@@ -62,22 +68,32 @@ fn words_of(alloc: Global, words: &[&str]) -> Result<Vec<Str>, AllocError> {
     Ok(all)
 }
 
-/// What these words ask for.
-fn asked(alloc: Global, words: &[&str]) -> Result<Option<Words>, AllocError> {
-    let words = words_of(alloc, words)?;
-    Ok(Words::of(words.as_slice()))
+/// What a run of the program needs beside the kit.
+#[derive(Drop)]
+struct Program<'a> {
+    words: &'a [Str],
+    source: &'a mut MemSource,
+    sink: &'a mut MemSink,
+    store: &'a mut MemStore,
+    clock: &'a mut MemClock,
 }
 
-#[test]
-fn two_words_are_accepted_alone(rt: HostRuntime) -> Result<(), Fail> {
-    let alloc = rt.alloc();
-    assert!(rt; asked(alloc, &["replay"])? == Some(Words::Replay));
-    assert!(rt; asked(alloc, &["collab"])? == Some(Words::Collab));
-    assert!(rt; asked(alloc, &[])? == None);
-    assert!(rt; asked(alloc, &["make"])? == None);
-    assert!(rt; asked(alloc, &["replay "])? == None);
-    assert!(rt; asked(alloc, &["replay", "collab"])? == None);
-    Ok(())
+impl<'a> KitUser for Program<'a> {
+    type Answer = Status;
+
+    ghost gives = { λ before answer after. ⊤ };
+
+    fn use_kit(&mut self, alloc: Global, kit: &Kit<Shipped>) -> Status {
+        run(
+            alloc,
+            self.words,
+            kit,
+            self.source,
+            self.sink,
+            self.store,
+            self.clock,
+        )
+    }
 }
 
 /// Whether the program's run over one line, with these words, ends so and writes this.
@@ -85,7 +101,15 @@ fn run_ends(alloc: Global, words: &[&str], want: (Status, &[u8])) -> Result<bool
     let words = words_of(alloc, words)?;
     let mut source = source(alloc, START, 100, &[])?;
     let mut sink = sink(alloc, &[])?;
-    let status = run(alloc, words.as_slice(), &mut source, &mut sink);
+    let mut store = store(alloc, &[])?;
+    let mut program = Program {
+        words: words.as_slice(),
+        source: &mut source,
+        sink: &mut sink,
+        store: &mut store,
+        clock: &mut MemClock::new(Vec::new(alloc)),
+    };
+    let status = lend_kit(alloc, &mut program)?;
     Ok(status == want.0 && sink.bytes() == want.1)
 }
 
@@ -96,6 +120,7 @@ fn other_words_are_not_accepted(rt: HostRuntime) -> Result<(), Fail> {
     assert!(rt; run_ends(alloc, &["collab"], (Status::Ok, NO_COMMAND))?);
     assert!(rt; run_ends(alloc, &[], (Status::Usage, b""))?);
     assert!(rt; run_ends(alloc, &["make"], (Status::Usage, b""))?);
+    assert!(rt; run_ends(alloc, &["edit", "f", "0", "5"], (Status::Usage, b""))?);
     assert!(rt; run_ends(alloc, &["replay", "replay"], (Status::Usage, b""))?);
     Ok(())
 }
