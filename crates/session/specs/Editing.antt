@@ -72,7 +72,7 @@ EditedText rules e files (Ok text) status run store store_now times times_now =
     Typed rules e.file (Some (record { session = begun rules e text; files = files })) status run store store_now times times_now
 EditedText rules e files (Err fault) status run store store_now times times_now = Unopened status run store store_now times times_now
 
--- Edited: how a run of `edit` ended. Where the store doesn't tell its files, why it ended so is told, and that the counts rose.
+-- Edited: how a run of `edit` ended. Where the store doesn't tell its files, why it ended so is told, and that no count fell.
 abbrev pub EditedIn : Rules → Edit → Option Files → Status → Run → (store store_now : StoreTold) → (times times_now : Option Times) → Type 0
 EditedIn rules e (Some files) status run store store_now times times_now = EditedText rules e files (text_in files e.file) status run store store_now times times_now
 EditedIn rules e None status run store store_now times times_now =
