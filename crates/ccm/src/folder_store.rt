@@ -56,14 +56,21 @@ fn write_new<R: Files>(rt: &R, path: &str, bytes: &[u8]) -> io::Result<()> {
     file.sync_all()
 }
 
-/// Writes a neighbour of the file at a path and puts it in its place, so that there is the old or the new file whenever the program
-/// or the machine stops.
-fn replace<R: Files>(rt: &R, path: &str, new: &str, bytes: &[u8]) -> io::Result<()> {
-    if let Err(error) = write_new(rt, new, bytes) {
-        let _ = fs::remove_file(rt, new);
-        return Err(error);
-    }
+/// Writes a neighbour of the file at a path and puts it in its place.
+fn put_in_place<R: Files>(rt: &R, path: &str, new: &str, bytes: &[u8]) -> io::Result<()> {
+    write_new(rt, new, bytes)?;
     fs::rename(rt, new, path)
+}
+
+/// Replaces the file at a path by way of a neighbour, so that there is the old or the new file whenever the program or the machine
+/// stops. A neighbour that was made is gone after an error; where it can't be made, all is as before.
+fn replace<R: Files>(rt: &R, path: &str, new: &str, bytes: &[u8]) -> io::Result<()> {
+    write_new(rt, new, &[])?;
+    let placed = put_in_place(rt, path, new, bytes);
+    if placed.is_err() {
+        let _ = fs::remove_file(rt, new);
+    }
+    placed
 }
 
 impl<'a, R: Files + AllocGlobal> FolderStore<'a, R> {

@@ -1,5 +1,5 @@
-//! The program `ccm`: it answers script lines from standard input to standard output, edits a file by the keys of standard
-//! input, or answers a made workload.
+//! The program `ccm`: it answers script lines from standard input to standard output, of one editor or of clients that share a
+//! text, edits a file by the keys of standard input, or answers a made workload.
 //!
 //! `main` makes the devices, which count their faults, hands the words of the command line to
 //! `session::run`, and ends with the status of the run; a status other than 0 gives one line to standard error.

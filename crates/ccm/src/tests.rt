@@ -128,6 +128,16 @@ fn a_folder_keeps_what_is_saved(rt: HostRuntime) -> Result<(), Fail> {
 }
 
 #[test]
+fn a_failed_save_leaves_no_neighbour(rt: HostRuntime) -> Result<(), Fail> {
+    let alloc = rt.alloc();
+    let mut store = FolderStore::new(&rt);
+    let name = Str::of_text(alloc, ".")?;
+    assert!(rt; store.save(&name, b"one") == Err(StoreFault::Failed));
+    assert!(rt; loads(alloc, &mut store, "..ccm-new", None) == Ok(true));
+    Ok(())
+}
+
+#[test]
 fn the_system_clock_tells_milliseconds(rt: HostRuntime) {
     let mut clock = SystemClock::new(&rt);
     let first = clock.now();

@@ -123,6 +123,21 @@ fn a_new_file_is_typed_and_saved(rt: HostRuntime) -> Result<(), Fail> {
     Ok(())
 }
 
+/// Twice the frame of two lines, of which the window shows `x`.
+const TWO_OF_X: &str = "\x1b[H\x1b[1;1Hx\x1b[K\x1b[1;1H\x1b[H\x1b[1;1Hx\x1b[K\x1b[1;1H";
+
+#[test]
+fn a_file_is_cut_into_lines_and_saved(rt: HostRuntime) -> Result<(), Fail> {
+    let alloc = rt.alloc();
+    let there = Case {
+        file: Some(b"x\r\ny"),
+        keys: b"\x13\x11",
+        ..PLAIN
+    };
+    assert!(rt; ends(alloc, &there, (Status::Ok, TWO_OF_X), Some(b"x\ny"))?);
+    Ok(())
+}
+
 #[test]
 fn what_is_no_text_is_refused(rt: HostRuntime) -> Result<(), Fail> {
     let alloc = rt.alloc();

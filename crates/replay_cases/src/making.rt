@@ -1,3 +1,4 @@
+// Made workloads.
 ghost use Rattle.std.specs.Prelude.{⊤};
 
 use crate::replaying::{sink, store};
@@ -33,7 +34,7 @@ impl<'a> KitUser for Making<'a> {
 /// What a made workload of so many transactions writes to a sink of which the calls of these numbers fail, and its status.
 fn made(alloc: Global, count: u32, failing: &[u64]) -> Result<(Status, MemSink), AllocError> {
     let mut sink = sink(alloc, failing)?;
-    let mut store = store(alloc, &[1])?;
+    let mut store = store(alloc, &[0])?;
     let mut making = Making {
         count,
         sink: &mut sink,

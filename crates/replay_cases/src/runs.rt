@@ -17,6 +17,9 @@ const START: &[u8] = b"{\"start\":{\"doc\":\"\"}}\n";
 
 const STARTED: &[u8] = b"{\"ok\":{\"length\":0}}\n";
 
+/// The reply to a made workload of three transactions.
+const MADE: &[u8] = b"{\"ok\":{\"length\":15,\"lines\":1,\"rows\":1,\"transactions\":3}}\n";
+
 const NO_COMMAND: &[u8] = b"{\"no\":{\"code\":\"NotCommand\",\"field\":\"start\"}}\n";
 
 /// Whether a run over this input, in pieces as long as its first line, ends so and writes this.
@@ -47,6 +50,15 @@ fn a_fault_ends_the_run(rt: HostRuntime) -> Result<(), Fail> {
             (Status::WriteFault, STARTED)
         )?
     );
+    Ok(())
+}
+
+/// The replies to the line that starts a document and to a line that is no JSON.
+const BOTH: &[u8] = b"{\"ok\":{\"length\":0}}\n{\"no\":{\"code\":\"NotJson\"}}\n";
+
+#[test]
+fn the_last_line_needs_no_end(rt: HostRuntime) -> Result<(), Fail> {
+    assert!(rt; ends(rt.alloc(), 100, (INPUT, &[]), &[], (Status::Ok, BOTH))?);
     Ok(())
 }
 
@@ -114,10 +126,11 @@ fn run_ends(alloc: Global, words: &[&str], want: (Status, &[u8])) -> Result<bool
 }
 
 #[test]
-fn other_words_are_not_accepted(rt: HostRuntime) -> Result<(), Fail> {
+fn words_choose_the_run(rt: HostRuntime) -> Result<(), Fail> {
     let alloc = rt.alloc();
     assert!(rt; run_ends(alloc, &["replay"], (Status::Ok, STARTED))?);
     assert!(rt; run_ends(alloc, &["collab"], (Status::Ok, NO_COMMAND))?);
+    assert!(rt; run_ends(alloc, &["make", "3"], (Status::Ok, MADE))?);
     assert!(rt; run_ends(alloc, &[], (Status::Usage, b""))?);
     assert!(rt; run_ends(alloc, &["make"], (Status::Usage, b""))?);
     assert!(rt; run_ends(alloc, &["edit", "f", "0", "5"], (Status::Usage, b""))?);
