@@ -1,4 +1,5 @@
-ghost use Rattle.std.specs.Prelude.{None};
+ghost use Rattle.std.specs.Prelude.{◌≡◌, ◌≤◌, Err, None};
+ghost use Rattle.cm_outside.specs.Faults.{Rose};
 
 use cm_outside::{Store, StoreFault};
 use cm_plain::Str;
@@ -89,12 +90,19 @@ impl<'a, R: Files + AllocGlobal> FolderStore<'a, R> {
         }
     }
 
-    /// Counts a fault.
-    fn counted<T: Drop>(&mut self, outcome: Result<T, StoreFault>) -> Result<T, StoreFault> {
-        if let Err(StoreFault::Failed) = outcome {
-            self.faults = self.faults.saturating_add(1);
+    /// Counts a fault, and hands the outcome on.
+    fn counted<T: Drop>(&mut self, outcome: Result<T, StoreFault>) -> Result<T, StoreFault>
+        ensures later { self.old.faults ≤ self.new.faults }
+        ensures cause { result ≡ Err StoreFault.Failed → Rose self.old.faults self.new.faults }
+    {
+        match outcome {
+            Ok(value) => Ok(value),
+            Err(StoreFault::NoMemory) => Err(StoreFault::NoMemory),
+            Err(StoreFault::Failed) => {
+                self.faults = self.faults.saturating_add(1);
+                Err(StoreFault::Failed)
+            }
         }
-        outcome
     }
 
     fn load_named(&self, name: &Str) -> Result<Option<Vec<u8>>, StoreFault> {

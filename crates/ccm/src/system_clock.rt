@@ -16,12 +16,15 @@ impl<'a, R: time::Clock> SystemClock<'a, R> {
     }
 }
 
+/// The greatest time in milliseconds that the clock tells.
+const MOST: u128 = 9_223_372_036_854_775_807;
+
 /// The milliseconds from the beginning of 1970 to a time, at most the greatest number of the type; 0 where the time lies before.
 fn since_1970(time: SystemTime) -> i64
     ensures { (n : ℕ) × (result ≡ pos n) }
 {
     match time.duration_since(UNIX_EPOCH) {
-        Ok(since) => i64::try_from(since.as_millis()).unwrap_or(i64::MAX),
+        Ok(since) => since.as_millis().min(MOST) as i64,
         Err(_) => 0,
     }
 }
