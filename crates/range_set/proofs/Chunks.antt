@@ -8,7 +8,8 @@ use Rattle.std.specs.List.{list_any}
 use Rattle.range_set.specs.Rules.{RangeRules}
 use Rattle.range_set.specs.Order.{AllForward}
 use Rattle.range_set.specs.Mapping.{is_turned}
-use Rattle.range_set.specs.PrivateChunks.{AreChunks, AreSound, Ascend, BeginBy, EndBy, Fit, HaveHulls, IsBuilder, IsChunk, IsRest, built, first_start, flat, greatest_end, shift}
+use Rattle.range_set.specs.Points.{stands}
+use Rattle.range_set.specs.PrivateChunks.{AreChunks, AreSound, Ascend, BeginBy, EndBy, Fit, HaveHulls, IsBuilder, IsChunk, IsRest, TellPoints, built, first_start, flat, greatest_end, shift}
 use Rattle.range_set.specs.declared.ranged.Ranged.{Ranged}
 use Rattle.range_set.specs.declared.chunk.Placed.{Placed}
 use Rattle.range_set.specs.declared.chunk.Chunk.{Chunk}
@@ -121,8 +122,8 @@ module _ {T : Type 0} (rules : RangeRules T) where
 
   pub put_chunk : (start : ℕ) (before after : Chunk T) (r : Ranged T) → IsChunk rules start before → length before.ranges.items < 128 → start ≤ r.from → r.from ≤ r.to → r.to < 2 ^ 32
       → (before.ranges.items ≡ [] → r.from ≡ start) → after.ranges.items ≡ before.ranges.items ++ counted_from start r ∷ []
-      → after.reach ≡ max before.reach (r.to - start) → after.is_turned ≡ (before.is_turned || is_turned rules r) → IsChunk rules start after
-  put_chunk start before after r h room l f t first items reach turned =
+      → after.reach ≡ max before.reach (r.to - start) → after.is_turned ≡ (before.is_turned || is_turned rules r) → after.has_point ≡ (before.has_point || stands rules r) → IsChunk rules start after
+  put_chunk start before after r h room l f t first items reach turned points =
       let x : Ranged T = counted_from start r in
       record {
         few = rw items (omega (arith, length_push before.ranges.items x));
@@ -132,6 +133,9 @@ module _ {T : Type 0} (rules : RangeRules T) where
         turned = turned ∙ (ap (λ b. b || is_turned rules r) h.turned
             ∙ (ap (λ b. list_any (is_turned rules) before.ranges.items || b) (sym (turned-counted start r l (omega arith)) ∙ sym (or_false (is_turned rules x)))
             ∙ (sym (list_any-append (is_turned rules) before.ranges.items (x ∷ [])) ∙ ap (list_any (is_turned rules)) (sym items))));
+        points = points ∙ (ap (λ b. b || stands rules r) h.points
+            ∙ (ap (λ b. list_any (stands rules) before.ranges.items || b) (sym (or_false (stands rules r)))
+            ∙ (sym (list_any-append (stands rules) before.ranges.items (x ∷ [])) ∙ ap (list_any (stands rules)) (sym items))));
         fits = let k = h.fits in omega (arith, reach);
       }
     where
@@ -173,8 +177,12 @@ module _ {T : Type 0} (rules : RangeRules T) where
       (fit_shifted p.start p.chunk.value.reach p.chunk.value.ranges.items h.0.0.forward (end_by_greatest p.chunk.value.ranges.items p.chunk.value.reach k) h.0.0.fits)
       (fit_flat ps h.1)
 
-  pub is_rest : (ps : List (Placed T)) → AreChunks rules ps → IsRest (flat ps) ps
-  is_rest ps h = record { fit = fit_flat ps h; hulls = hulls ps h }
+  pub tell_points : (ps : List (Placed T)) → AreChunks rules ps → TellPoints rules ps
+  tell_points [] h = tt
+  tell_points (p ∷ ps) h = (h.0.0.points, tell_points ps h.1)
+
+  pub is_rest : (ps : List (Placed T)) → AreChunks rules ps → IsRest rules (flat ps) ps
+  is_rest ps h = record { fit = fit_flat ps h; hulls = hulls ps h; points = tell_points ps h }
 
   -- one more chunk after those of a builder, of which none grows
   pub share_built : (done ended after : List (Placed T)) (start at : ℕ) (before none : List (Ranged T)) (p : Placed T) → flat ended ≡ flat done ++ map (shift start) before → none ≡ []

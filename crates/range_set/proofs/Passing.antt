@@ -1,8 +1,11 @@
 -- Chunks that a reader passes over, and where it ends.
-use Rattle.std.proofs.Common.{◌≡◌, ℕ, suc, ◌+◌, ◌<◌, ◌≤◌, Bool, true, false, ◌&&◌, cond, List, [], ◌∷◌, ◌++◌, length, map, filter, refl, sym, ap, ◌∙◌, arith}
+use Rattle.std.proofs.Common.{◌≡◌, ℕ, suc, ◌+◌, ◌<◌, ◌≤◌, Bool, true, false, ◌&&◌, ◌||◌, cond, List, [], ◌∷◌, ◌++◌, length, map, filter, refl, sym, ap, ◌∙◌, arith}
 use Rattle.std.proofs.lemmas.List.{length-append}
 use Rattle.std.proofs.lemmas.Bool.Decides.{nat_tests}
 use Rattle.std.specs.Prelude.{nat_le}
+use Rattle.std.specs.List.{list_any}
+use Rattle.range_set.specs.Rules.{RangeRules}
+use Rattle.range_set.specs.Points.{points_of, stands}
 use Rattle.range_set.specs.PrivateChunks.{Ascend, EndBy, Fit, flat, shift}
 use Rattle.range_set.specs.Updating.{overlaps}
 use Rattle.range_set.specs.declared.ranged.Ranged.{Ranged}
@@ -39,3 +42,24 @@ module _ {T : Type 0} where
 
   pub none_from : (from to : ℕ) (r : Ranged T) (rest : List (Ranged T)) → to < r.from → Ascend 0 (r ∷ rest) → filter (overlaps from to) (r ∷ rest) ≡ []
   none_from from to r rest l h = none_past from to r.from (r ∷ rest) l (omega arith, h.1)
+
+-- chunks without a range that stands for what it covers
+or_first_false : (a b : Bool) → (a || b) ≡ false → a ≡ false
+or_first_false true b h = h
+or_first_false false b h = refl
+
+or_second_false : (a b : Bool) → (a || b) ≡ false → b ≡ false
+or_second_false true b h = cc
+or_second_false false b h = h
+
+module _ {T : Type 0} (rules : RangeRules T) where
+  pub no_points : (start : ℕ) (rs later : List (Ranged T)) → list_any (stands rules) rs ≡ false → points_of rules (map (shift start) rs ++ later) ≡ points_of rules later
+  no_points start [] later h = refl
+  no_points start (r ∷ rs) later h =
+      rw (or_first_false (stands rules r) (list_any (stands rules) rs) h) (no_points start rs later (or_second_false (stands rules r) (list_any (stands rules) rs) h))
+
+  pub drop_mark : (r : Ranged T) (rest : List (Ranged T)) → stands rules r ≡ false → points_of rules (r ∷ rest) ≡ points_of rules rest
+  drop_mark r rest h = rw h refl
+
+  pub take_point : (r : Ranged T) (rest : List (Ranged T)) → stands rules r ≡ true → points_of rules (r ∷ rest) ≡ r ∷ points_of rules rest
+  take_point r rest h = rw h refl

@@ -1,8 +1,9 @@
 -- Sets of chunks as a whole: their ends, and where a mapped set lies.
-use Rattle.std.proofs.Common.{◌≡◌, ℕ, zero, suc, ◌+◌, ◌^◌, ◌<◌, ◌≤◌, Bool, true, false, ◌&&◌, ◌||◌, cond, List, [], ◌∷◌, ◌++◌, length, get_or, take, map, filter_map, Option, Some, None, refl, sym, ap, subst, ◌∙◌, arith}
-use Rattle.std.proofs.lemmas.List.{append-nil, take_more}
+use Rattle.std.proofs.Common.{◌≡◌, ℕ, zero, suc, ◌+◌, ◌-◌, ◌^◌, ◌<◌, ◌≤◌, Bool, true, false, ◌&&◌, ◌||◌, cond, List, [], ◌∷◌, ◌++◌, length, get_or, take, map, filter_map, Option, Some, None, refl, sym, ap, subst, ◌∙◌, arith}
+use Rattle.std.proofs.lemmas.Option.{get_or_from_slice_get, slice_get-map}
+use Rattle.std.proofs.lemmas.List.{append-nil, length-append, length-map, take_more}
 use Rattle.std.specs.List.{cons_option}
-use Rattle.std.specs.Prelude.{IfSome, nat_lt, ◌==◌, int_lt, int_le, ℤ, pos, option_map, option_and_then}
+use Rattle.std.specs.Prelude.{IfSome, slice_get, nat_lt, ◌==◌, int_lt, int_le, ℤ, pos, option_map, option_and_then}
 use Rattle.change_desc.specs.Sections.{counted, new_size}
 use Rattle.change_desc.specs.Positions.{is_negative, map_pos}
 use Rattle.change_desc.specs.declared.map_mode.MapMode.{MapMode}
@@ -12,11 +13,11 @@ use Rattle.stable_order.specs.StableSort.{insert_by, stable_sort}
 use Rattle.range_set.specs.Rules.{RangeRules}
 use Rattle.range_set.specs.Order.{AllForward, before}
 use Rattle.range_set.specs.Mapping.{Ends, EndWithin, ends_unless_turned, map_ranges, moved, new_ends, place_of, point_ends, span_ends}
-use Rattle.range_set.specs.PrivateChunks.{AreChunks, EndBy, IsChunk, flat, greatest_end, shift}
+use Rattle.range_set.specs.PrivateChunks.{AreChunks, EndBy, Fit, IsChunk, flat, greatest_end, shift}
 use Rattle.range_set.specs.declared.ranged.Ranged.{Ranged}
 use Rattle.range_set.specs.declared.chunk.Placed.{Placed}
 use Rattle.range_set.specs.declared.chunk.Chunk.{Chunk}
-use Rattle.range_set.proofs.Chunks.{AreChunks-push, chunk-at, end_by_greatest, flat-push, not_less}
+use Rattle.range_set.proofs.Chunks.{AreChunks-push, chunk-at, end_by_greatest, fit_flat, flat-push, not_less}
 use Rattle.range_set.proofs.Clear.{Sections}
 use Rattle.range_set.proofs.Each.{Within, end_within, within}
 use Rattle.range_set.proofs.Walked.{hull_within, within_prefix, within_rest}
@@ -116,3 +117,52 @@ module _ {T : Type 0} (rules : RangeRules T) where
       ∙ (ap (λ (ch : Chunk T). flat done ++ map (shift p.start) ch.ranges.items) v
       ∙ (ap (λ xs. xs ++ map (shift p.start) p.chunk.value.ranges.items) h
       ∙ sym (ap flat (take_more ps i p l ∙ ap (λ x. take i ps ++ x ∷ []) (sym e)) ∙ flat-push (take i ps) p)))))
+
+-- the last range of some chunks
+pub last_place : {X : Type 0} (xs : List X) (x : X) → slice_get xs (length xs - 1) ≡ Some x → (length xs - 1 < length xs) × (x ≡ get_or xs (length xs - 1) x)
+last_place [] x h = cc
+last_place (u ∷ xs) x h = (omega arith, sym (get_or_from_slice_get (u ∷ xs) (length (u ∷ xs) - 1) x x h))
+
+pub has_last : {X : Type 0} (xs : List X) → 1 ≤ length xs → slice_get xs (length xs - 1) ≡ None → ⊥
+has_last [] some h = absurd (omega arith)
+has_last (x ∷ xs) some h =
+    let n : length (x ∷ xs) - 1 ≡ length xs = omega arith in
+    past xs x (ap (slice_get (x ∷ xs)) (sym n) ∙ h)
+  where
+    past : {X : Type 0} (xs : List X) (x : X) → slice_get (x ∷ xs) (length xs) ≡ None → ⊥
+    past [] x h = cc
+    past (y ∷ xs) x h = past xs y h
+
+last_append : {X : Type 0} (xs ys : List X) → 1 ≤ length ys → slice_get (xs ++ ys) (length (xs ++ ys) - 1) ≡ slice_get ys (length ys - 1)
+last_append [] ys h = refl
+last_append (x ∷ xs) ys h =
+    let n = length-append xs ys in
+    let e : length (x ∷ (xs ++ ys)) - 1 ≡ suc (length (xs ++ ys) - 1) = omega (arith, n, h) in
+    ap (slice_get (x ∷ (xs ++ ys))) e ∙ last_append xs ys h
+
+module _ {T : Type 0} (rules : RangeRules T) where
+  some_ranges : (start : ℕ) (rs later : List (Ranged T)) → 1 ≤ length rs → 1 ≤ length (map (shift start) rs ++ later)
+  some_ranges start [] later h = absurd (omega arith)
+  some_ranges start (r ∷ rs) later h = omega arith
+
+  pub last_flat : (ps : List (Placed T)) (p : Placed T) (r : Ranged T) → AreChunks rules ps → slice_get ps (length ps - 1) ≡ Some p
+      → slice_get p.chunk.value.ranges.items (length p.chunk.value.ranges.items - 1) ≡ Some r → slice_get (flat ps) (length (flat ps) - 1) ≡ Some (shift p.start r)
+  last_flat [] p r h e f = cc
+  last_flat (q ∷ []) p r h e f =
+      let same : q ≡ p = cc in
+      subst (λ (x : Placed T). slice_get (flat (x ∷ [])) (length (flat (x ∷ [])) - 1) ≡ Some (shift p.start r)) (sym same)
+      (ap (λ xs. slice_get xs (length xs - 1)) (append-nil (map (shift p.start) p.chunk.value.ranges.items))
+      ∙ (ap (λ n. slice_get (map (shift p.start) p.chunk.value.ranges.items) (n - 1)) (length-map p.chunk.value.ranges.items (shift p.start))
+      ∙ (slice_get-map (shift p.start) p.chunk.value.ranges.items (length p.chunk.value.ranges.items - 1) ∙ ap (option_map (shift p.start)) f)))
+  last_flat (q ∷ q' ∷ ps) p r h e f =
+      let n : length (q ∷ q' ∷ ps) - 1 ≡ suc (length (q' ∷ ps) - 1) = omega arith in
+      last_append (map (shift q.start) q.chunk.value.ranges.items) (flat (q' ∷ ps)) (some_ranges q'.start q'.chunk.value.ranges.items (flat ps) h.1.0.1)
+      ∙ last_flat (q' ∷ ps) p r h.1 (ap (slice_get (q ∷ q' ∷ ps)) (sym n) ∙ e) f
+
+  -- what a set tells of its ranges
+  pub flat_within : (ps : List (Placed T)) → AreChunks rules ps → EndWithin 4294967295 (flat ps)
+  flat_within ps h = end_within 4294967295 (flat ps) (of_fit (flat ps) (fit_flat rules ps h))
+    where
+      of_fit : (rs : List (Ranged T)) → Fit rs → Within 4294967295 rs
+      of_fit [] h = tt
+      of_fit (r ∷ rs) h = ((omega (arith, h.0.0), omega (arith, h.0.1)), of_fit rs h.1)

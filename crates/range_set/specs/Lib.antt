@@ -4,6 +4,7 @@ pub mod Ranking
 pub mod Mapping
 pub mod Updating
 pub mod Seen
+pub mod Points
 pub mod Examples
 pub mod PrivateChunks
 pub mod PrivateUpdates

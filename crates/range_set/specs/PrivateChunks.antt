@@ -4,6 +4,7 @@ use Rattle.std.specs.List.{list_any}
 use Rattle.range_set.specs.Rules.{RangeRules}
 use Rattle.range_set.specs.Order.{AllForward, first_fault}
 use Rattle.range_set.specs.Mapping.{is_turned}
+use Rattle.range_set.specs.Points.{stands}
 use Rattle.range_set.specs.declared.ranged.Ranged.{Ranged}
 use Rattle.range_set.specs.declared.chunk.Placed.{Placed}
 use Rattle.range_set.specs.declared.chunk.Chunk.{Chunk}
@@ -48,11 +49,6 @@ module _ {T : Type 0} where
   HaveHulls [] = Unit {0}
   HaveHulls (p ∷ ps) = (EndBy p.chunk.value.reach p.chunk.value.ranges.items × (p.start + p.chunk.value.reach < 2 ^ 32)) × HaveHulls ps
 
-  -- what an iterator keeps of the ranges that are left and of the chunks after them
-  pub record IsRest (rest : List (Ranged T)) (others : List (Placed T)) : Type 0 where
-    pub fit : Fit rest
-    pub hulls : HaveHulls others
-
   -- the ranges of a builder: those of the chunks that are done, and those of the one that is growing
   abbrev pub built : ChunkBuilder T → List (Ranged T)
   built b = flat b.done.items ++ map (shift b.start) b.growing.ranges.items
@@ -71,12 +67,24 @@ module _ {T : Type 0} (rules : RangeRules T) where
     pub forward : AllForward chunk.ranges.items
     pub reach : chunk.reach ≡ greatest_end chunk.ranges.items
     pub turned : chunk.is_turned ≡ list_any (is_turned rules) chunk.ranges.items
+    pub points : chunk.has_point ≡ list_any (stands rules) chunk.ranges.items
     pub fits : start + chunk.reach < 2 ^ 32
 
   -- each chunk is one, and has ranges
   abbrev pub AreChunks : List (Placed T) → Type 0
   AreChunks [] = Unit {0}
   AreChunks (p ∷ ps) = (IsChunk p.start p.chunk.value × (1 ≤ length p.chunk.value.ranges.items)) × AreChunks ps
+
+  -- a chunk says whether one of its ranges stands for what it covers
+  abbrev pub TellPoints : List (Placed T) → Type 0
+  TellPoints [] = Unit {0}
+  TellPoints (p ∷ ps) = (p.chunk.value.has_point ≡ list_any (stands rules) p.chunk.value.ranges.items) × TellPoints ps
+
+  -- what an iterator keeps of the ranges that are left and of the chunks after them
+  pub record IsRest (rest : List (Ranged T)) (others : List (Placed T)) : Type 0 where
+    pub fit : Fit rest
+    pub hulls : HaveHulls others
+    pub points : TellPoints others
 
   pub record AreSound (ps : List (Placed T)) (len : ℕ) : Type 0 where
     pub chunks : AreChunks ps

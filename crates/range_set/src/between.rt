@@ -6,18 +6,19 @@ ghost use Rattle.range_set.specs.Updating.{overlaps};
 
 use crate::iter::Iter;
 use crate::range_ref::RangeRef;
+use crate::range_value::RangeValue;
 use std::marker::Model;
 
 /// The ranges of a set that overlap or touch a span, in order. Contracts see it as those that are left. Chunks whose hull ends
 /// before the span are passed over whole, and the first range that begins past the span is the end.
 #[derive(Drop)]
-pub struct Between<'a, T> {
+pub struct Between<'a, T: RangeValue> {
     ranges: Iter<'a, T>,
     from: u32,
     to: u32,
 }
 
-impl<'a, T> Model for Between<'a, T> {
+impl<'a, T: RangeValue> Model for Between<'a, T> {
     ghost use Rattle.std.specs.Prelude.{List, filter};
     ghost use Rattle.range_set.specs.declared.ranged.Ranged.{Ranged};
     ghost use Rattle.range_set.specs.PrivateChunks.{Ascend};
@@ -30,7 +31,7 @@ impl<'a, T> Model for Between<'a, T> {
     ghost invariant = { λ s. Ascend 0 s.ranges };
 }
 
-impl<'a, T> Between<'a, T> {
+impl<'a, T: RangeValue> Between<'a, T> {
     /// Those of these ranges that overlap or touch the span from one place to another.
     pub(crate) fn among(ranges: Iter<'a, T>, from: u32, to: u32) -> Between<'a, T>
         requires { Ascend 0 ranges }
@@ -40,7 +41,7 @@ impl<'a, T> Between<'a, T> {
     }
 }
 
-impl<'a, T> Iterator for Between<'a, T> {
+impl<'a, T: RangeValue> Iterator for Between<'a, T> {
     type Item = RangeRef<'a, T>;
 
     ghost next_gives = { YieldsFirstBy seen (λ s. s) };

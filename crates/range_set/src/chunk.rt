@@ -17,6 +17,8 @@ pub(crate) struct Chunk<T> {
     pub(crate) reach: u32,
     /// Whether one of them is empty with an end side less than its start side.
     pub(crate) is_turned: bool,
+    /// Whether one of them stands for what it covers.
+    pub(crate) has_point: bool,
 }
 
 /// A chunk, which sets share, at its place: the start of its first range, in characters.
@@ -36,6 +38,7 @@ impl<T: RangeValue> Chunk<T> {
             ranges: Vec::new(alloc),
             reach: 0,
             is_turned: false,
+            has_point: false,
         }
     }
 
@@ -50,6 +53,7 @@ impl<T: RangeValue> Chunk<T> {
         ensures ranges { IfOk result (λ _. map (shift start) self.new.ranges.items ≡ map (shift start) self.old.ranges.items ++ range ∷ []) }
     {
         let is_turned = range.is_turned();
+        let is_point = range.value.is_point();
         let from = range.from - start;
         let to = range.to - start;
         self.ranges.push(Ranged {
@@ -59,6 +63,7 @@ impl<T: RangeValue> Chunk<T> {
         })?;
         self.reach = self.reach.max(to);
         self.is_turned = self.is_turned || is_turned;
+        self.has_point = self.has_point || is_point;
         Ok(())
     }
 }

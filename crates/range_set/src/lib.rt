@@ -11,6 +11,7 @@ mod chunk;
 mod chunk_builder;
 mod iter;
 mod moving;
+mod points;
 mod range_error;
 mod range_ref;
 mod range_set;
@@ -20,6 +21,7 @@ mod updating;
 
 pub use between::Between;
 pub use iter::Iter;
+pub use points::Points;
 pub use range_error::RangeError;
 pub use range_ref::RangeRef;
 pub use range_set::RangeSet;

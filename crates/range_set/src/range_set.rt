@@ -1,8 +1,10 @@
-ghost use Rattle.std.specs.Prelude.{◌≡◌, ◌≢◌, ◌↔◌, ◌+◌, ◌≤◌, ◌<◌, [], None, Some, length, IfOk, IfErr, IsTrue, filter};
+ghost use Rattle.std.specs.Prelude.{◌≡◌, ◌≢◌, ◌↔◌, ◌+◌, ◌-◌, ◌≤◌, ◌<◌, [], None, Some, length, IfOk, IfErr, IsTrue, filter, option_map, slice_get};
 ghost use Rattle.change_desc.specs.Sections.{counted, new_size, old_size};
 ghost use Rattle.range_set.specs.Order.{first_fault};
 ghost use Rattle.range_set.specs.Mapping.{map_ranges, most_mapped, EndWithin};
+ghost use Rattle.range_set.specs.Points.{points_of};
 ghost use Rattle.range_set.specs.PrivateChunks.{AreChunks, flat};
+ghost use Rattle.range_set.specs.Seen.{seen};
 ghost use Rattle.range_set.specs.Updating.{AnswersAs, updated, overlaps};
 
 use crate::between::Between;
@@ -10,6 +12,7 @@ use crate::chunk::Placed;
 use crate::chunk_builder::ChunkBuilder;
 use crate::iter::Iter;
 use crate::moving::{mapped_chunks, put_all};
+use crate::points::Points;
 use crate::range_error::RangeError;
 use crate::range_ref::RangeRef;
 use crate::range_value::RangeValue;
@@ -79,6 +82,13 @@ impl<T: RangeValue> RangeSet<T> {
         Between::among(Iter::over(self.chunks.as_slice()), from, to)
     }
 
+    /// The ranges that stand for what they cover, in order; it costs these and the chunks.
+    pub fn points(&self) -> Points<'_, T>
+        ensures { result ≡ points_of T.rules self.now }
+    {
+        Points::among(self.iter())
+    }
+
     /// How many ranges there are (RangeSet.size).
     pub fn len(&self) -> usize
         ensures { result ≡ length self.now }
@@ -86,11 +96,25 @@ impl<T: RangeValue> RangeSet<T> {
         self.len
     }
 
-    /// Whether both have the same ranges with equal values (RangeSet.eq).
+    /// What may be relied on in a set: it stands in order, and both ends of each range fit u32.
+    pub fn known(&self)
+        ensures order { first_fault T.rules self.now ≡ None }
+        ensures fit { EndWithin 4294967295 self.now }
+    {
+        let _ = &self.chunks;
+    }
+
+    /// Whether both have the same ranges with equal values (RangeSet.eq). Their last ranges are looked at first, since a change
+    /// that comes before them moves them.
     pub fn same(&self, other: &RangeSet<T>) -> bool
         ensures { IsTrue result ↔ (self.now ≡ other.now) }
     {
-        self.len == other.len && same_ranges(self.iter(), other.iter())
+        self.len == other.len
+            && same_last(
+                last_of(self.chunks.as_slice()),
+                last_of(other.chunks.as_slice()),
+            )
+            && same_ranges(self.iter(), other.iter())
     }
 
     /// The same set once more, which shares its chunks. `Err`: out of memory.
@@ -228,6 +252,31 @@ fn fault_in<T: RangeValue>(ranges: &[Ranged<T>]) -> Option<RangeError>
         last = Some(range);
     }
     None
+}
+
+/// The last range of some chunks.
+fn last_of<T: RangeValue>(chunks: &[Placed<T>]) -> Option<RangeRef<'_, T>>
+    requires { AreChunks T.rules chunks.now }
+    ensures { option_map seen result ≡ slice_get (flat chunks.now) (length (flat chunks.now) - 1) }
+{
+    let placed = chunks.last()?;
+    let range = placed.chunk.ranges.last()?;
+    Some(RangeRef {
+        from: range.from + placed.start,
+        to: range.to + placed.start,
+        value: &range.value,
+    })
+}
+
+/// Whether there are two equal ranges or none.
+fn same_last<T: RangeValue>(left: Option<RangeRef<'_, T>>, right: Option<RangeRef<'_, T>>) -> bool
+    ensures { IsTrue result ↔ (option_map seen left.entry ≡ option_map seen right.entry) }
+{
+    match (left, right) {
+        (Some(a), Some(b)) => a.same(&b),
+        (None, None) => true,
+        _ => false,
+    }
 }
 
 /// Whether both have the same ranges.

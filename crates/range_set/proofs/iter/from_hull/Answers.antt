@@ -1,5 +1,5 @@
 use Rattle.std.proofs.Common.{◌≡◌, ℕ, ◌≤◌, length, filter, map, subst, sym, ap, ◌∙◌, arith}
-use Rattle.range_set.specs.PrivateChunks.{Ascend, Fit, HaveHulls, flat, shift}
+use Rattle.range_set.specs.PrivateChunks.{Ascend, Fit, HaveHulls, TellPoints, flat, shift}
 use Rattle.range_set.specs.Updating.{overlaps}
 use Rattle.range_set.specs.declared.chunk.Chunk.{Chunk}
 use Rattle.range_set.proofs.Passing.{fit-rest, length-rest, none_overlap}
@@ -19,4 +19,5 @@ loop-first-preserved g c =
       fewer = let l = length-rest here later in let m = ap length is in let k = c.loop-first.invariant.fewer in omega (arith, l, m, k);
       fit = λ h. fit-rest here later (subst Fit is (c.loop-first.invariant.fit h));
       hulls = hulls.1;
+      points = (subst (TellPoints g.T.RangeValue.rules) c.in-Some.ensures.cases.0 c.loop-first.invariant.points).1;
     }

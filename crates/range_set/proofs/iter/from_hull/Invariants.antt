@@ -1,5 +1,5 @@
 use Rattle.std.proofs.Common.{◌≡◌, ℕ, ◌≤◌, filter, length}
-use Rattle.range_set.specs.PrivateChunks.{Ascend, Fit, HaveHulls, flat}
+use Rattle.range_set.specs.PrivateChunks.{Ascend, Fit, HaveHulls, TellPoints, flat}
 use Rattle.range_set.specs.Updating.{overlaps}
 use Rattle.range_set.proofs.iter.from_hull.Given as goal
 
@@ -10,6 +10,7 @@ invariant-loop-first g l = record {
   fewer : length (flat l.rest) ≤ length (flat l.chunks);
   fit : Fit (flat l.chunks) → Fit (flat l.rest);
   hulls : HaveHulls l.rest;
+  points : TellPoints g.T.RangeValue.rules l.rest;
 }
 
 abbrev pub decreases-loop-first : goal.decreases-loop-first

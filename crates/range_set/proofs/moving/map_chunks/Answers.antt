@@ -217,6 +217,7 @@ share-requires-clause-chunk g c =
       forward = chunk.forward;
       reach = chunk.reach;
       turned = chunk.turned;
+      points = chunk.points;
       fits = omega (arith, start, fits, bound, size);
     }
 

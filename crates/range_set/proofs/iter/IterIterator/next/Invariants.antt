@@ -1,5 +1,5 @@
 use Rattle.std.proofs.Common.{◌≡◌, ◌++◌, map, length}
-use Rattle.range_set.specs.PrivateChunks.{HaveHulls, flat, shift}
+use Rattle.range_set.specs.PrivateChunks.{HaveHulls, TellPoints, flat, shift}
 use Rattle.range_set.proofs.iter.IterIterator.next.Given as goal
 
 abbrev pub invariant-loop-self : goal.invariant-loop-self
@@ -7,6 +7,7 @@ invariant-loop-self g l = record {
   same : map (shift l.self-inside.start) l.self-inside.rest.now ++ flat l.self-inside.others.now
       ≡ map (shift l.initial.self-inside.start) l.initial.self-inside.rest.now ++ flat l.initial.self-inside.others.now;
   hulls : HaveHulls l.self-inside.others.now;
+  points : TellPoints g.T.RangeValue.rules l.self-inside.others.now;
 }
 
 abbrev pub decreases-loop-self : goal.decreases-loop-self

@@ -8,7 +8,7 @@ use Rattle.range_set.proofs.range_set.RangeSet.between.Goals as goal
 
 pub over-requires : goal.over-requires
 over-requires g c =
-    subst (λ (ps : List (Placed g.row.T.Denot)). IsRest (flat ps) ps) (sym c.as_slice.ensures.value) (is_rest g.T.RangeValue.rules c.self.inside.chunks.items c.self.invariant.sound.chunks)
+    subst (λ (ps : List (Placed g.row.T.Denot)). IsRest g.T.RangeValue.rules (flat ps) ps) (sym c.as_slice.ensures.value) (is_rest g.T.RangeValue.rules c.self.inside.chunks.items c.self.invariant.sound.chunks)
 
 pub among-requires : goal.among-requires
 among-requires g c =
