@@ -5,7 +5,10 @@ use Rattle.std.specs.List.{list_any, onto_first}
 use Rattle.std.proofs.lemmas.Bool.Decides.{nat_tests}
 use Rattle.std.proofs.lemmas.List.Folds.{list_any-append}
 use Rattle.range_set.specs.declared.ranged.Ranged.{Ranged}
+use Rattle.range_set.specs.Points.{points_of, stands}
 use Rattle.decoration.specs.declared.deco.Deco.{Deco}
+use Rattle.decoration.specs.declared.deco.Deco.TheVariants as deco
+use Rattle.decoration.specs.Sides.{deco_rules, is_point}
 use Rattle.line_tree.specs.declared.line.Line as lines
 use Rattle.line_tree.specs.Text.{line_feed}
 use Rattle.line_tree.specs.Lines.{numbered, line_texts, lines_of, IsLineOf}
@@ -223,3 +226,21 @@ blocks_same P Q (x ∷ xs) numbered same =
     let number = numbered i l is in
     let place : l.number - 1 ≡ i = omega (arith, number) in
     same l (ap (slice_get (x ∷ xs)) place ∙ is) (omega (arith, number, inside)))
+
+-- a range that hides something stands for what it covers
+stands_or_shows : (p : ℕ) (r : Ranged Deco) → stands deco_rules r ≡ false → hides p r ≡ false
+stands_or_shows p r h = at r.value h
+  where
+    at : (d : Deco) → is_point d ≡ false → (is_replacement d && is_between r.from r.to p) ≡ false
+    at (deco.Mark m) h = refl
+    at (deco.Widget w) h = refl
+    at (deco.Replace q) h = cc
+    at (deco.Line s) h = refl
+
+pub hidden_by_points : (p : ℕ) (rs : List (Ranged Deco)) → list_any (hides p) (points_of deco_rules rs) ≡ list_any (hides p) rs
+hidden_by_points p [] = refl
+hidden_by_points p (r ∷ rs) = at (stands deco_rules r) refl
+  where
+    at : (b : Bool) → stands deco_rules r ≡ b → list_any (hides p) (cond b (r ∷ points_of deco_rules rs) (points_of deco_rules rs)) ≡ (hides p r || list_any (hides p) rs)
+    at true e = ap (λ b. hides p r || b) (hidden_by_points p rs)
+    at false e = hidden_by_points p rs ∙ sym (ap (λ b. b || list_any (hides p) rs) (stands_or_shows p r e))

@@ -53,7 +53,7 @@ fn push_set(ranges: &mut Vec<LineRange>, text: &Text, set: &DecoSet) -> Result<(
     ensures within { OnOk result (list_any (is_wrong (length (lines_of text.now.characters))) ranges.new.items ≡ list_any (is_wrong (length (lines_of text.now.characters))) ranges.old.items) }
     ensures breaks { OnOk result ((line : Line) → IsLineOf text.now.characters line → line.number < length (lines_of text.now.characters) → list_any (covers line.number) ranges.new.items ≡ (list_any (covers line.number) ranges.old.items || set_hides line.to set.now)) }
 {
-    for range in set.iter() {
+    for range in set.points() {
         push_range(ranges, text, &range)?;
     }
     Ok(())

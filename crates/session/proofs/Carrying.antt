@@ -1,5 +1,5 @@
 -- What a line that was carried out answers as, and what the files of a store are as functions.
-use Rattle.std.proofs.Common.{◌≡◌, ◌≢◌, ◌<◌, ◌∙◌, ◌⊎◌, inl, inr, ℕ, List, length, Bool, true, false, nat_lt, Option, None, Some, IfSome, refl, sym, ap, subst, bytes_eq}
+use Rattle.std.proofs.Common.{◌≡◌, ◌<◌, ◌∙◌, ◌⊎◌, inl, inr, ℕ, List, length, Bool, true, false, nat_lt, Option, None, Some, IfSome, refl, sym, ap, subst, bytes_eq}
 use Rattle.std.proofs.lemmas.Bool.{lt-ltb}
 use Rattle.std.proofs.Math.Path.{fun_ext}
 use Rattle.std.proofs.lemmas.Slice.Eq.{bytes_eq-Decides}
@@ -28,11 +28,11 @@ use Rattle.script.specs.declared.refusal.LineError.TheVariants as errors
 use Rattle.script.specs.declared.refusal.Refusal.{Refusal}
 use Rattle.script.specs.declared.refusal.Refusal.TheVariants.{LineTooLong}
 use Rattle.values.specs.Rules.{Rules}
-use Rattle.session.specs.Filing.{open_file, opened, save, saved, with_file}
+use Rattle.session.specs.Filing.{opened, save, saved, with_file}
 use Rattle.session.specs.Outcomes.{Done, answered}
 use Rattle.session.specs.PrivateSession.{Carried, Carries, DoneWith, IsRefusalText, IsTold, IsWritten, is_inner}
 use Rattle.session.specs.Session.{act, asked, files_after, files_by, files_left, left_by, reply_of}
-use Rattle.session.specs.State.{Desk, Held, PlainSession, desk_of, plain_session}
+use Rattle.session.specs.State.{Held, PlainSession, desk_of, plain_session}
 use Rattle.session.proofs.Settling.{refused_done}
 use Rattle.session.specs.Transcript.{machine, outcome, files_of, after, reply}
 

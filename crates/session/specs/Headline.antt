@@ -14,8 +14,8 @@
 use Rattle.std.specs.Prelude.{◌≡◌, ℕ, List, Option, Some, None}
 use Rattle.cm_outside.specs.Files.{Files}
 use Rattle.cm_outside.specs.Runs.{Run}
-use Rattle.cm_outside.specs.Sink.{SinkTold, sink_told}
-use Rattle.cm_outside.specs.Source.{SourceTold, source_told}
+use Rattle.cm_outside.specs.Sink.{sink_told}
+use Rattle.cm_outside.specs.Source.{source_told}
 use Rattle.cm_outside.specs.Times.{Times}
 use Rattle.cm_outside.specs.declared.status.Status.{Status}
 use Rattle.cm_outside.specs.declared.status.Status.TheVariants.{Usage}

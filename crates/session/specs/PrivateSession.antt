@@ -19,7 +19,7 @@ use Rattle.replies.specs.Replies.{reply_text}
 use Rattle.replies.specs.declared.answer.Reply.TheVariants as replies
 use Rattle.requests.specs.declared.declaration.Declaration.{Declaration}
 use Rattle.requests.specs.declared.request.Request.{Request}
-use Rattle.requests.specs.declared.request.Request.TheVariants.{Declare, Start, Open, Save, Update, Do, Text, Selection, Get, Map, View, Screen, Summary}
+use Rattle.requests.specs.declared.request.Request.TheVariants.{Declare, Open, Save, Update, Text, Selection, Get, Map, Screen, Summary}
 use Rattle.screen.specs.Head.{ShowsHead}
 use Rattle.script.specs.Reading.{Fails}
 use Rattle.script.specs.declared.refusal.LineError.{LineError}

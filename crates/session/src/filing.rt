@@ -24,7 +24,7 @@ use registry::SAVE_SEPARATOR;
 use script::{FileRefusal, LineError, Refusal};
 use selection::Selection;
 use state::{State, StateError};
-use std::alloc::{AllocError, Global};
+use std::alloc::AllocError;
 use values::{Kit, Meanings, Val};
 
 /// The text that a value tells to end lines with.

@@ -6,7 +6,6 @@ ghost use Rattle.replies.specs.Replies.{reply_text};
 ghost use Rattle.replies.specs.declared.answer.Answer.TheVariants as answers;
 ghost use Rattle.replies.specs.declared.answer.Reply.TheVariants as replies;
 ghost use Rattle.requests.specs.declared.request.Request.TheVariants as requests;
-ghost use Rattle.script.specs.declared.refusal.Refusal.{Refusal as RefusalData};
 ghost use Rattle.script.specs.declared.refusal.Refusal.TheVariants.{LineTooLong};
 ghost use Rattle.script.specs.Reading.{Gives};
 ghost use Rattle.screen.specs.Head.{ShowsHead};

@@ -1,12 +1,15 @@
 -- Sets that lie in a document.
-use Rattle.std.proofs.Common.{◌≡◌, ℕ, ◌≤◌, Bool, true, false, ◌&&◌, cond, List, [], ◌∷◌, ◌++◌, None, refl, sym, subst, arith}
+use Rattle.std.proofs.Common.{◌≡◌, ℕ, suc, ◌≤◌, Bool, true, false, ◌&&◌, cond, List, [], ◌∷◌, ◌++◌, None, refl, sym, ap, ◌∙◌, subst, arith}
 use Rattle.std.specs.Prelude.{filter, nat_le}
 use Rattle.std.proofs.lemmas.Bool.Decides.{nat_tests}
 use Rattle.std.proofs.lemmas.List.{append-nil}
 use Rattle.stable_order.specs.StableSort.{insert_by, stable_sort}
 use Rattle.range_set.specs.declared.ranged.Ranged.{Ranged}
 use Rattle.range_set.specs.Mapping.{EndWithin}
-use Rattle.range_set.specs.Order.{before}
+use Rattle.range_set.specs.Order.{before, first_fault}
+use Rattle.stable_order.proofs.StableSort.{stable_sort-risen}
+use Rattle.range_set.specs.Ranking.{before-order}
+use Rattle.range_set.proofs.RangeOrder.{rises-no_fault}
 use Rattle.range_set.proofs.Each.{Within, end_within}
 use Rattle.decoration.specs.declared.deco.Deco.{Deco}
 use Rattle.decoration.specs.Sides.{deco_rules}
@@ -46,3 +49,18 @@ kept-inside n rs =
 pub none-made : (rs : DecoRanges) (es : List ShownEffect) → with_ranges (line_of None) rs es ≡ rs
 none-made rs [] = refl
 none-made rs (e ∷ es) = none-made rs es
+
+-- a set that lies in a document keeps all its ranges
+within_holds : (n a b : ℕ) → a ≤ n → b ≤ n → (nat_le a n && nat_le b n) ≡ true
+within_holds n a b h k = grind (arith, nat_tests)
+
+all_kept : (n : ℕ) (rs : DecoRanges) → EndWithin n rs → filter (is_within n) rs ≡ rs
+all_kept n [] h = refl
+all_kept n (r ∷ rs) h =
+    let here = h 0 r (omega arith) in
+    rw (within_holds n r.from r.to here.0 here.1) (ap (λ q. r ∷ q) (all_kept n rs (λ k d l. h (suc k) d (omega arith))))
+
+pub kept_whole : (n : ℕ) (rs : DecoRanges) → first_fault deco_rules rs ≡ None → EndWithin n rs → rs ≡ kept_within n rs
+kept_whole n rs order h =
+    sym (ap (stable_sort (before deco_rules)) (append-nil (filter (is_within n) rs) ∙ all_kept n rs h)
+         ∙ stable_sort-risen (before deco_rules) (before-order deco_rules) rs (rises-no_fault deco_rules rs order))

@@ -105,12 +105,24 @@ fn mapped(set: &DecoSet, transaction: &TrView) -> Result<DecoSet, AllocError>
 fn kept_within(alloc: Global, set: &DecoSet, len: u32) -> Result<DecoSet, AllocError>
     ensures { IfOk result (λ kept. kept ≡ kept_within len set.now) }
 {
+    if set.ends_within(len) {
+        return unchanged(set, len);
+    }
     let kept = set.update(Vec::new(alloc), |range| is_within(range, len));
     match kept {
         Ok(kept) => Ok(kept),
         Err(RangeError::NoMemory) => Err(AllocError),
         Err(_) => unreachable!(),
     }
+}
+
+/// A set that lies in a document of this length, once more.
+fn unchanged(set: &DecoSet, len: u32) -> Result<DecoSet, AllocError>
+    requires { EndWithin len set.now }
+    ensures { IfOk result (λ same. same ≡ kept_within len set.now) }
+{
+    set.known();
+    set.try_copy()
 }
 
 /// Whether a range lies in a document of this length.

@@ -2,12 +2,10 @@ ghost use Rattle.std.specs.Prelude.{◌≡◌, true};
 ghost use Rattle.std.specs.List.{list_all};
 ghost use Rattle.cm_plain.specs.Datum.{data_of};
 ghost use Rattle.cm_plain.specs.Plain.{datum_of};
-ghost use Rattle.range_set.specs.Seen.{seen};
-ghost use Rattle.values.specs.InRange.{data_in_range, datum_in_range, ends_in_range, set_in_range};
+ghost use Rattle.values.specs.InRange.{data_in_range, datum_in_range, set_in_range};
 
 use cm_plain::{Plain, PlainList};
-use decoration::{Deco, DecoSet};
-use range_set::RangeRef;
+use decoration::DecoSet;
 
 /// Reads each number of plain data: a proof takes from a read that the number lies in the range of its type.
 #[cycle(known)]
@@ -33,28 +31,18 @@ fn known_list(list: &PlainList)
     }
 }
 
-/// Reads the ends of each range of a set.
+/// What a set tells of the ends of its ranges.
 pub(crate) fn known_set(set: &DecoSet)
     ensures { set_in_range set.now ≡ true }
 {
-    for range in set.iter() {
-        known_ends(&range);
-    }
+    set.known();
 }
 
-/// Reads the ends of each range of sets.
+/// What each of some sets tells.
 pub(crate) fn known_sets(sets: &[DecoSet])
     ensures { list_all set_in_range sets.now ≡ true }
 {
     for set in sets {
         known_set(set);
     }
-}
-
-/// Reads the ends of a range.
-fn known_ends(range: &RangeRef<'_, Deco>)
-    ensures { ends_in_range (seen range.now) ≡ true }
-{
-    let _from = range.from;
-    let _to = range.to;
 }

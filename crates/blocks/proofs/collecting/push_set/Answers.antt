@@ -1,7 +1,16 @@
-use Rattle.std.proofs.Common.{◌∙◌}
+use Rattle.std.proofs.Common.{◌||◌, refl, ap, ◌∙◌}
+use Rattle.std.specs.List.{list_any}
+use Rattle.blocks.specs.Joins.{covers}
 use Rattle.blocks.specs.Hiding.{hides}
 use Rattle.blocks.proofs.Merging.{any_step, any_end}
+use Rattle.blocks.proofs.Covered.{hidden_by_points}
 use Rattle.blocks.proofs.collecting.push_set.Goals as goal
+
+pub loop-range-init : goal.loop-range-init
+loop-range-init c = record {
+  within = refl;
+  breaks = λ line is more. ap (λ b. list_any (covers line.number) c.args.ranges.now.items || b) (ap (list_any (hides line.to)) c.points.ensures ∙ hidden_by_points line.to c.args.set.now);
+}
 
 pub loop-range-preserved : goal.loop-range-preserved
 loop-range-preserved c = record {
