@@ -239,8 +239,9 @@ stands_or_shows p r h = at r.value h
 
 pub hidden_by_points : (p : ℕ) (rs : List (Ranged Deco)) → list_any (hides p) (points_of deco_rules rs) ≡ list_any (hides p) rs
 hidden_by_points p [] = refl
-hidden_by_points p (r ∷ rs) = at (stands deco_rules r) refl
+hidden_by_points p (r ∷ rs) = at (stands deco_rules r) refl (hidden_by_points p rs)
   where
-    at : (b : Bool) → stands deco_rules r ≡ b → list_any (hides p) (cond b (r ∷ points_of deco_rules rs) (points_of deco_rules rs)) ≡ (hides p r || list_any (hides p) rs)
-    at true e = ap (λ b. hides p r || b) (hidden_by_points p rs)
-    at false e = hidden_by_points p rs ∙ sym (ap (λ b. b || list_any (hides p) rs) (stands_or_shows p r e))
+    at : (b : Bool) → stands deco_rules r ≡ b → list_any (hides p) (points_of deco_rules rs) ≡ list_any (hides p) rs
+        → list_any (hides p) (cond b (r ∷ points_of deco_rules rs) (points_of deco_rules rs)) ≡ (hides p r || list_any (hides p) rs)
+    at true e k = ap (λ b. hides p r || b) k
+    at false e k = k ∙ sym (ap (λ b. b || list_any (hides p) rs) (stands_or_shows p r e))

@@ -9,7 +9,7 @@ use Rattle.blocks.proofs.collecting.push_set.Goals as goal
 pub loop-range-init : goal.loop-range-init
 loop-range-init c = record {
   within = refl;
-  breaks = λ line is more. ap (λ b. list_any (covers line.number) c.args.ranges.now.items || b) (ap (list_any (hides line.to)) c.points.ensures ∙ hidden_by_points line.to c.args.set.now);
+  breaks = λ line is more. ap (λ b. list_any (covers line.number) c.args.ranges.now.items || b) (ap (list_any (hides line.to)) (c.into_iter-range-iterator.ensures.into_iter_gives ∙ c.points-range-items.ensures) ∙ hidden_by_points line.to c.args.set.now);
 }
 
 pub loop-range-preserved : goal.loop-range-preserved
