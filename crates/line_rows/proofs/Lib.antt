@@ -1,5 +1,7 @@
+pub mod Clusters
 pub mod ColumnSteps
 pub mod Groups
+pub mod Parts
 pub mod RunSteps
 pub mod SameRows
 pub mod Windows

@@ -1,5 +1,6 @@
 pub mod Row
 pub mod Groups
+pub mod Parts
 pub mod Column
 pub mod Run
 pub use Rattle.pieces.specs.Piece

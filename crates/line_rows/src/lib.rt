@@ -3,7 +3,7 @@
 //! `row` gives the cells that the window shows of a block's pieces, and counts that it did; `column_of` tells in which
 //! column of its block a place stands; `runs_of` cuts a row where its style changes. A layer above may rely on their
 //! exact results, on each row having exactly as many cells as the window has columns, and on its showing whole groups of
-//! cells, so that no wide cluster is half shown.
+//! cells, so that no wide cluster is half shown. Each character of a block stands in exactly one of these groups.
 #![tactic(auto)]
 
 mod columns;

@@ -1,6 +1,7 @@
 // The cells of a row.
 ghost use Rattle.std.specs.Prelude.{◌≡◌, ◌+◌, ◌*◌, ◌^◌, ◌<◌, ◌≤◌, ◌++◌, length, IfOk, OnOk};
 ghost use Rattle.line_rows.specs.Groups.{ShowsWhole, groups_of};
+ghost use Rattle.line_rows.specs.Parts.{StandOnce, block_text};
 ghost use Rattle.line_rows.specs.Row.{filled, in_window, pieces_in_window, row_of, shown_cell, whole_or_blank};
 
 use cells::{Cell, cells_of};
@@ -34,6 +35,7 @@ pub fn row<L: Ledger>(
     ensures value { IfOk result (λ cells. cells.items ≡ row_of tab cols left pieces.now) }
     ensures length { IfOk result (λ cells. length cells.items ≡ cols) }
     ensures whole { IfOk result (λ cells. ShowsWhole (groups_of tab pieces.now.start pieces.now.pieces) cells.items) }
+    ensures once { StandOnce (block_text pieces.now.pieces) (groups_of tab pieces.now.start pieces.now.pieces) }
     ensures counted { laid.new ≡ laid.old + 1 }
 {
     laid.tick();
