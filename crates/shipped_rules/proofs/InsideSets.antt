@@ -63,4 +63,4 @@ all_kept n (r ∷ rs) h =
 pub kept_whole : (n : ℕ) (rs : DecoRanges) → first_fault deco_rules rs ≡ None → EndWithin n rs → rs ≡ kept_within n rs
 kept_whole n rs order h =
     sym (ap (stable_sort (before deco_rules)) (append-nil (filter (is_within n) rs) ∙ all_kept n rs h)
-         ∙ stable_sort-risen (before deco_rules) (before-order deco_rules) rs (rises-no_fault deco_rules rs order))
+    ∙ stable_sort-risen (before deco_rules) (before-order deco_rules) rs (rises-no_fault deco_rules rs order))
