@@ -1,16 +1,16 @@
 -- An object is accepted exactly where its fields all fit and it has no other member.
-use Rattle.std.proofs.Common.{◌≡◌, ℕ, ◌&&◌, ◌||◌, List, [], ◌∷◌, ◌++◌, length, map, nat_lt, Bool, true, false, not, Option, Some, None, Result, Ok, Err, if◌then◌else◌, is_ok, codes, refl, sym, ap, ◌∙◌}
-use Rattle.std.specs.List.{list_all, list_any}
+use Rattle.std.proofs.Common.{◌≡◌, ℕ, ◌&&◌, ◌||◌, List, [], ◌∷◌, ◌++◌, length, map, nat_lt, Bool, true, false, not, Option, Some, None, Result, Ok, Err, if◌then◌else◌, is_ok, refl, sym, ap, ◌∙◌}
+use Rattle.std.specs.List.{list_any}
 use Rattle.std.specs.Str.{bytes_eq, is_utf8}
 use Rattle.cm_outside.specs.Lines.{max_line}
 use Rattle.serde_json.specs.Data.{Data, null, boolean, number, string, array, object, Items, no_items, item, Members, no_members, member}
-use Rattle.serde_json.specs.Find.{get, at, as_array, as_object}
+use Rattle.serde_json.specs.Find.{get, as_array, as_object}
 use Rattle.serde_json.specs.Read.{read}
 use Rattle.script.specs.declared.refusal.Refusal.{Refusal}
 use Rattle.script.specs.declared.refusal.Refusal.TheVariants.{LineTooLong, NotUtf8}
-use Rattle.script.specs.Reading.{◌>>=◌, bad, or_bad, read_or, required, required_as, defaulted, optional, number_member, text_member, items_at, item_at, no_item_at, or_end, members_at, only, text_at, number_at, each, list_of}
+use Rattle.script.specs.Reading.{◌>>=◌, bad, or_bad, read_or, required, required_as, defaulted, optional, number_member, text_member, items_at, members_at, only, text_at, number_at, each, list_of}
 use Rattle.script.specs.Lines.{command_of_members, command_of, command_of_data, line_command}
-use Rattle.script.specs.Accepted.{is_alone, is_command_value, is_line, Field, needs, may_have, fits, member_fits, all_fit, has_no_other, has_members, is_accepted, all_items, has_items, is_list_of, are_two, is_pair_of, ReadsExactly}
+use Rattle.script.specs.Accepted.{is_alone, is_command_value, is_line, Field, needs, may_have, fits, member_fits, all_fit, has_no_other, has_members, is_accepted, all_items, has_items, is_list_of, ReadsExactly}
 
 -- what is read is a value exactly where these fields of an object fit and the rest holds
 pub record Reads {A : Type 0} (d : Data) (fields : List Field) (rest : Bool) (read : Result A Refusal) : Type 0 where

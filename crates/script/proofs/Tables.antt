@@ -1,9 +1,9 @@
 -- Each object of a script is accepted exactly where its fields all fit and it has no other member.
-use Rattle.std.proofs.Common.{◌≡◌, ℕ, ◌&&◌, List, [], ◌∷◌, ◌++◌, Bool, true, false, Result, Ok, Err, is_ok, pos, codes, bytes_eq, refl, sym, ap, ◌∙◌}
-use Rattle.serde_json.specs.Data.{Data, null, boolean, number, string, array, object, Items, no_items, item}
+use Rattle.std.proofs.Common.{◌≡◌, ℕ, List, [], ◌∷◌, true, false, Result, Ok, Err, is_ok, pos, codes, bytes_eq, refl}
+use Rattle.serde_json.specs.Data.{Data, null, boolean, number, string, array, object, no_items, item}
 use Rattle.change_desc.specs.declared.map_mode.MapMode.TheVariants.{Simple}
 use Rattle.script.specs.declared.refusal.Refusal.{Refusal}
-use Rattle.script.specs.declared.command.Command.TheVariants.{Start, Update, Text, Selection, Map}
+use Rattle.script.specs.declared.command.Command.TheVariants.{Update, Text, Selection, Map}
 use Rattle.script.specs.Reading.{◌>>=◌, text_at, number_at, side_at, flag_at, item_at, no_item_at, list_of}
 use Rattle.script.specs.Values.{value_at}
 use Rattle.script.specs.Words.{op_at, mode_at}
