@@ -1,5 +1,5 @@
 -- Each object of a session's script is read exactly where its fields all fit and it has no other member.
-use Rattle.std.proofs.Common.{◌≡◌, ℕ, List, [], ◌∷◌, ◌++◌, Bool, true, false, Option, Some, None, Result, Ok, Err, is_ok, is_some, if◌then◌else◌, pos, codes, bytes_eq, refl}
+use Rattle.std.proofs.Common.{◌≡◌, ℕ, List, [], ◌∷◌, ◌++◌, Bool, true, false, Option, Some, None, Result, Ok, Err, is_ok, is_some, ◌||◌, if◌then◌else◌, pos, codes, bytes_eq, refl, sym, ap, ◌∙◌}
 use Rattle.serde_json.specs.Data.{Data}
 use Rattle.serde_json.specs.Find.{get, as_object}
 use Rattle.term_keys.specs.declared.key.Move.TheVariants.{Left}
@@ -10,7 +10,7 @@ use Rattle.script.specs.Command.{change_of, first_selection_of, given_selection_
 use Rattle.script.specs.Lines.{line_command}
 use Rattle.script.specs.Accepted.{needs, ReadsExactly, is_accepted, is_list_of, is_command, is_line}
 use Rattle.script.specs.Tables.{selection_fields, notes_fields, flags_fields, map_fields}
-use Rattle.script.proofs.Accepting.{Reads, on, end, need, need_number, need_text, have, have_or_none, last, accepts, made, list, either, line-exactly}
+use Rattle.script.proofs.Accepting.{Reads, on, end, need, need_number, need_text, have, have_or_none, last, accepts, refused_without, refused_with, made, list, either, line-exactly}
 use Rattle.script.proofs.Tables.{first_selection-reads, given_selection-reads, notes-reads, flags-reads, no_fields-exactly, map_request-exactly}
 use Rattle.requests.specs.declared.declaration.Declaration.{Declaration}
 use Rattle.requests.specs.declared.declaration.Declaration.TheVariants as declare
@@ -209,6 +209,18 @@ append-exactly name d = accepts append_fields name d _ λ members.
     on (need_text (codes "append") d) λ node.
     last append_fields members _ d
 
+-- a form that is chosen where a member is there, or another: at most one of them accepts
+chosen : (o : Option Data) (x y z : Bool) → ((found : Data) → o ≡ Some found → y ≡ false) → (o ≡ None → x ≡ false) → (o ≡ None → z ≡ y) → (if is_some o then x else z) ≡ (x || y)
+chosen (Some found) x y z other missing rest = at x y (other found refl) where
+  at : (x y : Bool) → y ≡ false → x ≡ (x || y)
+  at true y h = refl
+  at false y h = sym h
+chosen None x y z other missing rest = rest refl ∙ ap (λ b. b || y) (sym (missing refl))
+
+neither : {a b : Bool} → a ≡ false → b ≡ false → (a || b) ≡ false
+neither {a = true} e h = e
+neither {a = false} e h = h
+
 pub named_effect-exactly : (name : List ℕ) → ReadsExactly (named_effect_of name) is_effect
 unfolding named_effect_of
 named_effect-exactly name d =
@@ -216,6 +228,24 @@ named_effect-exactly name d =
     (either (is_some (get (codes "reconfigure") d)) _ _ _ _ (reconfigure-exactly name d)
     (either (is_some (get (codes "root") d)) _ _ _ _ (root-exactly name d)
     (either (is_some (get (codes "append") d)) _ _ _ _ (append-exactly name d) (kind_effect-exactly name d))))
+    ∙ chosen (get (codes "effect") d) (is_accepted kind_effect_fields d) _ _
+        (λ found h. neither (refused_with reconfigure_fields (codes "effect") found d refl h)
+          (neither (refused_with root_fields (codes "effect") found d refl h)
+          (neither (refused_with append_fields (codes "effect") found d refl h) refl)))
+        no_kind
+        λ no_effect. chosen (get (codes "reconfigure") d) (is_accepted reconfigure_fields d) _ _
+        (λ found h. neither (refused_with root_fields (codes "reconfigure") found d refl h)
+          (neither (refused_with append_fields (codes "reconfigure") found d refl h) refl))
+        (refused_without (codes "reconfigure") content_of [] d)
+        λ no_content. chosen (get (codes "root") d) (is_accepted root_fields d) _ _
+        (λ found h. neither (refused_with append_fields (codes "root") found d refl h) refl)
+        (refused_without (codes "root") (list_of text_at) [] d)
+        λ no_root. chosen (get (codes "append") d) (is_accepted append_fields d) false _
+        (λ found h. refl)
+        (refused_without (codes "append") text_at [] d)
+        λ no_append. no_kind no_effect where
+  no_kind : get (codes "effect") d ≡ None → is_accepted kind_effect_fields d ≡ false
+  no_kind = refused_without (codes "effect") text_at (needs (codes "value") value_at ∷ []) d
 
 -- ---- other commands
 

@@ -1,7 +1,8 @@
 -- The fields of each object of a session's script, in the order in which they are read, and the commands.
 use Rattle.std.specs.Prelude.{ℕ, List, [], ◌∷◌, ◌++◌, is_some, is_ok, Bool, if◌then◌else◌, codes}
+use Rattle.std.specs.List.{list_any}
 use Rattle.serde_json.specs.Data.{Data}
-use Rattle.serde_json.specs.Find.{get, as_object}
+use Rattle.serde_json.specs.Find.{as_object}
 use Rattle.script.specs.Reading.{text_at, number_at, side_at, integer_at, flag_at, list_of}
 use Rattle.script.specs.Values.{value_at}
 use Rattle.script.specs.Command.{change_of}
@@ -112,14 +113,12 @@ root_fields = needs (codes "root") (list_of text_at) ∷ []
 abbrev pub append_fields : List Field
 append_fields = needs (codes "append") text_at ∷ []
 
--- an effect of one of the four forms
+-- an effect has one of these forms
+abbrev pub effect_forms : List (List Field)
+effect_forms = kind_effect_fields ∷ reconfigure_fields ∷ root_fields ∷ append_fields ∷ []
+
 abbrev pub is_effect : Data → Bool
-is_effect d =
-    if is_some (get (codes "effect") d) then is_accepted kind_effect_fields d
-    else (if is_some (get (codes "reconfigure") d) then is_accepted reconfigure_fields d
-    else (if is_some (get (codes "root") d) then is_accepted root_fields d
-    else (if is_some (get (codes "append") d) then is_accepted append_fields d
-    else is_accepted kind_effect_fields d)))
+is_effect d = list_any (λ fields. is_accepted fields d) effect_forms
 
 -- ---- other commands
 

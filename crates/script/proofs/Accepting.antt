@@ -1,10 +1,13 @@
 -- An object is accepted exactly where its fields all fit and it has no other member.
-use Rattle.std.proofs.Common.{◌≡◌, ℕ, ◌&&◌, ◌||◌, List, [], ◌∷◌, ◌++◌, length, map, nat_lt, Bool, true, false, not, Option, Some, None, Result, Ok, Err, if◌then◌else◌, is_ok, refl, sym, ap, ◌∙◌}
+use Rattle.std.proofs.Common.{◌≡◌, ℕ, ◌&&◌, ◌||◌, List, [], ◌∷◌, ◌++◌, length, map, nat_lt, Bool, true, false, not, is_some, Option, Some, None, Result, Ok, Err, if◌then◌else◌, is_ok, refl, sym, ap, ◌∙◌, true≢false, Ordering, Less, Equal, Greater, nat_cmp}
+use Rattle.std.specs.Ordering.{match_ordering}
+use Rattle.std.specs.Cmp.Lexicographic.{slice_cmp}
+use Rattle.std.proofs.lemmas.Map.Lookups.{exact_bytes}
 use Rattle.std.specs.List.{list_any}
 use Rattle.std.specs.Str.{bytes_eq, is_utf8}
 use Rattle.cm_outside.specs.Lines.{max_line}
 use Rattle.serde_json.specs.Data.{Data, null, boolean, number, string, array, object, Items, no_items, item, Members, no_members, member}
-use Rattle.serde_json.specs.Find.{get, as_array, as_object}
+use Rattle.serde_json.specs.Find.{get, get_member, as_array, as_object}
 use Rattle.serde_json.specs.Read.{read}
 use Rattle.script.specs.declared.refusal.Refusal.{Refusal}
 use Rattle.script.specs.declared.refusal.Refusal.TheVariants.{LineTooLong, NotUtf8}
@@ -107,6 +110,32 @@ accepts fields name d next h = at (as_object d) where
   at : (o : Option Members) → is_ok (or_bad name o >>= next) ≡ (all_fit fields d && has_members (has_no_other fields) o)
   at None = none (all_fit fields d)
   at (Some ms) = (h ms).same
+
+-- an object in which this field is missing is refused
+pub refused_without : {A : Type 0} (name : List ℕ) (read : List ℕ → Data → Result A Refusal) (fields : List Field) (d : Data) → get name d ≡ None → is_accepted (needs name read ∷ fields) d ≡ false
+refused_without name read fields d h = ap (λ o. (member_fits (needs name read) o && all_fit fields d) && has_members (has_no_other (needs name read ∷ fields)) (as_object d)) h
+
+and_false : (b : Bool) → b && false ≡ false
+and_false true = refl
+and_false false = refl
+
+other_found : (fields : List Field) (k : List ℕ) (found : Data) (ms : Members) → list_any (λ field. bytes_eq k field.name) fields ≡ false → get_member k ms ≡ Some found → has_no_other fields ms ≡ false
+other_found fields k found no_members unknown h = absurd (true≢false (sym (ap is_some h)))
+other_found fields k found (member l d ms) unknown h = at (slice_cmp nat_cmp k l) refl h (other_found fields k found ms unknown) where
+  at : (o : Ordering) → slice_cmp nat_cmp k l ≡ o → match_ordering o (get_member k ms) (Some d) (get_member k ms) ≡ Some found → (get_member k ms ≡ Some found → has_no_other fields ms ≡ false)
+      → list_any (λ field. bytes_eq l field.name) fields && has_no_other fields ms ≡ false
+  at Less e h later = ap (λ b. list_any (λ field. bytes_eq l field.name) fields && b) (later h) ∙ and_false (list_any (λ field. bytes_eq l field.name) fields)
+  at Equal e h later = ap (λ b. b && has_no_other fields ms) (ap (λ name. list_any (λ field. bytes_eq name field.name) fields) (sym (exact_bytes k l e)) ∙ unknown)
+  at Greater e h later = ap (λ b. list_any (λ field. bytes_eq l field.name) fields && b) (later h) ∙ and_false (list_any (λ field. bytes_eq l field.name) fields)
+
+-- an object that has a member of another name is refused
+pub refused_with : (fields : List Field) (k : List ℕ) (found : Data) (d : Data) → list_any (λ field. bytes_eq k field.name) fields ≡ false → get k d ≡ Some found → is_accepted fields d ≡ false
+refused_with fields k found null unknown h = absurd (true≢false (sym (ap is_some h)))
+refused_with fields k found (boolean b) unknown h = absurd (true≢false (sym (ap is_some h)))
+refused_with fields k found (number n) unknown h = absurd (true≢false (sym (ap is_some h)))
+refused_with fields k found (string s) unknown h = absurd (true≢false (sym (ap is_some h)))
+refused_with fields k found (array ds) unknown h = absurd (true≢false (sym (ap is_some h)))
+refused_with fields k found (object ms) unknown h = ap (λ b. all_fit fields (object ms) && b) (other_found fields k found ms unknown h) ∙ and_false (all_fit fields (object ms))
 
 -- an answer that is made of what is read
 pub made : {A B : Type 0} (read : Result A Refusal) (make : A → B) (test : Bool) → is_ok read ≡ test → is_ok (read >>= λ x. Ok (make x)) ≡ test
