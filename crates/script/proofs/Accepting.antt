@@ -11,9 +11,11 @@ use Rattle.serde_json.specs.Find.{get, get_member, as_array, as_object}
 use Rattle.serde_json.specs.Read.{read}
 use Rattle.script.specs.declared.refusal.Refusal.{Refusal}
 use Rattle.script.specs.declared.refusal.Refusal.TheVariants.{LineTooLong, NotUtf8}
-use Rattle.script.specs.Reading.{◌>>=◌, bad, or_bad, read_or, required, required_as, defaulted, optional, number_member, text_member, items_at, members_at, only, text_at, number_at, each, list_of}
+use Rattle.script.specs.declared.refusal.LineError.{LineError}
+use Rattle.script.specs.declared.refusal.LineError.TheVariants as errors
+use Rattle.script.specs.Reading.{◌>>=◌, Gives, bad, or_bad, read_or, required, required_as, defaulted, optional, number_member, text_member, items_at, members_at, only, text_at, number_at, each, list_of}
 use Rattle.script.specs.Lines.{command_of_members, command_of, command_of_data, line_command}
-use Rattle.script.specs.Accepted.{is_alone, is_command_value, is_line, Field, needs, may_have, fits, member_fits, all_fit, has_no_other, has_members, is_accepted, all_items, has_items, is_list_of, ReadsExactly}
+use Rattle.script.specs.Accepted.{is_alone, is_command_value, is_line, Field, needs, may_have, fits, member_fits, all_fit, has_no_other, some_passes, is_accepted, all_items, is_list_of, ReadsExactly, AnswersWhere}
 
 -- what is read is a value exactly where these fields of an object fit and the rest holds
 pub record Reads {A : Type 0} (d : Data) (fields : List Field) (rest : Bool) (read : Result A Refusal) : Type 0 where
@@ -107,13 +109,13 @@ accepts fields name d next h = at (as_object d) where
   none true = refl
   none false = refl
 
-  at : (o : Option Members) → is_ok (or_bad name o >>= next) ≡ (all_fit fields d && has_members (has_no_other fields) o)
+  at : (o : Option Members) → is_ok (or_bad name o >>= next) ≡ (all_fit fields d && some_passes (has_no_other fields) o)
   at None = none (all_fit fields d)
   at (Some ms) = (h ms).same
 
 -- an object in which this field is missing is refused
 pub refused_without : {A : Type 0} (name : List ℕ) (read : List ℕ → Data → Result A Refusal) (fields : List Field) (d : Data) → get name d ≡ None → is_accepted (needs name read ∷ fields) d ≡ false
-refused_without name read fields d h = ap (λ o. (member_fits (needs name read) o && all_fit fields d) && has_members (has_no_other (needs name read ∷ fields)) (as_object d)) h
+refused_without name read fields d h = ap (λ o. (member_fits (needs name read) o && all_fit fields d) && some_passes (has_no_other (needs name read ∷ fields)) (as_object d)) h
 
 and_false : (b : Bool) → b && false ≡ false
 and_false true = refl
@@ -157,7 +159,7 @@ each_exactly read test h (item d ds) =
 pub list : {A : Type 0} (read : List ℕ → Data → Result A Refusal) (test : Data → Bool) (name : List ℕ) → ReadsExactly (read name) test → ReadsExactly (list_of read name) (is_list_of test)
 unfolding list_of items_at
 list read test name h d = at_items (as_array d) where
-  at_items : (o : Option Items) → is_ok (or_bad name o >>= each (read name)) ≡ has_items (all_items test) o
+  at_items : (o : Option Items) → is_ok (or_bad name o >>= each (read name)) ≡ some_passes (all_items test) o
   at_items None = refl
   at_items (Some ds) = each_exactly (read name) test h ds
 
@@ -172,7 +174,7 @@ of_members named test h no_members = refl
 of_members named test h (member name d no_members) = h name d
 of_members named test h (member name d (member k e ms)) = refl
 
-of_value : {C : Type 0} (named : List ℕ → Data → Result C Refusal) (test : List ℕ → Data → Bool) → ((name : List ℕ) → ReadsExactly (named name) (test name)) → (d : Data) → is_ok (command_of named d) ≡ has_members (is_alone test) (as_object d)
+of_value : {C : Type 0} (named : List ℕ → Data → Result C Refusal) (test : List ℕ → Data → Bool) → ((name : List ℕ) → ReadsExactly (named name) (test name)) → (d : Data) → is_ok (command_of named d) ≡ some_passes (is_alone test) (as_object d)
 unfolding command_of
 of_value named test h null = refl
 of_value named test h (boolean b) = refl
@@ -185,8 +187,14 @@ pub line-exactly : {C : Type 0} (named : List ℕ → Data → Result C Refusal)
 unfolding line_command
 line-exactly named test h line = at (nat_lt max_line (length line)) (is_utf8 line) (read line) where
   at : (long utf8 : Bool) (o : Option Data)
-      → is_ok (if long then Err LineTooLong else (if utf8 then command_of_data named o else Err NotUtf8)) ≡ (not long && utf8 && is_command_value test o)
+      → is_ok (if long then Err LineTooLong else (if utf8 then command_of_data named o else Err NotUtf8)) ≡ (not long && utf8 && some_passes (is_command_value test) o)
   at true utf8 o = refl
   at false false o = refl
   at false true None = refl
   at false true (Some d) = of_value named test h d
+
+-- what the contract of a reader says of its answers
+pub answers : {X Y : Type 0} (see : X → Y) (result : Result X LineError) (read : Result Y Refusal) (test : Bool) → Gives see result read → is_ok read ≡ test → AnswersWhere result test
+answers see (Ok x) read test h e = sym e ∙ ap is_ok h
+answers see (Err errors.NoMemory) read test h e = tt
+answers see (Err (errors.Refused r)) read test h e = sym e ∙ ap is_ok h

@@ -1,6 +1,6 @@
 -- What is accepted: an object whose fields all fit and that has no other member, a list whose items all fit, a line whose
 -- command takes its argument. `ReadsExactly` says that what is read is an answer exactly there.
-use Rattle.std.specs.Prelude.{◌≡◌, ℕ, List, [], ◌∷◌, length, ◌&&◌, Bool, true, false, not, nat_lt, Option, Some, None, Result, is_ok, if◌then◌else◌}
+use Rattle.std.specs.Prelude.{◌≡◌, ℕ, List, [], ◌∷◌, length, ◌&&◌, Bool, true, false, not, nat_lt, Option, Some, None, Result, Ok, Err, is_ok, if◌then◌else◌}
 use Rattle.std.specs.List.{list_all, list_any}
 use Rattle.std.specs.Str.{bytes_eq, is_utf8}
 use Rattle.cm_outside.specs.Lines.{max_line}
@@ -8,10 +8,23 @@ use Rattle.serde_json.specs.Data.{Data, Items, no_items, item, Members, no_membe
 use Rattle.serde_json.specs.Find.{get, as_array, as_object}
 use Rattle.serde_json.specs.Read.{read}
 use Rattle.script.specs.declared.refusal.Refusal.{Refusal}
+use Rattle.script.specs.declared.refusal.LineError.{LineError}
+use Rattle.script.specs.declared.refusal.LineError.TheVariants as errors
 
 -- what is read from a value is an answer, and no refusal, exactly where the value passes the test
 abbrev pub ReadsExactly : {A : Type 0} → (Data → Result A Refusal) → (Data → Bool) → Type 0
 ReadsExactly read test = (d : Data) → is_ok (read d) ≡ test d
+
+-- a function that reads answers only where the test holds, and refuses only where it doesn't; it may be out of memory anywhere
+abbrev pub AnswersWhere : {X : Type 0} → Result X LineError → Bool → Type 0
+AnswersWhere (Ok x) test = test ≡ true
+AnswersWhere (Err errors.NoMemory) test = Unit {0}
+AnswersWhere (Err (errors.Refused r)) test = test ≡ false
+
+-- there is something that passes the test
+abbrev pub some_passes : {A : Type 0} → (A → Bool) → Option A → Bool
+some_passes test None = false
+some_passes test (Some x) = test x
 
 -- a field of an object: its name, whether it has to be there, and which values fit it
 pub record Field : Type 0 where
@@ -44,26 +57,18 @@ abbrev pub has_no_other : List Field → Members → Bool
 has_no_other fields no_members = true
 has_no_other fields (member k d ms) = list_any (λ field. bytes_eq k field.name) fields && has_no_other fields ms
 
-abbrev pub has_members : (Members → Bool) → Option Members → Bool
-has_members test None = false
-has_members test (Some ms) = test ms
-
 -- an object whose fields all fit and that has no other member
 abbrev pub is_accepted : List Field → Data → Bool
-is_accepted fields d = all_fit fields d && has_members (has_no_other fields) (as_object d)
+is_accepted fields d = all_fit fields d && some_passes (has_no_other fields) (as_object d)
 
 -- each item passes the test
 abbrev pub all_items : (Data → Bool) → Items → Bool
 all_items test no_items = true
 all_items test (item d ds) = test d && all_items test ds
 
-abbrev pub has_items : (Items → Bool) → Option Items → Bool
-has_items test None = false
-has_items test (Some ds) = test ds
-
 -- a list whose items all pass the test
 abbrev pub is_list_of : (Data → Bool) → Data → Bool
-is_list_of test d = has_items (all_items test) (as_array d)
+is_list_of test d = some_passes (all_items test) (as_array d)
 
 abbrev pub are_two : (Data → Bool) → Items → Bool
 are_two test no_items = false
@@ -73,7 +78,7 @@ are_two test (item a (item b (item c ds))) = false
 
 -- a list of two items, which both pass the test
 abbrev pub is_pair_of : (Data → Bool) → Data → Bool
-is_pair_of test d = has_items (are_two test) (as_array d)
+is_pair_of test d = some_passes (are_two test) (as_array d)
 
 -- a command: its name, and which arguments it takes
 pub record Form : Type 0 where
@@ -95,12 +100,11 @@ is_alone test no_members = false
 is_alone test (member name d no_members) = test name d
 is_alone test (member name d (member k e ms)) = false
 
--- there is a value, an object of one member whose name and value pass the test
-abbrev pub is_command_value : (List ℕ → Data → Bool) → Option Data → Bool
-is_command_value test None = false
-is_command_value test (Some d) = has_members (is_alone test) (as_object d)
+-- an object of one member, whose name and value pass the test
+abbrev pub is_command_value : (List ℕ → Data → Bool) → Data → Bool
+is_command_value test d = some_passes (is_alone test) (as_object d)
 
 -- a line that is not too long and is the JSON text, in UTF-8, of an object of one member, the command, whose name and value,
 -- its argument, pass the test
 abbrev pub is_line : (List ℕ → Data → Bool) → List ℕ → Bool
-is_line test line = not (nat_lt max_line (length line)) && is_utf8 line && is_command_value test (read line)
+is_line test line = not (nat_lt max_line (length line)) && is_utf8 line && some_passes (is_command_value test) (read line)
