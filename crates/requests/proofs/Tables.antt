@@ -1,29 +1,28 @@
 -- Each object of a session's script is read exactly where its fields all fit and it has no other member.
-use Rattle.std.proofs.Common.{◌≡◌, ℕ, List, [], ◌∷◌, ◌++◌, Bool, true, false, Option, Some, None, Result, Ok, Err, is_ok, is_some, ◌||◌, if◌then◌else◌, pos, codes, bytes_eq, refl, sym, ap, ◌∙◌}
+use Rattle.std.proofs.Common.{◌≡◌, ℕ, List, [], ◌∷◌, Bool, true, false, Option, Some, None, Result, Ok, Err, is_ok, is_some, ◌||◌, if◌then◌else◌, pos, codes, bytes_eq, refl, sym, ap, ◌∙◌}
 use Rattle.serde_json.specs.Data.{Data}
 use Rattle.serde_json.specs.Find.{get, as_object}
 use Rattle.term_keys.specs.declared.key.Move.TheVariants.{Left}
 use Rattle.script.specs.declared.refusal.Refusal.{Refusal}
 use Rattle.script.specs.Reading.{◌>>=◌, text_at, number_at, side_at, integer_at, flag_at, list_of}
 use Rattle.script.specs.Values.{value_at}
-use Rattle.script.specs.Command.{change_of, first_selection_of, given_selection_of, notes_of, flags_of, no_fields_of, map_request_of}
+use Rattle.script.specs.Command.{change_of, no_fields_of, map_request_of}
 use Rattle.script.specs.Lines.{line_command}
-use Rattle.script.specs.Accepted.{needs, ReadsExactly, is_accepted, is_list_of, is_command, is_line}
-use Rattle.script.specs.Tables.{selection_fields, notes_fields, flags_fields, map_fields}
-use Rattle.script.proofs.Accepting.{Reads, on, end, need, need_number, need_text, have, have_or_none, last, accepts, refused_without, refused_with, made, list, either, line-exactly}
+use Rattle.script.specs.Accepted.{needs, ReadsExactly, is_accepted, is_command, is_line}
+use Rattle.script.proofs.Accepting.{on, end, need, need_number, need_text, have, have_or_none, last, accepts, refused_without, refused_with, made, list, either, line-exactly}
 use Rattle.script.proofs.Tables.{first_selection-reads, given_selection-reads, notes-reads, flags-reads, no_fields-exactly, map_request-exactly}
 use Rattle.requests.specs.declared.declaration.Declaration.{Declaration}
 use Rattle.requests.specs.declared.declaration.Declaration.TheVariants as declare
 use Rattle.requests.specs.declared.request.Request.{Request}
-use Rattle.requests.specs.declared.request.Request.TheVariants.{Declare, Start, Open, Save, Update, Do, Text, Selection, Get, Map, View, Screen, Summary}
+use Rattle.requests.specs.declared.request.Request.TheVariants.{Start, Open, Save, Update, Do, Text, Selection, Get, Map, View, Screen, Summary}
 use Rattle.requests.specs.declared.written.Written.TheVariants.{Plain, Ranges}
 use Rattle.requests.specs.Words.{precedence_at, kind_at, command_at, move_at}
 use Rattle.requests.specs.Styles.{color_at, style_of, no_style}
 use Rattle.requests.specs.Written.{inclusive_of, deco_of, ranges_of, written_of}
 use Rattle.requests.specs.Declarations.{effect_of, inverse_of, facet_rules_of, facet_of, provided_of, field_rules_of, field_names_of, field_of, compartment_of, input_of, compute_of, from_of, init_of, group_of, prec_of, slot_of}
 use Rattle.requests.specs.Effects.{content_of, kind_effect_of, reconfigure_of, root_of, append_of, named_effect_of}
-use Rattle.requests.specs.Requests.{spec_of, new_state_of, open_of, do_of, view_of, text_alone_of, declares, declaration_named, node_named, other_named, asked_named, declared_or, request_named}
-use Rattle.requests.specs.Tables.{style_fields, inclusive_fields, deco_fields, ranges_fields, is_written, effect_fields, inverse_fields, facet_rules_fields, facet_fields, provided_fields, field_rules_fields, field_names_fields, field_fields, compartment_fields, input_fields, compute_fields, from_fields, init_fields, group_fields, prec_fields, slot_fields, content_fields, kind_effect_fields, reconfigure_fields, root_fields, append_fields, is_effect, spec_fields, new_state_fields, open_fields, do_fields, view_fields, requests}
+use Rattle.requests.specs.Requests.{spec_of, new_state_of, open_of, do_of, view_of, text_alone_of, declares, declared_or, request_named}
+use Rattle.requests.specs.Tables.{style_fields, deco_fields, ranges_fields, is_written, effect_fields, inverse_fields, facet_fields, provided_fields, field_fields, compartment_fields, input_fields, compute_fields, from_fields, init_fields, group_fields, prec_fields, slot_fields, content_fields, kind_effect_fields, reconfigure_fields, root_fields, append_fields, is_effect, spec_fields, new_state_fields, open_fields, do_fields, view_fields, requests}
 
 -- ---- values
 
@@ -47,8 +46,8 @@ deco-exactly name d = accepts deco_fields name d _ λ members.
     on (have (codes "text") text_at [] d) λ text.
     on (have (codes "side") side_at (pos 0) d) λ side.
     on (on (have (codes "inclusiveStart") flag_at false d) λ start.
-        on (have (codes "inclusiveEnd") flag_at false d) λ stop.
-        end d _) λ inclusive.
+    on (have (codes "inclusiveEnd") flag_at false d) λ stop.
+    end d _) λ inclusive.
     last deco_fields members _ d
 
 pub ranges-exactly : (name : List ℕ) → ReadsExactly (ranges_of name) (is_accepted ranges_fields)
@@ -83,10 +82,10 @@ unfolding facet_of facet_rules_of
 facet-exactly command d = accepts facet_fields command d _ λ members.
     on (need_text (codes "name") d) λ name.
     on (on (need_number (codes "combine") d) λ combine.
-        on (have (codes "compareInput") number_at 1 d) λ compare_input.
-        on (have (codes "compare") number_at 1 d) λ compare.
-        on (have (codes "static") flag_at false d) λ is_static.
-        end d _) λ def.
+    on (have (codes "compareInput") number_at 1 d) λ compare_input.
+    on (have (codes "compare") number_at 1 d) λ compare.
+    on (have (codes "static") flag_at false d) λ is_static.
+    end d _) λ def.
     on (have (codes "enables") (list_of text_at) [] d) λ enables.
     last facet_fields members _ d
 
@@ -102,13 +101,13 @@ unfolding field_of field_rules_of field_names_of
 field-exactly command d = accepts field_fields command d _ λ members.
     on (need_text (codes "name") d) λ name.
     on (on (need_number (codes "create") d) λ create.
-        on (need_number (codes "update") d) λ update.
-        on (have (codes "compare") number_at 1 d) λ compare.
-        end d _) λ rules.
+    on (need_number (codes "update") d) λ update.
+    on (have (codes "compare") number_at 1 d) λ compare.
+    end d _) λ rules.
     on (on (have (codes "reads") (list_of text_at) [] d) λ reads.
-        on (have (codes "listens") (list_of text_at) [] d) λ listens.
-        on (have (codes "provides") (list_of provided_of) [] d) λ provides.
-        end d _) λ names.
+    on (have (codes "listens") (list_of text_at) [] d) λ listens.
+    on (have (codes "provides") (list_of provided_of) [] d) λ provides.
+    end d _) λ names.
     last field_fields members _ d
 
 pub compartment-exactly : (name : List ℕ) → ReadsExactly (compartment_of name) (is_accepted compartment_fields)
@@ -229,23 +228,23 @@ named_effect-exactly name d =
     (either (is_some (get (codes "root") d)) _ _ _ _ (root-exactly name d)
     (either (is_some (get (codes "append") d)) _ _ _ _ (append-exactly name d) (kind_effect-exactly name d))))
     ∙ chosen (get (codes "effect") d) (is_accepted kind_effect_fields d) _ _
-        (λ found h. neither (refused_with reconfigure_fields (codes "effect") found d refl h)
-          (neither (refused_with root_fields (codes "effect") found d refl h)
-          (neither (refused_with append_fields (codes "effect") found d refl h) refl)))
-        no_kind
-        λ no_effect. chosen (get (codes "reconfigure") d) (is_accepted reconfigure_fields d) _ _
-        (λ found h. neither (refused_with root_fields (codes "reconfigure") found d refl h)
-          (neither (refused_with append_fields (codes "reconfigure") found d refl h) refl))
-        (refused_without (codes "reconfigure") content_of [] d)
-        λ no_content. chosen (get (codes "root") d) (is_accepted root_fields d) _ _
-        (λ found h. neither (refused_with append_fields (codes "root") found d refl h) refl)
-        (refused_without (codes "root") (list_of text_at) [] d)
-        λ no_root. chosen (get (codes "append") d) (is_accepted append_fields d) false _
-        (λ found h. refl)
-        (refused_without (codes "append") text_at [] d)
-        λ no_append. no_kind no_effect where
-  no_kind : get (codes "effect") d ≡ None → is_accepted kind_effect_fields d ≡ false
-  no_kind = refused_without (codes "effect") text_at (needs (codes "value") value_at ∷ []) d
+    (λ found h. neither (refused_with reconfigure_fields (codes "effect") found d refl h)
+    (neither (refused_with root_fields (codes "effect") found d refl h)
+    (neither (refused_with append_fields (codes "effect") found d refl h) refl)))
+    no_kind
+    λ no_effect. chosen (get (codes "reconfigure") d) (is_accepted reconfigure_fields d) _ _
+    (λ found h. neither (refused_with root_fields (codes "reconfigure") found d refl h)
+    (neither (refused_with append_fields (codes "reconfigure") found d refl h) refl))
+    (refused_without (codes "reconfigure") content_of [] d)
+    λ no_content. chosen (get (codes "root") d) (is_accepted root_fields d) _ _
+    (λ found h. neither (refused_with append_fields (codes "root") found d refl h) refl)
+    (refused_without (codes "root") (list_of text_at) [] d)
+    λ no_root. chosen (get (codes "append") d) (is_accepted append_fields d) false _
+    (λ found h. refl)
+    (refused_without (codes "append") text_at [] d)
+    λ no_append. no_kind no_effect where
+      no_kind : get (codes "effect") d ≡ None → is_accepted kind_effect_fields d ≡ false
+      no_kind = refused_without (codes "effect") text_at (needs (codes "value") value_at ∷ []) d
 
 -- ---- other commands
 
