@@ -1,13 +1,12 @@
 -- Each command of `collab` is read exactly where its fields all fit and it has no other member.
-use Rattle.std.proofs.Common.{◌≡◌, ℕ, List, [], ◌∷◌, Bool, true, false, Result, Ok, Err, is_ok, codes, bytes_eq, refl, sym, ap, ◌∙◌}
+use Rattle.std.proofs.Common.{◌≡◌, ℕ, List, [], ◌∷◌, Bool, Result, Ok, Err, is_ok, codes, bytes_eq, refl, ap, ◌∙◌}
 use Rattle.serde_json.specs.Data.{Data}
 use Rattle.script.specs.declared.refusal.Refusal.{Refusal}
-use Rattle.script.specs.Reading.{◌>>=◌, required, text_at, number_at, list_of}
+use Rattle.script.specs.Reading.{◌>>=◌, required, text_at, list_of}
 use Rattle.script.specs.Command.{change_of}
 use Rattle.script.specs.Lines.{line_command}
 use Rattle.script.specs.Accepted.{Field, needs, ReadsExactly, is_accepted, is_command, is_line}
-use Rattle.script.proofs.Accepting.{Reads, on, end, need, need_number, need_text, have, have_or_none, last, accepts, made, either, line-exactly}
-use Rattle.collab_run.specs.declared.command.CollabCommand.TheVariants.{Begin, Local, Send, Publish, Deliver, State}
+use Rattle.script.proofs.Accepting.{Reads, on, need, need_number, need_text, have, have_or_none, last, accepts, either, line-exactly}
 use Rattle.collab_run.specs.Commands.{clients_of, begin_of, local_of, send_of, publish_of, deliver_of, state_of, command_named}
 use Rattle.collab_run.specs.Tables.{names_at, begin_fields, local_fields, send_fields, publish_fields, deliver_fields, commands}
 
