@@ -4,3 +4,4 @@ pub mod Written
 pub mod Declarations
 pub mod Effects
 pub mod Requests
+pub mod Tables

@@ -4,3 +4,5 @@ pub mod Bind
 pub mod Gathered
 pub mod Plains
 pub mod Utf8
+pub mod Accepting
+pub mod Tables
