@@ -1,7 +1,7 @@
 -- What `clap` makes of words of which none begins with `-`.
-use Rattle.std.proofs.Common.{◌≡◌, ◌∙◌, ◌++◌, ◌||◌, ℕ, Bool, true, false, List, [], ◌∷◌, refl, sym, ap, codes, ◌==◌, ◌<◌, ◌≤◌, ◌^◌, ◌&&◌, ◌⊎◌, inl, inr, rules, arith, ap₂, subst}
+use Rattle.std.proofs.Common.{◌≡◌, ◌∙◌, ◌||◌, ℕ, Bool, true, false, List, [], ◌∷◌, refl, sym, ap, codes, ◌<◌, ◌^◌, ◌&&◌, ◌⊎◌, inl, inr, rules, arith, ap₂, subst}
 use Rattle.std.specs.Prelude.{Option, Some, None, if◌then◌else◌, option_map, find, fold, is_some, length, nat_le, nat_lt}
-use Rattle.std.specs.Char.{digit_value, is_digit}
+use Rattle.std.specs.Char.{is_digit}
 use Rattle.std.specs.List.{list_all, list_any}
 use Rattle.std.specs.Option.{option_and_then}
 use Rattle.std.specs.Str.{bytes_eq, chars}
@@ -27,7 +27,7 @@ use Rattle.clap.proofs.WalkLemmas.{both, walk_stopped}
 use Rattle.viewport.specs.declared.viewport.TheConstants.{MAX_SIZE}
 use Rattle.workload.specs.MadeLines.{max_transactions}
 use Rattle.words.specs.PrivateCommand.{argument, begins_with, command, form, found, written}
-use Rattle.words.specs.Words.{Edit, Invocation, Make, Replay, Collab, four_words, is_number, number, size, two_words, words_of}
+use Rattle.words.specs.Words.{Edit, Invocation, Make, Replay, Collab, four_words, is_number, number, two_words, words_of}
 
 -- what the words ask for, where the parse fails by these kinds, if any
 abbrev pub unless_failed : Kinds → Option Invocation → Option Invocation
@@ -300,7 +300,6 @@ none_met : (word : Text) (words : List Text) → IsPlain word → bytes_eq (code
 unfolding clap_on_literals
 none_met word words p a b c d = simp (p.0, p.1, a, b, c, d)
 
-
 make_asks : (n : Text) → IsPlain n → asked_of make_form (n ∷ []) ≡ option_map Make (number 7 max_transactions n)
 make_asks n p = make_one n p ∙ (go (is_unsigned_in 1 max_transactions n) refl ∙ ap (option_map Make) (sym (number_taken 7 max_transactions n (omega arith))))
   where
@@ -501,7 +500,7 @@ no_option (word ∷ words) e = elim (either (begins_with 45 word) (list_any (beg
 
     after : (rest : List Text) → list_any (begins_with 45) rest ≡ true → words_of (word ∷ rest) ≡ None
     after [] e = cc
-    after (n ∷ []) e = elim (either (begins_with 45 n) false e) [ | inl count ↦ no_count word n count | inr none ↦ cc ]
+    after (n ∷ []) e = elim (either (begins_with 45 n) false e) [ inl count ↦ no_count word n count | inr none ↦ cc ]
     after (x ∷ y ∷ []) e = refl
     after (f ∷ r ∷ c ∷ []) e = at_four f r c e
     after (x ∷ y ∷ z ∷ v ∷ rest) e = refl

@@ -1,5 +1,5 @@
 -- From what `clap` says of a parse to what the words ask for.
-use Rattle.std.proofs.Common.{◌≡◌, ◌∙◌, ℕ, ◌≤◌, Bool, true, false, List, [], ◌∷◌, refl, sym, ap, arith, ◌⊎◌, inl, inr, subst, codes, ◌&&◌, if◌then◌else◌}
+use Rattle.std.proofs.Common.{◌≡◌, ◌∙◌, ℕ, ◌≤◌, Bool, true, false, List, [], ◌∷◌, refl, sym, ap, inl, inr, subst, codes, ◌&&◌, if◌then◌else◌}
 use Rattle.std.specs.Prelude.{Option, Some, None, IfSome, option_map, ⊤, nat_le}
 use Rattle.std.specs.List.{list_any}
 use Rattle.std.specs.Option.{option_and_then}
@@ -14,7 +14,7 @@ use Rattle.clap.proofs.WalkLemmas.{both}
 use Rattle.viewport.specs.declared.viewport.TheConstants.{MAX_SIZE}
 use Rattle.workload.specs.MadeLines.{max_transactions}
 use Rattle.words.specs.PrivateCommand.{begins_with, command, found}
-use Rattle.words.specs.Words.{Invocation, Replay, Collab, Edit, Make, IsInRange, four_words, invocation, is_file, is_number, number, one_word, size, two_words, words_of}
+use Rattle.words.specs.Words.{Invocation, Replay, Collab, Edit, Make, IsInRange, invocation, is_file, is_number, number, size, words_of}
 use Rattle.words.specs.declared.words.Words.{Words}
 use Rattle.words.specs.declared.words.Words.TheVariants as read
 use Rattle.words.proofs.Forms.{asked_is, unless_failed}
@@ -41,7 +41,7 @@ pub refused : (a : App) (words : List Text) (e : Error) → a ≡ command → li
 refused a words e is plain faults other = go (fault_of command words) refl (rw is at (faults (ap is_simple_and_free is ∙ free)))
   where
     go : (k : Kinds) → fault_of command words ≡ k → HasKind (fault_of command words) e → None ≡ words_of words
-    go [] t h = elim h [ | inl memory ↦ absurd (other memory) | inr among ↦ absurd (subst (IsAmong (kind_of e)) t among) ]
+    go [] t h = elim h [ inl memory ↦ absurd (other memory) | inr among ↦ absurd (subst (IsAmong (kind_of e)) t among) ]
     go (k ∷ ks) t h = sym (ap (λ (x : Kinds). unless_failed x (found (subcommand_of command words))) t) ∙ asked_is words plain
 
 -- ---- ranges

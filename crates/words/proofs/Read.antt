@@ -1,12 +1,12 @@
 -- Numbers of few digits, as `parse` reads them.
 use Rattle.std.proofs.Common.{◌≡◌, ◌∙◌, ℕ, ◌<◌, ◌≤◌, ◌^◌, Bool, true, false, List, [], ◌∷◌, length, refl, sym, ap, arith, subst}
-use Rattle.std.specs.Prelude.{Option, Some, None, Result, Ok, Err, nat_le, option_map}
-use Rattle.std.specs.Char.{digit_value, is_digit}
+use Rattle.std.specs.Prelude.{Option, Some, None, Result, Ok, Err, option_map}
+use Rattle.std.specs.Char.{is_digit}
 use Rattle.std.specs.List.{list_all}
 use Rattle.std.specs.Result.{result_ok}
 use Rattle.std.specs.Str.Parse.{AllDigits, IsNumeral, ParsesUnsigned, digits_value, without_leading_plus}
 use Rattle.std.proofs.Math.Nat.{pow-le-pow_right}
-use Rattle.std.proofs.lemmas.Bool.{eq-eqb, le-leb, leb-true, lt-ltb}
+use Rattle.std.proofs.lemmas.Bool.{le-leb, leb-true, lt-ltb}
 use Rattle.std.proofs.lemmas.Int.Digits.{digits_value-lt}
 use Rattle.std.specs.Borrow.{Bor}
 use Rattle.clap.specs.Words.{first_of, first_value, rows_of}
@@ -14,7 +14,7 @@ use Rattle.clap.specs.declared.parser.matches.Found.{Found}
 use Rattle.clap.proofs.WalkLemmas.{both, first_value-rows}
 use Rattle.words.specs.PrivateCommand.{begins_with, written}
 use Rattle.words.specs.Words.{is_number}
-use Rattle.words.proofs.Forms.{all_digits, no_sign}
+use Rattle.words.proofs.Forms.{all_digits}
 
 list_digits : (text : List ℕ) → AllDigits 10 text → list_all (λ c. is_digit c 10) text ≡ true
 list_digits [] d = refl

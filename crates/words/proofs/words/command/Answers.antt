@@ -2,10 +2,10 @@ use Rattle.std.proofs.Common.{◌≡◌, ◌∙◌, ◌||◌, ap, ap₂, codes, 
 use Rattle.std.proofs.lemmas.Result.{IfOk-weaker}
 use Rattle.viewport.specs.declared.viewport.TheConstants.{MAX_SIZE}
 use Rattle.workload.specs.MadeLines.{max_transactions}
-use Rattle.clap.specs.Words.{App, Rule, Shape, app_of, new_app, rule_of, with_rule, with_subcommand}
+use Rattle.clap.specs.Words.{App, rule_of, with_rule, with_subcommand}
 use Rattle.clap.specs.Simple.{app_of_fields, on_top}
 use Rattle.clap.specs.declared.builder.value_parser.ValueParser.TheVariants as parser
-use Rattle.words.specs.PrivateCommand.{argument, command}
+use Rattle.words.specs.PrivateCommand.{argument}
 use Rattle.words.proofs.words.command.Goals as goal
 
 pub returns : goal.returns
