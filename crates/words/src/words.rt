@@ -30,6 +30,8 @@ pub enum Words {
 impl Words {
     /// What these words, without the program's name, ask for. ROWS and COLS are one to three decimal digits, N is one to seven;
     /// they may begin with zeros. `None`: the words have no accepted form. `Err`: out of memory.
+    ///
+    /// `clap` parses words of which none begins with `-`, so it meets no option and no `--`.
     pub fn of<T: AsStr>(alloc: Global, words: &[T]) -> Result<Option<Words>, AllocError>
         ensures value { IfOk result (λ asked. option_map invocation asked ≡ words_of (map T.text words.now)) }
         ensures range { IfOk result (λ asked. IfSome asked IsInRange) }
@@ -47,7 +49,7 @@ impl Words {
     }
 }
 
-/// Whether a text begins with this character.
+/// Whether a text begins with this ASCII character.
 fn begins_with(text: &str, byte: u8) -> bool
     ensures { result ≡ begins_with byte text.now }
 {
@@ -76,7 +78,7 @@ fn argument<'a>(alloc: Global, id: &'a str, takes: ValueParser<'a>) -> Arg<'a>
     Arg::new(alloc, id).required(true).value_parser(takes)
 }
 
-/// The command line.
+/// The command line: one subcommand for each form, without help.
 fn command<'a>(alloc: Global) -> Result<Command<'a>, AllocError>
     ensures { IfOk result (λ c. app_of c ≡ command) }
 {
