@@ -12,13 +12,13 @@ mod system_clock;
 #[cfg(test)]
 mod tests;
 
-ghost use Rattle.std.specs.Prelude.{◌≡◌, ◌⊎◌};
-ghost use Rattle.session.specs.Headline.{Headline};
+ghost use Rattle.std.specs.Prelude.{map};
+ghost use Rattle.std.specs.String.{string_bytes};
+ghost use Rattle.session.specs.Headline.{Ended};
 ghost use Rattle.values.specs.Shipped.{shipped};
 ghost use Rattle.words.specs.Words.{words_of};
 
 use cm_outside::{Clock, Sink, Source, Status, Store};
-use cm_plain::Str;
 use folder_store::FolderStore;
 use session::run;
 use shipped_kit::{KitUser, lend_kit};
@@ -33,10 +33,10 @@ use system_clock::SystemClock;
 use values::Kit;
 
 /// The words of the command line, without the program's name.
-fn words(rt: &(impl Env + AllocGlobal)) -> io::Result<Vec<Str>> {
+fn words(rt: &(impl Env + AllocGlobal)) -> io::Result<Vec<String>> {
     let mut words = Vec::new(rt.alloc());
     for word in env::args(rt)?.skip(1) {
-        words.push(Str::of_text(rt.alloc(), word.as_str())?)?;
+        words.push(word)?;
     }
     Ok(words)
 }
@@ -60,7 +60,7 @@ fn complaint(status: Status) -> Option<&'static str> {
 /// The words of the command line, without the program's name, and the devices of a run.
 #[derive(Drop)]
 struct Program<S: Source + Drop, K: Sink + Drop, D: Store + Drop, C: Clock + Drop> {
-    words: Vec<Str>,
+    words: Vec<String>,
     source: S,
     sink: K,
     store: D,
@@ -71,7 +71,7 @@ impl<S: Source + Drop, K: Sink + Drop, D: Store + Drop, C: Clock + Drop> KitUser
     for Program<S, K, D, C> {
     type Answer = Status;
 
-    ghost gives = { λ before status after. Headline shipped (words_of before.words.items) status (record {
+    ghost gives = { λ before status after. Ended shipped (words_of (map string_bytes before.words.items)) status (record {
       left = S.left;
       given = S.given;
       read_faults = S.faults;
@@ -101,7 +101,7 @@ fn run_shipped<S: Source + Drop, K: Sink + Drop, D: Store + Drop, C: Clock + Dro
     alloc: Global,
     program: &mut Program<S, K, D, C>,
 ) -> Status
-    ensures { (result ≡ Status.NoMemory) × (program.new ≡ program.old) ⊎ Headline shipped (words_of program.old.words.items) result (record {
+    ensures { Ended shipped (words_of (map string_bytes program.old.words.items)) result (record {
       left = S.left;
       given = S.given;
       read_faults = S.faults;

@@ -2,7 +2,6 @@ ghost use Rattle.std.specs.Prelude.{⊤};
 
 use crate::replaying::{replayed, sink, source, store};
 use cm_outside::{MemClock, MemSink, MemSource, MemStore, Status};
-use cm_plain::Str;
 use session::run;
 use shipped_kit::{KitUser, lend_kit};
 use shipped_rules::Shipped;
@@ -71,19 +70,10 @@ fn the_limit_ends_the_run(rt: HostRuntime) -> Result<(), Fail> {
     Ok(())
 }
 
-/// Words of the command line.
-pub(crate) fn words_of(alloc: Global, words: &[&str]) -> Result<Vec<Str>, AllocError> {
-    let mut all = Vec::new(alloc);
-    for word in words {
-        all.push(Str::of_text(alloc, *word)?)?;
-    }
-    Ok(all)
-}
-
 /// What a run of the program needs beside the kit.
 #[derive(Drop)]
 struct Program<'a> {
-    words: &'a [Str],
+    words: &'a [&'a str],
     source: &'a mut MemSource,
     sink: &'a mut MemSink,
     store: &'a mut MemStore,
@@ -110,12 +100,11 @@ impl<'a> KitUser for Program<'a> {
 
 /// Whether the program's run over one line, with these words, ends so and writes this.
 fn run_ends(alloc: Global, words: &[&str], want: (Status, &[u8])) -> Result<bool, AllocError> {
-    let words = words_of(alloc, words)?;
     let mut source = source(alloc, START, 100, &[])?;
     let mut sink = sink(alloc, &[])?;
     let mut store = store(alloc, &[])?;
     let mut program = Program {
-        words: words.as_slice(),
+        words,
         source: &mut source,
         sink: &mut sink,
         store: &mut store,

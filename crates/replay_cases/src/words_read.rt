@@ -1,4 +1,3 @@
-use crate::runs::words_of;
 use std::alloc::{AllocError, Global};
 use std::test::Fail;
 use words::Words;
@@ -14,8 +13,7 @@ enum Asked {
 }
 
 fn read(alloc: Global, words: &[&str]) -> Result<Asked, AllocError> {
-    let words = words_of(alloc, words)?;
-    Ok(match Words::of(words.as_slice()) {
+    Ok(match Words::of(alloc, words)? {
         None => Asked::Nothing,
         Some(Words::Replay) => Asked::Replay,
         Some(Words::Collab) => Asked::Collab,

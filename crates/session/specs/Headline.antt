@@ -11,14 +11,14 @@
 -- `PlainSession` (State.antt); of the crate `state` the files Plainly.antt and Drafting.antt: one step. For `edit` Editing.antt, for
 -- `make` Making.antt, and for `collab` the files Transcript.antt and Playing.antt of collab_run/specs. How input is cut into lines is
 -- cm_outside/specs/Lines.antt.
-use Rattle.std.specs.Prelude.{◌≡◌, ℕ, List, Option, Some, None}
+use Rattle.std.specs.Prelude.{◌≡◌, ◌⊎◌, ℕ, List, Option, Some, None}
 use Rattle.cm_outside.specs.Files.{Files}
 use Rattle.cm_outside.specs.Runs.{Run}
 use Rattle.cm_outside.specs.Sink.{sink_told}
 use Rattle.cm_outside.specs.Source.{source_told}
 use Rattle.cm_outside.specs.Times.{Times}
 use Rattle.cm_outside.specs.declared.status.Status.{Status}
-use Rattle.cm_outside.specs.declared.status.Status.TheVariants.{Usage}
+use Rattle.cm_outside.specs.declared.status.Status.TheVariants.{NoMemory, Usage}
 use Rattle.line_run.specs.Run.{Ran, RanAlone}
 use Rattle.values.specs.Rules.{Rules}
 use Rattle.words.specs.Words.{Invocation, Replay, Collab, Edit, Make}
@@ -92,3 +92,8 @@ Headline rules (Some (Make count)) status tells before after =
     × (after.source ≡ before.source) × (after.clock ≡ before.clock)
 -- words that aren't accepted: nothing is read, written, loaded or saved
 Headline rules None status tells before after = (status ≡ Usage) × (after ≡ before)
+
+-- How a run of the program ended: as the headline says, or out of memory while the words were read, where nothing is read, written,
+-- loaded or saved.
+abbrev pub Ended : {S K D C : Type 0} → Rules → Option Invocation → Status → Tells S K D C → (before after : Devices S K D C) → Type 0
+Ended rules asked status tells before after = (status ≡ NoMemory) × (after ≡ before) ⊎ Headline rules asked status tells before after

@@ -1,9 +1,9 @@
-ghost use Rattle.std.specs.Prelude.{◌≡◌};
+ghost use Rattle.std.specs.Prelude.{◌≡◌, IfSome, map, option_map};
 ghost use Rattle.cm_outside.specs.Sink.{sink_told};
 ghost use Rattle.cm_outside.specs.Source.{source_told};
 ghost use Rattle.values.specs.Whole.{IsWhole};
-ghost use Rattle.words.specs.Words.{words_of};
-ghost use Rattle.session.specs.Headline.{Headline, Replayed, ReplayedFrom};
+ghost use Rattle.words.specs.Words.{IsInRange, invocation, words_of};
+ghost use Rattle.session.specs.Headline.{Ended, Headline, Replayed, ReplayedFrom};
 ghost use Rattle.session.specs.State.{plain_session};
 ghost use Rattle.session.specs.Stores.{store_told};
 
@@ -12,9 +12,9 @@ use crate::making::make;
 use crate::replayed::answer_all;
 use crate::session::Session;
 use cm_outside::{Clock, LineReader, Sink, Source, Status, Store};
-use cm_plain::Str;
 use collab_run::collab;
 use std::alloc::Global;
+use std::convert::AsStr;
 use values::{Kit, Meanings};
 use words::Words;
 
@@ -79,10 +79,11 @@ fn replay_by<M: Meanings, S: Source, K: Sink, D: Store>(
 /// Does what the words of the command line, without the program's name, ask for, with a limit of 4,294,967,296 bytes. `replay`
 /// alone replays the source; `collab` alone answers each line of the source as a world of clients and an authority, under the
 /// statuses of `replay`; `edit FILE ROWS COLS` edits a file by the keys of the source; `make N` answers the lines of a made
-/// workload. `Usage` comes exactly where the words have none of these forms, and nothing is read or written then.
-pub fn run<M: Meanings, S: Source, K: Sink, D: Store, C: Clock>(
+/// workload. `Usage` comes exactly where the words have none of these forms, unless memory ran out while they were read, which is
+/// `NoMemory`; nothing is read or written then.
+pub fn run<M: Meanings, W: AsStr, S: Source, K: Sink, D: Store, C: Clock>(
     alloc: Global,
-    words: &[Str],
+    words: &[W],
     kit: &Kit<M>,
     source: &mut S,
     sink: &mut K,
@@ -90,7 +91,7 @@ pub fn run<M: Meanings, S: Source, K: Sink, D: Store, C: Clock>(
     clock: &mut C,
 ) -> Status
     requires whole { IsWhole M.rules kit.now }
-    ensures { Headline M.rules (words_of words.now) result (record {
+    ensures { Ended M.rules (words_of (map W.text words.now)) result (record {
       left = S.left;
       given = S.given;
       read_faults = S.faults;
@@ -102,11 +103,41 @@ pub fn run<M: Meanings, S: Source, K: Sink, D: Store, C: Clock>(
     }) (record { source = source.old; sink = sink.old; store = store.old; clock = clock.old })
         (record { source = source.new; sink = sink.new; store = store.new; clock = clock.new }) }
 {
-    match Words::of(words) {
+    match Words::of(alloc, words) {
+        Ok(asked) => run_asked(alloc, asked, kit, source, sink, store, clock),
+        Err(_) => Status::NoMemory,
+    }
+}
+
+/// Does what was asked for, as `run` does.
+fn run_asked<M: Meanings, S: Source, K: Sink, D: Store, C: Clock>(
+    alloc: Global,
+    asked: Option<Words>,
+    kit: &Kit<M>,
+    source: &mut S,
+    sink: &mut K,
+    store: &mut D,
+    clock: &mut C,
+) -> Status
+    requires whole { IsWhole M.rules kit.now }
+    requires range { IfSome asked IsInRange }
+    ensures { Headline M.rules (option_map invocation asked) result (record {
+      left = S.left;
+      given = S.given;
+      read_faults = S.faults;
+      held = K.held;
+      write_faults = K.faults;
+      files = D.files;
+      store_faults = D.faults;
+      coming = C.coming;
+    }) (record { source = source.old; sink = sink.old; store = store.old; clock = clock.old })
+        (record { source = source.new; sink = sink.new; store = store.new; clock = clock.new }) }
+{
+    match asked {
         Some(Words::Replay) => replay(alloc, kit, LIMIT, source, sink, store),
         Some(Words::Collab) => collab(alloc, LIMIT, source, sink),
         Some(Words::Edit { file, rows, cols }) => edit(
-            alloc, kit, LIMIT, file, rows, cols, source, sink, store, clock,
+            alloc, kit, LIMIT, &file, rows, cols, source, sink, store, clock,
         ),
         Some(Words::Make { transactions }) => make(alloc, kit, transactions, sink, store),
         None => Status::Usage,

@@ -1,1 +1,3 @@
-pub mod Numbers
+mod Forms
+mod Parsing
+mod Read

@@ -3,12 +3,12 @@ use Rattle.std.specs.Prelude.{ℕ, ◌≤◌, ◌==◌, nat_le, ◌&&◌, not, �
 use Rattle.std.specs.Char.{is_digit}
 use Rattle.std.specs.List.{list_all}
 use Rattle.std.specs.Option.{option_and_then}
-use Rattle.std.specs.Str.{bytes_eq}
+use Rattle.std.specs.Str.{bytes_eq, chars}
 use Rattle.std.specs.Str.Parse.{digits_value}
 use Rattle.viewport.specs.declared.viewport.TheConstants.{MAX_SIZE}
 use Rattle.workload.specs.MadeLines.{max_transactions}
 use Rattle.words.specs.declared.words.Words.{Words}
-use Rattle.words.specs.declared.words.Words.TheVariants as lent
+use Rattle.words.specs.declared.words.Words.TheVariants as read
 
 -- Invocation: what accepted words ask for. `replay` and `collab` answer the lines of the input, `edit` shows a file in a
 -- window of some rows and columns, and `make` answers the lines of a workload of some transactions.
@@ -18,12 +18,12 @@ pub data Invocation : Type 0 where
   Edit : (file : List ℕ) → (rows cols : ℕ) → Invocation
   Make : (transactions : ℕ) → Invocation
 
--- what was read, whose file's name is lent
+-- what was read
 abbrev pub invocation : Words → Invocation
-invocation lent.Replay = Replay
-invocation lent.Collab = Collab
-invocation (lent.Edit file rows cols) = Edit file.now rows cols
-invocation (lent.Make transactions) = Make transactions
+invocation read.Replay = Replay
+invocation read.Collab = Collab
+invocation (read.Edit file rows cols) = Edit file rows cols
+invocation (read.Make transactions) = Make transactions
 
 -- whether a text is a number of 1 to `places` decimal digits, which may begin with zeros
 abbrev pub is_number : (places : ℕ) → List ℕ → Bool
@@ -51,12 +51,12 @@ one_word word = if bytes_eq word (codes "replay") then Some Replay else (if byte
 abbrev pub two_words : List ℕ → List ℕ → Option Invocation
 two_words word count = if bytes_eq word (codes "make") then option_map Make (number 7 max_transactions count) else None
 
--- `edit FILE ROWS COLS`
+-- `edit FILE ROWS COLS`, which asks for a file of these characters
 abbrev pub four_words : List ℕ → List ℕ → List ℕ → List ℕ → Option Invocation
 four_words word file rows cols =
-    if bytes_eq word (codes "edit") && is_file file then option_and_then (λ r. option_map (λ c. Edit file r c) (size cols)) (size rows) else None
+    if bytes_eq word (codes "edit") && is_file file then option_and_then (λ r. option_map (λ c. Edit (chars file) r c) (size cols)) (size rows) else None
 
--- what the words ask for, where they have an accepted form
+-- what the words ask for, where they have an accepted form; each word is its text in UTF-8
 abbrev pub words_of : List (List ℕ) → Option Invocation
 words_of [] = None
 words_of (word ∷ []) = one_word word
@@ -67,6 +67,6 @@ words_of (word ∷ one ∷ two ∷ three ∷ four ∷ others) = None
 
 -- the numbers of what was read lie in their ranges
 abbrev pub IsInRange : Words → Type 0
-IsInRange (lent.Edit file rows cols) = (1 ≤ rows) × (rows ≤ MAX_SIZE) × (1 ≤ cols) × (cols ≤ MAX_SIZE)
-IsInRange (lent.Make transactions) = (1 ≤ transactions) × (transactions ≤ max_transactions)
+IsInRange (read.Edit file rows cols) = (1 ≤ rows) × (rows ≤ MAX_SIZE) × (1 ≤ cols) × (cols ≤ MAX_SIZE)
+IsInRange (read.Make transactions) = (1 ≤ transactions) × (transactions ≤ max_transactions)
 IsInRange _ = ⊤

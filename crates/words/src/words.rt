@@ -1,106 +1,155 @@
-ghost use Rattle.std.specs.Prelude.{◌≡◌, ◌≤◌, IfSome, option_map};
-ghost use Rattle.words.specs.Words.{IsInRange, four_words, invocation, is_file, number, one_word, size, two_words, words_of};
+ghost use Rattle.std.specs.Prelude.{◌≡◌, ◌≤◌, IfOk, IfSome, false, map, option_map};
+ghost use Rattle.std.specs.List.{list_any};
+ghost use Rattle.clap.specs.Words.{app_of, found_of, rows_of, rule_of, subcommand_rows_of};
+ghost use Rattle.words.specs.PrivateCommand.{argument, begins_with, command, edit_in, found, number_in, written};
+ghost use Rattle.words.specs.Words.{IsInRange, invocation, words_of};
 
+use clap::builder::ValueParser;
+use clap::error::ErrorKind;
+use clap::{Arg, ArgMatches, Command};
 use cm_plain::Str;
+use std::alloc::{AllocError, Global};
+use std::convert::AsStr;
 use viewport::MAX_SIZE;
 use workload::MAX_TRANSACTIONS;
 
 /// What the words of the command line ask for.
-#[derive(Clone, Copy, Debug, Drop)]
-pub enum Words<'a> {
+#[derive(Debug, Drop)]
+pub enum Words {
     /// `replay`: each line of standard input is answered.
     Replay,
     /// `collab`: each line of standard input is answered, as a world of clients and an authority.
     Collab,
     /// `edit FILE ROWS COLS`: a file is edited in a window of 1 to 500 rows and 1 to 500 columns. Its name has at least one
     /// character and doesn't begin with `-`.
-    Edit { file: &'a Str, rows: u32, cols: u32 },
+    Edit { file: Str, rows: u32, cols: u32 },
     /// `make N`: the lines of a workload of 1 to 1,000,000 transactions are answered.
     Make { transactions: u32 },
 }
 
-impl<'a> Words<'a> {
+impl Words {
     /// What these words, without the program's name, ask for. ROWS and COLS are one to three decimal digits, N is one to seven;
-    /// they may begin with zeros. `None`: the words have no accepted form. Takes no memory.
-    pub fn of(words: &'a [Str]) -> Option<Words<'a>>
-        ensures value { option_map invocation result ≡ words_of words.now }
-        ensures range { IfSome result IsInRange }
+    /// they may begin with zeros. `None`: the words have no accepted form. `Err`: out of memory.
+    ///
+    /// `clap` parses words of which none begins with `-`, so it meets no option and no `--`.
+    pub fn of<T: AsStr>(alloc: Global, words: &[T]) -> Result<Option<Words>, AllocError>
+        ensures value { IfOk result (λ asked. option_map invocation asked ≡ words_of (map T.text words.now)) }
+        ensures range { IfOk result (λ asked. IfSome asked IsInRange) }
     {
-        match words {
-            [word] => one_word(word),
-            [word, count] => two_words(word, count),
-            [word, file, rows, cols] => four_words(word, file, rows, cols),
-            _ => None,
+        if has_option(words) {
+            return Ok(None);
+        }
+        match command(alloc)?.try_get_matches_from(words) {
+            Ok(matches) => asked(alloc, &matches),
+            Err(error) => match error.kind() {
+                ErrorKind::OutOfMemory => Err(AllocError),
+                _ => Ok(None),
+            },
         }
     }
 }
 
-/// What one word asks for.
-fn one_word<'a>(word: &Str) -> Option<Words<'a>>
-    ensures value { option_map invocation result ≡ one_word word.now }
-    ensures range { IfSome result IsInRange }
+/// Whether a text begins with this ASCII character.
+fn begins_with(text: &str, byte: u8) -> bool
+    ensures { result ≡ begins_with byte text.now }
 {
-    if word.chars() == ['r', 'e', 'p', 'l', 'a', 'y'].as_slice() {
-        Some(Words::Replay)
-    } else if word.chars() == ['c', 'o', 'l', 'l', 'a', 'b'].as_slice() {
-        Some(Words::Collab)
+    text.as_bytes().first() == Some(&byte)
+}
+
+/// Whether a word begins with `-`.
+fn has_option<T: AsStr>(words: &[T]) -> bool
+    ensures { result ≡ list_any (begins_with 45) (map T.text words.now) }
+{
+    words.iter().any(|word| begins_with(word.as_str(), b'-'))
+}
+
+/// What takes a number from 1 to the greatest one.
+fn up_to<'a>(greatest: u32) -> ValueParser<'a>
+    ensures { result ≡ ValueParser.Unsigned 1 greatest }
+{
+    ValueParser::unsigned(1, u64::from(greatest))
+}
+
+/// An argument that has to be given.
+fn argument<'a>(alloc: Global, id: &'a str, takes: ValueParser<'a>) -> Arg<'a>
+    ensures rule { rule_of result ≡ argument id.entry.now takes.entry }
+    ensures local { result.global ≡ false }
+{
+    Arg::new(alloc, id).required(true).value_parser(takes)
+}
+
+/// The command line: one subcommand for each form, without help.
+fn command<'a>(alloc: Global) -> Result<Command<'a>, AllocError>
+    ensures { IfOk result (λ c. app_of c ≡ command) }
+{
+    let edit = Command::new(alloc, "edit")
+        .arg(argument(alloc, "FILE", ValueParser::NonEmptyString))?
+        .arg(argument(alloc, "ROWS", up_to(MAX_SIZE)))?
+        .arg(argument(alloc, "COLS", up_to(MAX_SIZE)))?;
+    let make = Command::new(alloc, "make").arg(argument(alloc, "N", up_to(MAX_TRANSACTIONS)))?;
+    Command::new(alloc, "ccm")
+        .no_binary_name(true)
+        .disable_help_flag(true)
+        .disable_help_subcommand(true)
+        .subcommand_required(true)
+        .subcommand(Command::new(alloc, "replay"))?
+        .subcommand(Command::new(alloc, "collab"))?
+        .subcommand(edit)?
+        .subcommand(make)
+}
+
+/// What the subcommand that was met asks for.
+fn asked(alloc: Global, matches: &ArgMatches<'_>) -> Result<Option<Words>, AllocError>
+    ensures { IfOk result (λ asked. option_map invocation asked ≡ found (subcommand_rows_of matches.now)) }
+{
+    let Some((name, given)) = matches.subcommand() else {
+        return Ok(None);
+    };
+    if name == "replay" {
+        Ok(Some(Words::Replay))
+    } else if name == "collab" {
+        Ok(Some(Words::Collab))
+    } else if name == "edit" {
+        edit(alloc, given)
+    } else if name == "make" {
+        Ok(number(given, "N", 7).map(|transactions| Words::Make { transactions }))
     } else {
-        None
+        Ok(None)
     }
 }
 
-/// What two words ask for.
-fn two_words<'a>(word: &Str, count: &Str) -> Option<Words<'a>>
-    ensures value { option_map invocation result ≡ two_words word.now count.now }
-    ensures range { IfSome result IsInRange }
+/// What `edit` with these arguments asks for.
+fn edit(alloc: Global, given: &ArgMatches<'_>) -> Result<Option<Words>, AllocError>
+    ensures { IfOk result (λ asked. option_map invocation asked ≡ edit_in (rows_of (found_of given.now))) }
 {
-    if word.chars() != ['m', 'a', 'k', 'e'].as_slice() {
-        return None;
-    }
-    let transactions = number(count, 7, MAX_TRANSACTIONS)?;
-    Some(Words::Make { transactions })
+    let Some(file) = given.get_str("FILE") else {
+        return Ok(None);
+    };
+    let Some(rows) = number(given, "ROWS", 3) else {
+        return Ok(None);
+    };
+    let Some(cols) = number(given, "COLS", 3) else {
+        return Ok(None);
+    };
+    let file = Str::of_text(alloc, file)?;
+    Ok(Some(Words::Edit { file, rows, cols }))
 }
 
-/// What four words ask for.
-fn four_words<'a>(word: &Str, file: &'a Str, rows: &Str, cols: &Str) -> Option<Words<'a>>
-    ensures value { option_map invocation result ≡ four_words word.now file.now rows.now cols.now }
-    ensures range { IfSome result IsInRange }
-{
-    if word.chars() != ['e', 'd', 'i', 't'].as_slice() || !is_file(file) {
-        return None;
-    }
-    let rows = number(rows, 3, MAX_SIZE)?;
-    let cols = number(cols, 3, MAX_SIZE)?;
-    Some(Words::Edit { file, rows, cols })
-}
-
-/// Whether a word may name a file.
-fn is_file(word: &Str) -> bool
-    ensures { result ≡ is_file word.now }
-{
-    match word.chars() {
-        [] => false,
-        [first, ..] => *first != '-',
-    }
-}
-
-/// The number from 1 to `greatest` that a text of 1 to `places` decimal digits writes. `None`: the text is no such number.
-fn number(text: &Str, places: usize, greatest: u32) -> Option<u32>
+/// The number that was given for an argument in at most `places` decimal digits.
+fn number(given: &ArgMatches<'_>, id: &str, places: usize) -> Option<u32>
     requires { places ≤ 9 }
-    ensures value { result ≡ number places greatest text.now }
-    ensures range { IfSome result (λ n. (1 ≤ n) × (n ≤ greatest)) }
+    ensures { result ≡ number_in places id.now (rows_of (found_of given.now)) }
 {
-    let digits = text.chars();
-    if digits.is_empty() || digits.len() > places {
+    digits(given.get_str(id)?, places)
+}
+
+/// The number that a text of 1 to `places` decimal digits writes. `None`: the text is no such number.
+fn digits(text: &str, places: usize) -> Option<u32>
+    requires { places ≤ 9 }
+    ensures { result ≡ written places text.now }
+{
+    if text.len() > places || begins_with(text, b'+') {
         return None;
     }
-    let mut value: u32 = 0;
-    'digits: for digit in digits {
-        value = value * 10 + digit.to_digit(10)?;
-    }
-    if 1 <= value && value <= greatest {
-        Some(value)
-    } else {
-        None
-    }
+    text.parse().ok()
 }
