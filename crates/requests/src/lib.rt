@@ -37,7 +37,7 @@ pub use field_declaration::{FieldDeclaration, FieldNames, FieldRules, ProvidedDe
 pub use named_effect::{NamedEffect, NewContent};
 pub use new_state::NewState;
 pub use open_request::OpenRequest;
-pub use request::Request;
+pub use request::{Request, read_request};
 pub use spec_request::SpecRequest;
 pub use term_keys::Move;
 pub use value_declarations::{InitDeclaration, InputDeclaration};

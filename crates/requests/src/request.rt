@@ -1,6 +1,8 @@
 ghost use Rattle.serde_json.specs.View.{view};
 ghost use Rattle.script.specs.Reading.{Gives};
+ghost use Rattle.script.specs.Accepted.{AnswersWhere, is_command};
 ghost use Rattle.requests.specs.Requests.{asked_named, other_named, request_named, text_alone_of};
+ghost use Rattle.requests.specs.Tables.{requests};
 
 use crate::declaration::{Declaration, declaration_named};
 use crate::do_request::DoRequest;
@@ -107,14 +109,30 @@ fn other_named(alloc: Global, name: &str, value: &Value) -> Result<Request, Line
     }
 }
 
+/// The request of a command of this name with this argument, a declaration or another.
+#[tactic(auto, unfolding(crate::specs::Requests::request_named))]
+fn request_named(alloc: Global, name: &str, value: &Value) -> Result<Request, LineError>
+    ensures { Gives (λ x. x) result (request_named name.now (view value.now)) }
+{
+    match declaration_named(alloc, name, value)? {
+        Some(declaration) => Ok(Request::Declare(declaration)),
+        None => other_named(alloc, name, value),
+    }
+}
+
+/// The request of the command of this name with this argument: it is one exactly where the command is one of the table of requests
+/// and takes the argument, unless out of memory.
+pub fn read_request(alloc: Global, name: &str, value: &Value) -> Result<Request, LineError>
+    ensures gives { Gives (λ x. x) result (request_named name.now (view value.now)) }
+    ensures accepts { AnswersWhere result (is_command requests name.now (view value.now)) }
+{
+    request_named(alloc, name, value)
+}
+
 impl Commands for Request {
     ghost named = { request_named };
 
-    #[tactic(auto, unfolding(crate::specs::Requests::request_named))]
     fn read_named(alloc: Global, name: &str, value: &Value) -> Result<Request, LineError> {
-        match declaration_named(alloc, name, value)? {
-            Some(declaration) => Ok(Request::Declare(declaration)),
-            None => other_named(alloc, name, value),
-        }
+        read_request(alloc, name, value)
     }
 }
