@@ -38,7 +38,7 @@ const ACCEPTED: [(&[&str], Asked); 11] = [
 ];
 
 /// Command lines that have no accepted form.
-const REFUSED: [&[&str]; 34] = [
+const REFUSED: [&[&str]; 38] = [
     &[],
     &[""],
     &["Replay"],
@@ -73,6 +73,10 @@ const REFUSED: [&[&str]; 34] = [
     &["edit", "", "5", "5"],
     &["edit", "-f", "5", "5"],
     &["edit", "f", "5"],
+    &["edit", "f", "5", "+5"],
+    &["edit", "-", "5", "5"],
+    &["edit", "--", "f", "5", "5"],
+    &["rep"],
 ];
 
 #[test]
