@@ -14,7 +14,7 @@ mod tests;
 
 ghost use Rattle.std.specs.Prelude.{map};
 ghost use Rattle.std.specs.String.{string_bytes};
-ghost use Rattle.session.specs.Headline.{Ended};
+ghost use Rattle.session.specs.Headline.{ProgramRan};
 ghost use Rattle.values.specs.Shipped.{shipped};
 ghost use Rattle.words.specs.Words.{words_of};
 
@@ -71,7 +71,7 @@ impl<S: Source + Drop, K: Sink + Drop, D: Store + Drop, C: Clock + Drop> KitUser
     for Program<S, K, D, C> {
     type Answer = Status;
 
-    ghost gives = { λ before status after. Ended shipped (words_of (map string_bytes before.words.items)) status (record {
+    ghost gives = { λ before status after. ProgramRan shipped (words_of (map string_bytes before.words.items)) status (record {
       left = S.left;
       given = S.given;
       read_faults = S.faults;
@@ -101,7 +101,7 @@ fn run_shipped<S: Source + Drop, K: Sink + Drop, D: Store + Drop, C: Clock + Dro
     alloc: Global,
     program: &mut Program<S, K, D, C>,
 ) -> Status
-    ensures { Ended shipped (words_of (map string_bytes program.old.words.items)) result (record {
+    ensures { ProgramRan shipped (words_of (map string_bytes program.old.words.items)) result (record {
       left = S.left;
       given = S.given;
       read_faults = S.faults;

@@ -93,7 +93,7 @@ Headline rules (Some (Make count)) status tells before after =
 -- words that aren't accepted: nothing is read, written, loaded or saved
 Headline rules None status tells before after = (status ≡ Usage) × (after ≡ before)
 
--- How a run of the program ended: as the headline says, or out of memory while the words were read, where nothing is read, written,
--- loaded or saved.
-abbrev pub Ended : {S K D C : Type 0} → Rules → Option Invocation → Status → Tells S K D C → (before after : Devices S K D C) → Type 0
-Ended rules asked status tells before after = (status ≡ NoMemory) × (after ≡ before) ⊎ Headline rules asked status tells before after
+-- How a run of the program ended: as the headline says, or out of memory before it began, while the words were read or the kit was
+-- made, with nothing read, written, loaded or saved.
+abbrev pub ProgramRan : {S K D C : Type 0} → Rules → Option Invocation → Status → Tells S K D C → (before after : Devices S K D C) → Type 0
+ProgramRan rules asked status tells before after = (status ≡ NoMemory) × (after ≡ before) ⊎ Headline rules asked status tells before after

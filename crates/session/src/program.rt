@@ -3,7 +3,7 @@ ghost use Rattle.cm_outside.specs.Sink.{sink_told};
 ghost use Rattle.cm_outside.specs.Source.{source_told};
 ghost use Rattle.values.specs.Whole.{IsWhole};
 ghost use Rattle.words.specs.Words.{IsInRange, invocation, words_of};
-ghost use Rattle.session.specs.Headline.{Ended, Headline, Replayed, ReplayedFrom};
+ghost use Rattle.session.specs.Headline.{Headline, ProgramRan, Replayed, ReplayedFrom};
 ghost use Rattle.session.specs.State.{plain_session};
 ghost use Rattle.session.specs.Stores.{store_told};
 
@@ -91,7 +91,7 @@ pub fn run<M: Meanings, W: AsStr, S: Source, K: Sink, D: Store, C: Clock>(
     clock: &mut C,
 ) -> Status
     requires whole { IsWhole M.rules kit.now }
-    ensures { Ended M.rules (words_of (map W.text words.now)) result (record {
+    ensures { ProgramRan M.rules (words_of (map W.text words.now)) result (record {
       left = S.left;
       given = S.given;
       read_faults = S.faults;
