@@ -23,13 +23,14 @@ fn read(alloc: Global, words: &[&str]) -> Result<Asked, AllocError> {
 }
 
 /// Command lines that are accepted, each with what it asks for.
-const ACCEPTED: [(&[&str], Asked); 11] = [
+const ACCEPTED: [(&[&str], Asked); 12] = [
     (&["replay"], Asked::Replay),
     (&["collab"], Asked::Collab),
     (&["edit", "f", "1", "5"], Asked::Edit(1, 1, 5)),
     (&["edit", "a file", "500", "500"], Asked::Edit(6, 500, 500)),
     (&["edit", "f-", "024", "080"], Asked::Edit(2, 24, 80)),
     (&["edit", "edit", "1", "1"], Asked::Edit(4, 1, 1)),
+    (&["edit", "é漢", "1", "1"], Asked::Edit(2, 1, 1)),
     (&["make", "1"], Asked::Make(1)),
     (&["make", "3"], Asked::Make(3)),
     (&["make", "999999"], Asked::Make(999_999)),
@@ -38,7 +39,7 @@ const ACCEPTED: [(&[&str], Asked); 11] = [
 ];
 
 /// Command lines that have no accepted form.
-const REFUSED: [&[&str]; 38] = [
+const REFUSED: [&[&str]; 41] = [
     &[],
     &[""],
     &["Replay"],
@@ -52,6 +53,7 @@ const REFUSED: [&[&str]; 38] = [
     &["replay", "--"],
     &["--", "replay"],
     &["replay", ""],
+    &["collab", "x"],
     &["make"],
     &["make", ""],
     &["make", "0"],
@@ -74,6 +76,8 @@ const REFUSED: [&[&str]; 38] = [
     &["edit", "-f", "5", "5"],
     &["edit", "f", "5"],
     &["edit", "f", "5", "+5"],
+    &["edit", "f", "+5", "5"],
+    &["edit", "f", "5", "5", "5"],
     &["edit", "-", "5", "5"],
     &["edit", "--", "f", "5", "5"],
     &["rep"],
