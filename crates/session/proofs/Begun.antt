@@ -8,7 +8,7 @@ use Rattle.state.specs.Plainly.{created_from}
 use Rattle.values.specs.Rules.{Rules}
 use Rattle.session.specs.declared.outcome.Next.{Next}
 use Rattle.session.specs.declared.outcome.Outcome.TheVariants.{Changed}
-use Rattle.session.specs.Editing.{Edit, begun, fresh_in}
+use Rattle.session.specs.Editing.{begun, fresh_in}
 use Rattle.session.specs.Filing.{at_start}
 use Rattle.session.specs.Outcomes.{done_by, put_started}
 use Rattle.session.specs.Session.{left_by}
@@ -20,9 +20,9 @@ no_state None P none = tt
 no_state (Some slots) P none = absurd (true≢false (ap is_some none))
 
 -- what opening a text puts in place of a fresh session is the session that begins
-pub begins_as : (rules : Rules) (e : Edit) (text : List ℕ) (old new : Held) (answer : Answer) (next : Next Slotted) → plain_session old ≡ fresh_in e
+pub begins_as : (rules : Rules) (rows cols : ℕ) (text : List ℕ) (old new : Held) (answer : Answer) (next : Next Slotted) → plain_session old ≡ fresh_in rows cols
     → put_started (plain_session old) (created_from rules old.world.declared (HISTORY_NODE ∷ []) (record { document = text; selection = at_start })) ≡ Ok (done_by (plain_session old) (Changed answer next))
-    → new ≡ record old { state = Some next.state; count = next.count; window = next.window } → plain_session new ≡ begun rules e text
-begins_as rules e text old new answer next fresh made is =
+    → new ≡ record old { state = Some next.state; count = next.count; window = next.window } → plain_session new ≡ begun rules rows cols text
+begins_as rules rows cols text old new answer next fresh made is =
     ap plain_session is ∙ sym (ap (left_by (plain_session old)) made)
     ∙ ap (λ (s : PlainSession). left_by s (put_started s (created_from rules s.world.declared (HISTORY_NODE ∷ []) (record { document = text; selection = at_start })))) fresh

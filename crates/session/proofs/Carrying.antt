@@ -270,3 +270,10 @@ error_answered rules line (errors.Refused refusal) s told (Ok text) result fails
 error_answered rules line error s told (Err none) result fails is made =
     subst (λ (r : Result (String Global) StoreFault). IfSome (desk_of s told) (λ d. Answered (machine rules) line d (desk_of s told) r)) (sym made)
     (nothing_answered rules line s told)
+
+-- A line of more bytes than a line may have is answered by its refusal.
+pub long_answered : (rules : Rules) (s : PlainSession) (told : Option Files) (text : Result (String Global) AllocError) → IfOk text (λ t. string_bytes t ≡ reply_text (replies.No LineTooLong))
+    → IfSome (desk_of s told) (λ d. IfOk text (λ t. (line : List ℕ) → max_line < length line → (string_bytes t ≡ reply rules line d) × (desk_of s told ≡ Some (after rules line d))))
+long_answered rules s None text is = tt
+long_answered rules s (Some files) (Err error) is = tt
+long_answered rules s (Some files) (Ok text) is = λ line long. refused_answered rules line LineTooLong s (Some files) text (too_long line long) is

@@ -128,7 +128,7 @@ found_unread : (rules : Rules) (e : Edit) (files : Files) (now : Option Files) (
     → EditedText rules e files found status (told_run limit source sink) (store_told (Some files) faults) (store_told now faults_now) times times
 found_unread rules e files now faults faults_now times status limit source sink (Ok text) reads ends later =
     let m = key_machine rules e.file in
-    let b = begun rules e text in
+    let b = begun rules e.rows e.cols text in
     let first : Option Desk = Some (record { session = b; files = files }) in (
       b,
       subst (λ (o : Option Files). Ran m (record { plain = first; faults = faults }) (record { plain = desk_of b o; faults = faults_now }) times times status (told_run limit source sink)) (sym reads.1)
@@ -156,7 +156,7 @@ edit_unbegun rules e (Some files) now faults faults_now times limit source sink 
 
 -- it went on with keys from the session in which the text was opened
 pub edit_typed : (rules : Rules) (e : Edit) (told between : Option Files) (faults faults_between : ℕ) (now : StoreTold) (times times_now : Option Times) (status : Status) (run : Run) (text : TextView) (s : PlainSession)
-    → IfSome told (λ files. ReadsFile (text_in files e.file) files between (Ok text)) → faults ≤ faults_between → s ≡ begun rules e text.characters
+    → IfSome told (λ files. ReadsFile (text_in files e.file) files between (Ok text)) → faults ≤ faults_between → s ≡ begun rules e.rows e.cols text.characters
     → Typed rules e.file (desk_of s between) status run (store_told between faults_between) now times times_now
     → Edited rules e status run (store_told told faults) now times times_now
 edit_typed rules e None between faults faults_between now times times_now status run text s reads first is typing =
@@ -166,7 +166,7 @@ edit_typed rules e None between faults faults_between now times times_now status
 edit_typed rules e (Some files) between faults faults_between now times times_now status run text s reads first is typing =
     let m = key_machine rules e.file in
     let new = desk_told typing.0 now in
-    let desk : desk_of s between ≡ Some (record { session = begun rules e text.characters; files = files }) =
+    let desk : desk_of s between ≡ Some (record { session = begun rules e.rows e.cols text.characters; files = files }) =
     ap (desk_of s) reads.1 ∙ ap (λ (p : PlainSession). Some (record { session = p; files = files })) is in
     subst (λ (found : Result (List ℕ) FileFault). EditedText rules e files found status run (store_told (Some files) faults) now times times_now) (sym reads.0) (
       typing.0,

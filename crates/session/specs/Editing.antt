@@ -31,13 +31,13 @@ pub record Edit : Type 0 where
   pub cols : ℕ
 
 -- a session before its first state, with a window of this size
-abbrev pub fresh_in : Edit → PlainSession
-fresh_in e = record fresh { window = window_of e.rows e.cols }
+abbrev pub fresh_in : (rows cols : ℕ) → PlainSession
+fresh_in rows cols = record fresh { window = window_of rows cols }
 
 -- Begun: the session in which a file's text is opened, in a state with `history`, with the cursor before its first character
-abbrev pub begun : Rules → Edit → (text : List ℕ) → PlainSession
-begun rules e text =
-    let s = fresh_in e in
+abbrev pub begun : Rules → (rows cols : ℕ) → (text : List ℕ) → PlainSession
+begun rules rows cols text =
+    let s = fresh_in rows cols in
     left_by s (put_started s (created_from rules s.world.declared (HISTORY_NODE ∷ []) (record { document = text; selection = at_start })))
 
 -- the text of the file, or why its bytes are none; a file that isn't there is empty
@@ -69,7 +69,7 @@ pub record Unopened (status : Status) (run : Run) (store store_now : StoreTold) 
 -- memory.
 abbrev pub EditedText : Rules → Edit → Files → Result (List ℕ) FileFault → Status → Run → (store store_now : StoreTold) → (times times_now : Option Times) → Type 0
 EditedText rules e files (Ok text) status run store store_now times times_now =
-    Typed rules e.file (Some (record { session = begun rules e text; files = files })) status run store store_now times times_now
+    Typed rules e.file (Some (record { session = begun rules e.rows e.cols text; files = files })) status run store store_now times times_now
 EditedText rules e files (Err fault) status run store store_now times times_now = Unopened status run store store_now times times_now
 
 -- Edited: how a run of `edit` ended. Where the store doesn't tell its files, why it ended so is told, and that no count fell.

@@ -15,7 +15,6 @@ pub mod PrivateSession
 pub mod Transcript
 pub mod Stores
 pub mod Making
-pub mod PrivateMaking
 pub mod Headline
 pub mod Frames
 pub mod Keyed

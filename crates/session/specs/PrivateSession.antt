@@ -3,9 +3,6 @@ use Rattle.std.specs.Prelude.{◌≡◌, ◌≢◌, ◌⊎◌, ℕ, List, Bool, 
 use Rattle.std.specs.declared.alloc.AllocError.{AllocError}
 use Rattle.std.specs.declared.alloc.Global.{Global}
 use Rattle.cm_outside.specs.Files.{Files}
-use Rattle.cm_outside.specs.Sink.{Appends, AppendsPrefix}
-use Rattle.cm_outside.specs.declared.status.Status.{Status}
-use Rattle.cm_outside.specs.declared.status.Status.TheVariants as statuses
 use Rattle.cm_outside.specs.declared.store_fault.StoreFault.{StoreFault}
 use Rattle.cm_outside.specs.declared.store_fault.StoreFault.TheVariants as faults
 use Rattle.facet_slots.specs.Agreement.{IsGrown}
@@ -38,14 +35,6 @@ use Rattle.session.specs.Views.{view_of}
 abbrev pub IsTold : Result (String Global) AllocError → Result (String Global) StoreFault → Type 0
 IsTold (Ok text) result = result ≡ Ok text
 IsTold (Err error) result = result ≡ Err faults.NoMemory
-
--- how an answer was written, and what the sink holds then; what wasn't answered isn't written
-abbrev pub WroteAnswer : Result (String Global) StoreFault → Result (Unit {0}) Status → (held held_now : Option (List ℕ)) → Type 0
-WroteAnswer (Ok text) (Ok done) held held_now = IfSome held (λ before. Appends before held_now (string_bytes text))
-WroteAnswer (Ok text) (Err statuses.WriteFault) held held_now = IfSome held (λ before. AppendsPrefix before held_now (string_bytes text))
-WroteAnswer (Err faults.Failed) (Err statuses.StoreFault) held held_now = held_now ≡ held
-WroteAnswer (Err faults.NoMemory) (Err statuses.NoMemory) held held_now = held_now ≡ held
-WroteAnswer answered result held held_now = ⊥
 
 -- what a declaration leaves: the next world, and the rest as before; after a refusal, or out of memory, all is as before
 abbrev pub Declares : Rules → Declaration → (old new : Held) → Result (Unit {0}) LineError → Type 0

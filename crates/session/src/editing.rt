@@ -1,22 +1,23 @@
-ghost use Rattle.std.specs.Prelude.{◌≡◌, ◌≤◌, ℕ, List, IfErr, IfOk, IfSome, true};
+ghost use Rattle.std.specs.Prelude.{◌≡◌, ◌≤◌, IfErr, IfOk, IfSome, true};
 ghost use Rattle.cm_outside.specs.Faults.{Rose};
 ghost use Rattle.cm_outside.specs.Sink.{sink_told};
 ghost use Rattle.cm_outside.specs.Source.{source_told};
 ghost use Rattle.file_text.specs.Files.{file_text};
 ghost use Rattle.values.specs.Whole.{IsWhole};
 ghost use Rattle.viewport.specs.Window.{is_size};
-ghost use Rattle.session.specs.Editing.{Edited, EndsUnopened, Typed, begun, text_in};
+ghost use Rattle.session.specs.Editing.{Edited, EndsUnopened, Typed, begun, fresh_in, text_in};
 ghost use Rattle.session.specs.PrivateEditing.{ReadAs, ReadsFile};
-ghost use Rattle.session.specs.State.{desk_of, fresh, plain_session, window_of};
+ghost use Rattle.session.specs.State.{desk_of, plain_session};
 
+use crate::editor::{Editor, Lent};
 use crate::filing::created_over;
 use crate::outcome::Outcome;
 use crate::putting::started_as;
 use crate::session::Session;
-use crate::typed::{Editor, answer_all};
-use cm_outside::{Clock, LineReader, Sink, Source, Status, Store, StoreFault};
+use cm_outside::{Clock, Sink, Source, Status, Store, StoreFault};
 use cm_plain::Str;
 use file_text::{FileError, file_text};
+use key_run::run_keys;
 use line_tree::Text;
 use registry::HISTORY_NODE;
 use screen::Screen;
@@ -55,7 +56,7 @@ fn load_text<D: Store>(alloc: Global, store: &mut D, file: &Str) -> Result<Text,
 fn fresh_in<M: Meanings>(alloc: Global, rows: u32, cols: u32) -> Result<Session<M>, AllocError>
     requires rows { is_size rows ≡ true }
     requires cols { is_size cols ≡ true }
-    ensures plain { IfOk result (λ s. plain_session s ≡ record fresh { window = window_of rows cols }) }
+    ensures plain { IfOk result (λ s. plain_session s ≡ fresh_in rows cols) }
 {
     let mut session = Session::new(alloc)?;
     match Viewport::new(rows, cols) {
@@ -76,7 +77,7 @@ fn begun<M: Meanings>(
     requires whole { IsWhole M.rules kit.now }
     requires rows { is_size rows ≡ true }
     requires cols { is_size cols ≡ true }
-    ensures { (file : List ℕ) → IfOk result (λ s. plain_session s ≡ begun M.rules (record { file = file; rows = rows; cols = cols }) text.characters) }
+    ensures { IfOk result (λ s. plain_session s ≡ begun M.rules rows cols text.characters) }
 {
     let mut session = fresh_in(alloc, rows, cols)?;
     let state = created_over(&session, kit, text, &[HISTORY_NODE]);
@@ -115,10 +116,8 @@ fn typed<M: Meanings, S: Source, K: Sink, D: Store, C: Clock>(
         session,
         screen: Screen::blank(alloc),
     };
-    match LineReader::new(alloc, limit) {
-        Ok(bytes) => answer_all(bytes, kit, file, &mut editor, store, source, sink, clock),
-        Err(_) => Status::NoMemory,
-    }
+    let lent = Lent { kit, file };
+    run_keys(alloc, &lent, &mut editor, store, limit, source, sink, clock)
 }
 
 /// Edits a file by keys: its text is opened in a state with `history`, with a window of so many rows and columns; a first frame is

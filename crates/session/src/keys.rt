@@ -2,6 +2,7 @@
 ghost use Rattle.std.specs.Prelude.{◌≡◌, ◌≤◌, IfOk, Ok, option_map};
 ghost use Rattle.configuration.specs.declared.vertex.Vertex.TheVariants.{Field};
 ghost use Rattle.facet_slots.specs.Slotted.{plain};
+ghost use Rattle.registry.specs.Predeclared.{predeclared};
 ghost use Rattle.typed_keys.specs.Read.{history_in, layers_in, truth_in};
 ghost use Rattle.session.specs.Views.{facet_in, tab_in};
 
@@ -50,13 +51,14 @@ impl<M: Meanings> Model for Keys<M> {
 }
 
 impl<M: Meanings> Keys<M> {
-    /// The keys over what is declared from the start. `Err`: out of memory.
-    pub(crate) fn new(alloc: Global) -> Result<Keys<M>, AllocError> {
-        let registry = Registry::<M>::new(alloc)?;
-        let read_only = made(FacetKey::new(alloc, &registry, READ_ONLY))?;
-        let tab_size = made(FacetKey::new(alloc, &registry, TAB_SIZE))?;
-        let decorations = made(FacetKey::new(alloc, &registry, DECORATIONS))?;
-        let history = made(FieldKey::new(alloc, &registry, HISTORY))?;
+    /// The keys over what is declared from the start, by a registry of this and no more. `Err`: out of memory.
+    pub(crate) fn new(alloc: Global, registry: &Registry<M>) -> Result<Keys<M>, AllocError>
+        requires { registry.now ≡ predeclared }
+    {
+        let read_only = made(FacetKey::new(alloc, registry, READ_ONLY))?;
+        let tab_size = made(FacetKey::new(alloc, registry, TAB_SIZE))?;
+        let decorations = made(FacetKey::new(alloc, registry, DECORATIONS))?;
+        let history = made(FieldKey::new(alloc, registry, HISTORY))?;
         Ok(Keys {
             read_only,
             tab_size,

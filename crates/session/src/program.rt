@@ -3,16 +3,15 @@ ghost use Rattle.cm_outside.specs.Sink.{sink_told};
 ghost use Rattle.cm_outside.specs.Source.{source_told};
 ghost use Rattle.values.specs.Whole.{IsWhole};
 ghost use Rattle.words.specs.Words.{IsInRange, invocation, words_of};
-ghost use Rattle.session.specs.Headline.{Headline, ProgramRan, Replayed, ReplayedFrom};
-ghost use Rattle.session.specs.State.{plain_session};
+ghost use Rattle.session.specs.Headline.{Headline, ProgramRan, Replayed};
 ghost use Rattle.session.specs.Stores.{store_told};
 
 use crate::editing::edit;
 use crate::making::make;
-use crate::replayed::answer_all;
 use crate::session::Session;
-use cm_outside::{Clock, LineReader, Sink, Source, Status, Store};
+use cm_outside::{Clock, Sink, Source, Status, Store};
 use collab_run::collab;
+use line_run::run_lines;
 use std::alloc::Global;
 use std::convert::AsStr;
 use values::{Kit, Meanings};
@@ -46,32 +45,7 @@ pub fn replay<M: Meanings, S: Source, K: Sink, D: Store>(
     }) (store_told D.files D.faults store.old) (store_told D.files D.faults store.new) }
 {
     match Session::new(alloc) {
-        Ok(mut session) => replay_by(alloc, &mut session, kit, limit, source, sink, store),
-        Err(_) => Status::NoMemory,
-    }
-}
-
-/// Answers each line of the source by a session, as `replay` does.
-fn replay_by<M: Meanings, S: Source, K: Sink, D: Store>(
-    alloc: Global,
-    session: &mut Session<M>,
-    kit: &Kit<M>,
-    limit: u64,
-    source: &mut S,
-    sink: &mut K,
-    store: &mut D,
-) -> Status
-    requires whole { IsWhole M.rules kit.now }
-    ensures { ReplayedFrom M.rules (plain_session session.old) result (record {
-      limit = limit;
-      source = source_told S.left S.given S.faults source.old;
-      source_now = source_told S.left S.given S.faults source.new;
-      sink = sink_told K.held K.faults sink.old;
-      sink_now = sink_told K.held K.faults sink.new;
-    }) (store_told D.files D.faults store.old) (store_told D.files D.faults store.new) }
-{
-    match LineReader::new(alloc, limit) {
-        Ok(reader) => answer_all(reader, kit, session, store, source, sink),
+        Ok(mut session) => run_lines(alloc, kit, &mut session, store, limit, source, sink),
         Err(_) => Status::NoMemory,
     }
 }

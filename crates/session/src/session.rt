@@ -1,7 +1,8 @@
-ghost use Rattle.std.specs.Prelude.{◌≡◌, ◌≤◌, Err, Result, length, true, IfOk, IfSome, Ok, Some, string_bytes};
+ghost use Rattle.std.specs.Prelude.{◌≡◌, ◌≤◌, ◌<◌, ℕ, List, Err, Result, length, true, IfOk, IfSome, Ok, OnErr, Some, string_bytes};
 ghost use Rattle.cm_outside.specs.Answering.{Answered};
 ghost use Rattle.cm_outside.specs.Faults.{Rose};
 ghost use Rattle.cm_outside.specs.Files.{Files, found_bytes};
+ghost use Rattle.cm_outside.specs.Lines.{max_line};
 ghost use Rattle.replies.specs.Replies.{reply_text};
 ghost use Rattle.replies.specs.declared.answer.Answer.TheVariants as answers;
 ghost use Rattle.replies.specs.declared.answer.Reply.TheVariants as replies;
@@ -15,7 +16,7 @@ ghost use Rattle.session.specs.Outcomes.{Done, done_by};
 ghost use Rattle.session.specs.Filing.{opened, with_file};
 ghost use Rattle.session.specs.PrivateSession.{Carried, Carries, Declares, DoneWith, IsPut, IsPutIn, IsRefusalText, IsTold, IsWritten, is_inner};
 ghost use Rattle.session.specs.Session.{act, declare};
-ghost use Rattle.session.specs.State.{desk_of, fresh, plain_session, plain_state, window_of};
+ghost use Rattle.session.specs.State.{Desk, desk_of, fresh, plain_session, plain_state, window_of};
 ghost use Rattle.session.specs.Transcript.{machine};
 ghost use Rattle.session.specs.Views.{view_of};
 
@@ -26,6 +27,7 @@ use crate::outcomes::outcome_of;
 use crate::update::update;
 use cm_outside::{Store, StoreFault};
 use cm_plain::Str;
+use line_run::Answers;
 use names::{Names, Nodes, all_found, declare};
 use registry::Registry;
 use replies::{Answer, Reply, reply_text};
@@ -97,7 +99,7 @@ fn refusal_text(alloc: Global, error: LineError) -> Result<String, AllocError>
 }
 
 /// A line that was made without the store, or out of memory.
-pub(crate) fn told(text: Result<String, AllocError>) -> Result<String, StoreFault>
+fn told(text: Result<String, AllocError>) -> Result<String, StoreFault>
     ensures { IsTold text result }
 {
     match text {
@@ -124,7 +126,7 @@ impl<M: Meanings> Session<M> {
     {
         let names = Names::new(alloc)?;
         let registry = Registry::new(alloc)?;
-        let keys = Keys::new(alloc)?;
+        let keys = Keys::new(alloc, &registry)?;
         let window = first_window();
         Ok(Session {
             alloc,
@@ -322,10 +324,34 @@ impl<M: Meanings> Session<M> {
     }
 
     /// The reply to a line of more bytes than a line may have, which changes nothing.
-    pub(crate) fn long_line(&self) -> Result<String, AllocError>
+    fn long_line(&self) -> Result<String, AllocError>
         ensures reply { IfOk result (λ r. string_bytes r ≡ reply_text (replies.No LineTooLong)) }
     {
         refused_text(self.alloc, Refusal::LineTooLong)
+    }
+}
+
+impl<M: Meanings, D: Store> Answers<Kit<M>, D> for Session<M> {
+    ghost Plain = { Desk };
+
+    ghost told = { λ session store. desk_of (plain_session session) (D.files store) };
+
+    ghost machine = { machine M.rules };
+
+    ghost faults = { D.faults };
+
+    ghost can_lend = { λ kit. IsWhole M.rules kit };
+
+    fn answer(&mut self, with: &Kit<M>, line: &[u8], store: &mut D) -> Result<String, StoreFault> {
+        self.line(with, store, line)
+    }
+
+    fn answer_long(&mut self, store: &D) -> Result<String, AllocError>
+        ensures reply { IfSome (desk_of (plain_session self.old) (D.files store.now)) (λ d. IfOk result (λ r. (line : List ℕ) → max_line < length line
+            → (string_bytes r ≡ (machine M.rules).reply line d) × (desk_of (plain_session self.new) (D.files store.now) ≡ Some ((machine M.rules).after line d)))) }
+        ensures memory { OnErr result (desk_of (plain_session self.new) (D.files store.now) ≡ desk_of (plain_session self.old) (D.files store.now)) }
+    {
+        self.long_line()
     }
 }
 

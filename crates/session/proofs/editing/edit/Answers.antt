@@ -24,7 +24,7 @@ returns-in-Ok-begun g c =
       sink = sink_told g.K.Sink.held g.K.Sink.faults c.args.sink.now;
       sink_now = sink_told g.K.Sink.held g.K.Sink.faults c.typed.new.sink;
     })
-    c.in-Ok.text (plain_session c.in-Ok-begun.session) c.in-Ok.ensures.files c.in-Ok.ensures.later (c.in-Ok-begun.ensures c.args.file.now) c.typed.ensures
+    c.in-Ok.text (plain_session c.in-Ok-begun.session) c.in-Ok.ensures.files c.in-Ok.ensures.later c.in-Ok-begun.ensures c.typed.ensures
 
 pub returns-in-Err-begun : goal.returns-in-Err-begun
 returns-in-Err-begun g c =
