@@ -28,7 +28,7 @@ use Rattle.script.specs.declared.refusal.LineError.TheVariants as errors
 use Rattle.script.specs.declared.refusal.Refusal.{Refusal}
 use Rattle.script.specs.declared.refusal.Refusal.TheVariants.{LineTooLong}
 use Rattle.values.specs.Rules.{Rules}
-use Rattle.session.specs.Filing.{opened, save, saved, with_file}
+use Rattle.session.specs.Filing.{opened, saved, with_file}
 use Rattle.session.specs.Outcomes.{Done, answered}
 use Rattle.session.specs.PrivateSession.{Carried, Carries, DoneWith, IsRefusalText, IsTold, IsWritten, is_inner}
 use Rattle.session.specs.Session.{act, asked, files_after, files_by, files_left, left_by, reply_of}

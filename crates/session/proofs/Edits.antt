@@ -1,5 +1,5 @@
 -- A run of `edit`: one that ends before its first frame, and one over the text that was loaded.
-use Rattle.std.proofs.Common.{◌≡◌, ◌∙◌, ℕ, ◌≤◌, ◌⊎◌, inl, inr, true, false, List, [], Option, None, Some, IfSome, refl, sym, ap, subst, arith, true≢false}
+use Rattle.std.proofs.Common.{◌≡◌, ◌∙◌, ℕ, ◌≤◌, ◌⊎◌, inl, inr, false, List, [], Option, None, Some, IfSome, refl, sym, ap, subst, arith, true≢false}
 use Rattle.std.specs.Prelude.{Result, Ok, Err, is_err}
 use Rattle.cm_outside.specs.Answering.{AnswererTold, exchange_of, EndedByStore}
 use Rattle.cm_outside.specs.Faults.{Rose}
