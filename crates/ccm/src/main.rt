@@ -5,13 +5,6 @@
 //! `session::run`, and ends with the status of the run; a status other than 0 gives one line to standard error.
 #![tactic(auto)]
 
-mod folder_store;
-mod standard_input;
-mod standard_output;
-mod system_clock;
-#[cfg(test)]
-mod tests;
-
 ghost use Rattle.std.specs.Prelude.{map};
 ghost use Rattle.std.specs.String.{string_bytes};
 ghost use Rattle.session.specs.Headline.{ProgramRan};
@@ -19,17 +12,14 @@ ghost use Rattle.values.specs.Shipped.{shipped};
 ghost use Rattle.words.specs.Words.{words_of};
 
 use cm_outside::{Clock, Sink, Source, Status, Store};
-use folder_store::FolderStore;
+use devices::{FolderStore, StandardInput, StandardOutput, SystemClock, complaint};
 use session::run;
 use shipped_kit::{KitUser, lend_kit};
 use shipped_rules::Shipped;
-use standard_input::StandardInput;
-use standard_output::StandardOutput;
 use std::alloc::Global;
 use std::process::ExitCode;
 use std::rt::Env;
 use std::{env, io};
-use system_clock::SystemClock;
 use values::Kit;
 
 /// The words of the command line, without the program's name.
@@ -39,22 +29,6 @@ fn words(rt: &(impl Env + AllocGlobal)) -> io::Result<Vec<String>> {
         words.push(word)?;
     }
     Ok(words)
-}
-
-/// The line that standard error gets under a status, if it gets one.
-fn complaint(status: Status) -> Option<&'static str> {
-    match status {
-        Status::Ok => None,
-        Status::Usage => Some(
-            "ccm: usage: ccm replay | ccm edit FILE ROWS COLS | ccm make N | ccm collab",
-        ),
-        Status::ReadFault => Some("ccm: read fault"),
-        Status::WriteFault => Some("ccm: write fault"),
-        Status::StoreFault => Some("ccm: store fault"),
-        Status::NoMemory => Some("ccm: out of memory"),
-        Status::TooMuch => Some("ccm: input too long"),
-        Status::BadFile => Some("ccm: file is not text"),
-    }
 }
 
 /// The words of the command line, without the program's name, and the devices of a run.

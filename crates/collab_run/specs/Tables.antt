@@ -4,10 +4,10 @@ use Rattle.serde_json.specs.Data.{Data}
 use Rattle.script.specs.declared.refusal.Refusal.{Refusal}
 use Rattle.script.specs.Reading.{◌>>=◌, text_at, number_at, list_of}
 use Rattle.script.specs.Command.{change_of}
-use Rattle.script.specs.Accepted.{Field, needs, may_have, Form, with_fields}
+use Rattle.script.specs.Accepted.{Field, needs, may_have, CommandEntry, with_fields}
 use Rattle.collab_run.specs.Commands.{within_limit}
 
--- the names of the clients: a list of texts, of which there are as many as there may be
+-- the names of the clients: a list of 1 to 64 texts
 abbrev pub names_at : List ℕ → Data → Result (List (List ℕ)) Refusal
 names_at name d = list_of text_at name d >>= within_limit
 
@@ -26,7 +26,7 @@ publish_fields = needs (codes "from") number_at ∷ needs (codes "to") number_at
 abbrev pub deliver_fields : List Field
 deliver_fields = needs (codes "message") number_at ∷ may_have (codes "client") text_at ∷ []
 
-abbrev pub commands : List Form
+abbrev pub commands : List CommandEntry
 commands = with_fields (codes "begin") begin_fields ∷ with_fields (codes "local") local_fields
     ∷ with_fields (codes "send") send_fields ∷ with_fields (codes "publish") publish_fields
     ∷ with_fields (codes "deliver") deliver_fields ∷ with_fields (codes "state") [] ∷ []

@@ -70,7 +70,7 @@ once_points style [] all = once_none
 once_points style (c ∷ cs) all =
     let parts = and_parts (is_point c) (list_all is_point cs) all in
     let here = and_parts (is_control c) (not (c == 9)) parts.0 in
-    once_both (c ∷ []) cs _ _ (once_one c [] _ [] (StandsIn.point style c here.0 (not_true _ here.1))) (once_points style cs parts.1)
+    once_both (c ∷ []) cs _ _ (once_one c [] _ [] (StandsIn.control style c here.0 (not_true _ here.1))) (once_points style cs parts.1)
 
 once_wide : (style : Style) (c : ℕ) (cs : List ℕ) → list_any is_control (c ∷ cs) ≡ false → StandOnce (c ∷ cs) (styled style (wide (c ∷ cs) (str_width false (c ∷ cs)) ∷ []))
 once_wide style c cs plain = by (width == 0) refl where

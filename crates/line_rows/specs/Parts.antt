@@ -19,8 +19,8 @@ pub data StandsIn : List ℕ → List StyledCell → List (List StyledCell) → 
       → StandsIn text (map (in_style style) (first text after ∷ rests 1 after)) []
   -- such a cluster without columns: a group that has no cell
   no_columns : (text : List ℕ) → list_any is_control text ≡ false → str_width false text ≡ 0 → StandsIn text [] []
-  -- a control character that is no tab: a point
-  point : (style : Style) (c : ℕ) → is_control c ≡ true → (c == 9) ≡ false → StandsIn (c ∷ []) (in_style style dot ∷ []) []
+  -- a control character that is no tab: a dot
+  control : (style : Style) (c : ℕ) → is_control c ≡ true → (c == 9) ≡ false → StandsIn (c ∷ []) (in_style style dot ∷ []) []
   -- a tab: its first blank, and each further blank is a group that fills a column
   tab : (style : Style) (more : ℕ) → StandsIn (9 ∷ []) (in_style style blank ∷ []) (replicate more (in_style style blank ∷ []))
 

@@ -15,7 +15,7 @@ use Rattle.script.specs.declared.refusal.LineError.{LineError}
 use Rattle.script.specs.declared.refusal.LineError.TheVariants as errors
 use Rattle.script.specs.Reading.{◌>>=◌, Gives, bad, or_bad, read_or, required, required_as, defaulted, optional, number_member, text_member, items_at, members_at, only, text_at, number_at, each, list_of}
 use Rattle.script.specs.Lines.{command_of_members, command_of, command_of_data, line_command}
-use Rattle.script.specs.Accepted.{is_alone, is_command_value, is_line, Field, needs, may_have, fits, member_fits, all_fit, has_no_other, some_passes, is_accepted, all_items, is_list_of, ReadsExactly, AnswersWhere}
+use Rattle.script.specs.Accepted.{is_alone, is_command_value, is_line, Field, needs, may_have, meets, member_fits, all_fit, has_no_other, is_some_and, is_accepted, all_items, is_list_of, ReadsExactly, AnswersWhere}
 
 -- what is read is a value exactly where these fields of an object fit and the rest holds
 pub record Reads {A : Type 0} (d : Data) (fields : List Field) (rest : Bool) (read : Result A Refusal) : Type 0 where
@@ -31,7 +31,7 @@ link (Err r) next a b e h = ap (λ c. c && b) e
 
 all_before : (d : Data) (before after : List Field) (rest : Bool) → (all_fit before d && true) && (all_fit after d && rest) ≡ (all_fit (before ++ after) d && rest)
 all_before d [] after rest = refl
-all_before d (f ∷ before) after rest = at (fits d f) (all_before d before after rest) where
+all_before d (f ∷ before) after rest = at (meets d f) (all_before d before after rest) where
   at : (b : Bool) → (all_fit before d && true) && (all_fit after d && rest) ≡ (all_fit (before ++ after) d && rest)
       → ((b && all_fit before d) && true) && (all_fit after d && rest) ≡ ((b && all_fit (before ++ after) d) && rest)
   at true e = e
@@ -47,8 +47,8 @@ on {d = d} {before = before} {after = after} {rest = rest} {read = read} {next =
 pub end : {A : Type 0} (d : Data) (x : A) → Reads d [] true (Ok x)
 end d x = record { same = refl }
 
-alone : {A : Type 0} (d : Data) (field : Field) (read : Result A Refusal) → is_ok read ≡ fits d field → Reads d (field ∷ []) true read
-alone d field read e = record { same = e ∙ sym (and_true (fits d field)) ∙ sym (and_true (fits d field && true)) }
+alone : {A : Type 0} (d : Data) (field : Field) (read : Result A Refusal) → is_ok read ≡ meets d field → Reads d (field ∷ []) true read
+alone d field read e = record { same = e ∙ sym (and_true (meets d field)) ∙ sym (and_true (meets d field && true)) }
 
 -- a field that has to be there
 pub need : {A : Type 0} (name : List ℕ) (read : List ℕ → Data → Result A Refusal) (d : Data) → Reads d (needs name read ∷ []) true (required_as name read d)
@@ -109,13 +109,13 @@ accepts fields name d next h = at (as_object d) where
   none true = refl
   none false = refl
 
-  at : (o : Option Members) → is_ok (or_bad name o >>= next) ≡ (all_fit fields d && some_passes (has_no_other fields) o)
+  at : (o : Option Members) → is_ok (or_bad name o >>= next) ≡ (all_fit fields d && is_some_and (has_no_other fields) o)
   at None = none (all_fit fields d)
   at (Some ms) = (h ms).same
 
 -- an object in which this field is missing is refused
 pub refused_without : {A : Type 0} (name : List ℕ) (read : List ℕ → Data → Result A Refusal) (fields : List Field) (d : Data) → get name d ≡ None → is_accepted (needs name read ∷ fields) d ≡ false
-refused_without name read fields d h = ap (λ o. (member_fits (needs name read) o && all_fit fields d) && some_passes (has_no_other (needs name read ∷ fields)) (as_object d)) h
+refused_without name read fields d h = ap (λ o. (member_fits (needs name read) o && all_fit fields d) && is_some_and (has_no_other (needs name read ∷ fields)) (as_object d)) h
 
 and_false : (b : Bool) → b && false ≡ false
 and_false true = refl
@@ -159,7 +159,7 @@ each_exactly read test h (item d ds) =
 pub list : {A : Type 0} (read : List ℕ → Data → Result A Refusal) (test : Data → Bool) (name : List ℕ) → ReadsExactly (read name) test → ReadsExactly (list_of read name) (is_list_of test)
 unfolding list_of items_at
 list read test name h d = at_items (as_array d) where
-  at_items : (o : Option Items) → is_ok (or_bad name o >>= each (read name)) ≡ some_passes (all_items test) o
+  at_items : (o : Option Items) → is_ok (or_bad name o >>= each (read name)) ≡ is_some_and (all_items test) o
   at_items None = refl
   at_items (Some ds) = each_exactly (read name) test h ds
 
@@ -174,7 +174,7 @@ of_members named test h no_members = refl
 of_members named test h (member name d no_members) = h name d
 of_members named test h (member name d (member k e ms)) = refl
 
-of_value : {C : Type 0} (named : List ℕ → Data → Result C Refusal) (test : List ℕ → Data → Bool) → ((name : List ℕ) → ReadsExactly (named name) (test name)) → (d : Data) → is_ok (command_of named d) ≡ some_passes (is_alone test) (as_object d)
+of_value : {C : Type 0} (named : List ℕ → Data → Result C Refusal) (test : List ℕ → Data → Bool) → ((name : List ℕ) → ReadsExactly (named name) (test name)) → (d : Data) → is_ok (command_of named d) ≡ is_some_and (is_alone test) (as_object d)
 unfolding command_of
 of_value named test h null = refl
 of_value named test h (boolean b) = refl
@@ -187,7 +187,7 @@ pub line-exactly : {C : Type 0} (named : List ℕ → Data → Result C Refusal)
 unfolding line_command
 line-exactly named test h line = at (nat_lt max_line (length line)) (is_utf8 line) (read line) where
   at : (long utf8 : Bool) (o : Option Data)
-      → is_ok (if long then Err LineTooLong else (if utf8 then command_of_data named o else Err NotUtf8)) ≡ (not long && utf8 && some_passes (is_command_value test) o)
+      → is_ok (if long then Err LineTooLong else (if utf8 then command_of_data named o else Err NotUtf8)) ≡ (not long && utf8 && is_some_and (is_command_value test) o)
   at true utf8 o = refl
   at false false o = refl
   at false true None = refl

@@ -21,10 +21,10 @@ AnswersWhere (Ok x) test = test ≡ true
 AnswersWhere (Err errors.NoMemory) test = Unit {0}
 AnswersWhere (Err (errors.Refused r)) test = test ≡ false
 
--- there is something that passes the test
-abbrev pub some_passes : {A : Type 0} → (A → Bool) → Option A → Bool
-some_passes test None = false
-some_passes test (Some x) = test x
+-- there is something, and it passes the test
+abbrev pub is_some_and : {A : Type 0} → (A → Bool) → Option A → Bool
+is_some_and test None = false
+is_some_and test (Some x) = test x
 
 -- a field of an object: its name, whether it has to be there, and which values fit it
 pub record Field : Type 0 where
@@ -45,12 +45,13 @@ abbrev pub member_fits : Field → Option Data → Bool
 member_fits field None = not field.is_required
 member_fits field (Some d) = field.takes d
 
-abbrev pub fits : Data → Field → Bool
-fits d field = member_fits field (get field.name d)
+-- what an object has under a field's name fits the field
+abbrev pub meets : Data → Field → Bool
+meets d field = member_fits field (get field.name d)
 
 -- each of these fields fits
 abbrev pub all_fit : List Field → Data → Bool
-all_fit fields d = list_all (fits d) fields
+all_fit fields d = list_all (meets d) fields
 
 -- each member has the name of one of these fields
 abbrev pub has_no_other : List Field → Members → Bool
@@ -59,7 +60,7 @@ has_no_other fields (member k d ms) = list_any (λ field. bytes_eq k field.name)
 
 -- an object whose fields all fit and that has no other member
 abbrev pub is_accepted : List Field → Data → Bool
-is_accepted fields d = all_fit fields d && some_passes (has_no_other fields) (as_object d)
+is_accepted fields d = all_fit fields d && is_some_and (has_no_other fields) (as_object d)
 
 -- each item passes the test
 abbrev pub all_items : (Data → Bool) → Items → Bool
@@ -68,7 +69,7 @@ all_items test (item d ds) = test d && all_items test ds
 
 -- a list whose items all pass the test
 abbrev pub is_list_of : (Data → Bool) → Data → Bool
-is_list_of test d = some_passes (all_items test) (as_array d)
+is_list_of test d = is_some_and (all_items test) (as_array d)
 
 abbrev pub are_two : (Data → Bool) → Items → Bool
 are_two test no_items = false
@@ -78,21 +79,21 @@ are_two test (item a (item b (item c ds))) = false
 
 -- a list of two items, which both pass the test
 abbrev pub is_pair_of : (Data → Bool) → Data → Bool
-is_pair_of test d = some_passes (are_two test) (as_array d)
+is_pair_of test d = is_some_and (are_two test) (as_array d)
 
 -- a command: its name, and which arguments it takes
-pub record Form : Type 0 where
+pub record CommandEntry : Type 0 where
   pub name : List ℕ
   pub takes : Data → Bool
 
 -- a command whose argument is an object of these fields
-abbrev pub with_fields : List ℕ → List Field → Form
+abbrev pub with_fields : List ℕ → List Field → CommandEntry
 with_fields name fields = record { name = name; takes = is_accepted fields }
 
 -- a command of this name with this argument is one of these; of those of one name the first counts
-abbrev pub is_command : List Form → List ℕ → Data → Bool
+abbrev pub is_command : List CommandEntry → List ℕ → Data → Bool
 is_command [] name d = false
-is_command (form ∷ forms) name d = if bytes_eq name form.name then form.takes d else is_command forms name d
+is_command (entry ∷ entries) name d = if bytes_eq name entry.name then entry.takes d else is_command entries name d
 
 -- there is one member, and its name and value pass the test
 abbrev pub is_alone : (List ℕ → Data → Bool) → Members → Bool
@@ -102,9 +103,9 @@ is_alone test (member name d (member k e ms)) = false
 
 -- an object of one member, whose name and value pass the test
 abbrev pub is_command_value : (List ℕ → Data → Bool) → Data → Bool
-is_command_value test d = some_passes (is_alone test) (as_object d)
+is_command_value test d = is_some_and (is_alone test) (as_object d)
 
 -- a line that is not too long and is the JSON text, in UTF-8, of an object of one member, the command, whose name and value,
 -- its argument, pass the test
 abbrev pub is_line : (List ℕ → Data → Bool) → List ℕ → Bool
-is_line test line = not (nat_lt max_line (length line)) && is_utf8 line && some_passes (is_command_value test) (read line)
+is_line test line = not (nat_lt max_line (length line)) && is_utf8 line && is_some_and (is_command_value test) (read line)

@@ -4,7 +4,7 @@ use Rattle.script.specs.Reading.{text_at, number_at, side_at, flag_at, list_of}
 use Rattle.script.specs.Values.{value_at}
 use Rattle.script.specs.Words.{op_at, mode_at}
 use Rattle.script.specs.Command.{change_of, range_of, selected_of, annotation_of}
-use Rattle.script.specs.Accepted.{Field, needs, may_have, Form, with_fields, is_accepted, is_list_of}
+use Rattle.script.specs.Accepted.{Field, needs, may_have, CommandEntry, with_fields, is_accepted, is_list_of}
 
 -- an item of a list of changes
 abbrev pub change_fields : List Field
@@ -38,7 +38,7 @@ map_fields = needs (codes "doc") text_at ∷ needs (codes "a") (list_of change_o
     ∷ needs (codes "op") op_at ∷ may_have (codes "protect") (list_of range_of)
     ∷ may_have (codes "pos") number_at ∷ may_have (codes "side") side_at ∷ may_have (codes "mode") mode_at ∷ []
 
-abbrev pub commands : List Form
+abbrev pub commands : List CommandEntry
 commands = with_fields (codes "start") start_fields
     ∷ record { name = codes "update"; takes = is_list_of (is_accepted spec_fields) }
     ∷ with_fields (codes "text") [] ∷ with_fields (codes "selection") []

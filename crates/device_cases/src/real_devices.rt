@@ -1,10 +1,6 @@
-use super::complaint;
-use crate::folder_store::FolderStore;
-use crate::standard_input::StandardInput;
-use crate::standard_output::StandardOutput;
-use crate::system_clock::SystemClock;
 use cm_outside::{Clock, Failed, Sink, Source, Status, Store, StoreFault};
 use cm_plain::Str;
+use devices::{FolderStore, StandardInput, StandardOutput, SystemClock, complaint};
 use std::alloc::{AllocError, Global};
 use std::io::{self, ErrorKind, Read, Write};
 use std::test::Fail;
