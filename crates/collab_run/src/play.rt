@@ -114,7 +114,7 @@ impl Play {
     }
 }
 
-impl Answers<()> for Play {
+impl Answers<(), ()> for Play {
     ghost Plain = { PlainPlay };
 
     ghost told = { λ p store. Some p };
@@ -123,7 +123,9 @@ impl Answers<()> for Play {
 
     ghost faults = { λ store. 0 };
 
-    fn answer(&mut self, line: &[u8], _store: &mut ()) -> Result<String, StoreFault> {
+    ghost can_lend = { λ with. Unit {0} };
+
+    fn answer(&mut self, _with: &(), line: &[u8], _store: &mut ()) -> Result<String, StoreFault> {
         match self.line(line) {
             Ok(reply) => Ok(reply),
             Err(_) => Err(StoreFault::NoMemory),

@@ -24,5 +24,5 @@ pub fn collab<S: Source, K: Sink>(alloc: Global, limit: u64, source: &mut S, sin
     }) }
 {
     let mut play = Play::new(alloc);
-    run_lines(alloc, &mut play, &mut (), limit, source, sink)
+    run_lines(alloc, &(), &mut play, &mut (), limit, source, sink)
 }

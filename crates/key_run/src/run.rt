@@ -15,19 +15,21 @@ use std::alloc::Global;
 use term_keys::{Key, KeyReader};
 
 /// Writes the first frame. An `Err` is how the run ends.
-fn open<D, A: AnswersKeys<D>, K: Sink>(
+fn open<W, D, A: AnswersKeys<W, D>, K: Sink>(
+    with: &W,
     answers: &mut A,
     store: &D,
     sink: &mut K,
 ) -> Result<(), Status>
-    ensures responds { IfSome (A.told answers.old store.now) (λ p. RespondsTo (shown A.machine) opened
+    requires { A.can_lend with.now }
+    ensures responds { IfSome (A.told answers.old store.now) (λ p. RespondsTo (shown (A.machine with.now)) opened
         (exchange_of p (A.told answers.new store.now) (K.held sink.old) (K.held sink.new)) result) }
     ensures ends { IfErr result IsStop }
     ensures later { K.faults sink.old ≤ K.faults sink.new }
     ensures write_cause { result ≡ Err Status.WriteFault → Rose (K.faults sink.old) (K.faults sink.new) }
     ensures no_store { result ≢ Err Status.StoreFault }
 {
-    let Ok(frame) = answers.first_frame(store) else {
+    let Ok(frame) = answers.first_frame(with, store) else {
         return Err(Status::NoMemory);
     };
     if write_whole(sink, frame.as_bytes()).is_err() {
@@ -37,22 +39,24 @@ fn open<D, A: AnswersKeys<D>, K: Sink>(
 }
 
 /// Answers a key other than Quit at a time. An `Err` is how the run ends.
-fn respond<D, A: AnswersKeys<D>, K: Sink>(
+fn respond<W, D, A: AnswersKeys<W, D>, K: Sink>(
+    with: &W,
     answers: &mut A,
     store: &mut D,
     key: Key,
     time: i64,
     sink: &mut K,
 ) -> Result<(), Status>
-    requires { key ≢ Key.Quit }
-    ensures responds { IfSome (A.told answers.old store.old) (λ p. RespondsTo (shown A.machine) (pressed key time)
+    requires lent { A.can_lend with.now }
+    requires other { key ≢ Key.Quit }
+    ensures responds { IfSome (A.told answers.old store.old) (λ p. RespondsTo (shown (A.machine with.now)) (pressed key time)
         (exchange_of p (A.told answers.new store.new) (K.held sink.old) (K.held sink.new)) result) }
     ensures ends { IfErr result IsStop }
     ensures later { (K.faults sink.old ≤ K.faults sink.new) × (A.faults store.old ≤ A.faults store.new) }
     ensures write_cause { result ≡ Err Status.WriteFault → Rose (K.faults sink.old) (K.faults sink.new) }
     ensures store_cause { result ≡ Err Status.StoreFault → Rose (A.faults store.old) (A.faults store.new) }
 {
-    let frame = match answers.answer_key(key, time, store) {
+    let frame = match answers.answer_key(with, key, time, store) {
         Ok(frame) => frame,
         Err(StoreFault::Failed) => return Err(Status::StoreFault),
         Err(StoreFault::NoMemory) => return Err(Status::NoMemory),
@@ -64,15 +68,17 @@ fn respond<D, A: AnswersKeys<D>, K: Sink>(
 }
 
 /// Reads the clock, and answers a key; Quit ends the run. An `Err` is how the run ends.
-fn press<D, A: AnswersKeys<D>, K: Sink, C: Clock>(
+fn press<W, D, A: AnswersKeys<W, D>, K: Sink, C: Clock>(
+    with: &W,
     answers: &mut A,
     store: &mut D,
     key: Key,
     sink: &mut K,
     clock: &mut C,
 ) -> Result<(), Status>
+    requires { A.can_lend with.now }
     ensures presses { IfSome (A.told answers.old store.old) (λ p. IfSome (C.coming clock.old) (λ times.
-        Presses A.machine key (pos (times 0))
+        Presses (A.machine with.now) key (pos (times 0))
         (exchange_of p (A.told answers.new store.new) (K.held sink.old) (K.held sink.new)) result)) }
     ensures clock { IfSome (C.coming clock.old) (λ times. IsReadTimes 1 times (C.coming clock.new)) }
     ensures goes_on { OnOk result (is_quit key ≡ false) }
@@ -85,22 +91,24 @@ fn press<D, A: AnswersKeys<D>, K: Sink, C: Clock>(
     if key == Key::Quit {
         return Err(Status::Ok);
     }
-    respond(answers, store, key, time, sink)
+    respond(with, answers, store, key, time, sink)
 }
 
 /// Writes the first frame, and answers the keys of the bytes that a reader takes off the source.
-fn answer_all<D, A: AnswersKeys<D>, S: Source, K: Sink, C: Clock>(
+fn answer_all<W, D, A: AnswersKeys<W, D>, S: Source, K: Sink, C: Clock>(
     mut bytes: LineReader,
+    with: &W,
     answers: &mut A,
     store: &mut D,
     source: &mut S,
     sink: &mut K,
     clock: &mut C,
 ) -> Status
-    requires { bytes ≡ record { limit = bytes.limit; taken = 0; ended = false; rest = [] } }
+    requires lent { A.can_lend with.now }
+    requires fresh { bytes ≡ record { limit = bytes.limit; taken = 0; ended = false; rest = [] } }
     // What the run leaves, why it ended so, and how often the clock was read.
     ensures ended { IfSome (S.left source.old) (λ input. IfSome (A.told answers.old store.old) (λ first. IfSome (C.coming clock.old) (λ times.
-        Ended A.machine result bytes.limit (S.given source.new - S.given source.old) input times
+        Ended (A.machine with.now) result bytes.limit (S.given source.new - S.given source.old) input times
         (exchange_of first (A.told answers.new store.new) (K.held sink.old) (K.held sink.new))))) }
     ensures reason { HasReason result bytes.limit (S.given source.new - S.given source.old)
         (Rose (S.faults source.old) (S.faults source.new)) (Rose (K.faults sink.old) (K.faults sink.new))
@@ -116,7 +124,7 @@ fn answer_all<D, A: AnswersKeys<D>, S: Source, K: Sink, C: Clock>(
     ensures later { (S.given source.old ≤ S.given source.new) × (S.faults source.old ≤ S.faults source.new)
         × (K.faults sink.old ≤ K.faults sink.new) × (A.faults store.old ≤ A.faults store.new) }
 {
-    if let Err(status) = open(answers, store, sink) {
+    if let Err(status) = open(with, answers, store, sink) {
         return status;
     }
     let mut keys = KeyReader::new();
@@ -128,23 +136,24 @@ fn answer_all<D, A: AnswersKeys<D>, S: Source, K: Sink, C: Clock>(
             NextByte::Budget => return Status::TooMuch,
         };
         if let Some(key) = key {
-            if let Err(status) = press(answers, store, key, sink, clock) {
+            if let Err(status) = press(with, answers, store, key, sink, clock) {
                 return status;
             }
         }
     }
 }
 
-/// Writes the first frame, then has each key of the source answered, in order, to the first Quit or the end of input: one
-/// frame a key, each written whole before the next byte is looked at. The clock is read once a key, and at Quit too, which
-/// is not answered. At most `limit` bytes are taken, and one more by which the run knows that there are more; what follows
-/// Quit among the bytes taken doesn't count.
+/// Writes the first frame, then has each key of the source answered, in order, to the first Quit or the end of input, with what
+/// is lent for each: one frame a key, each written whole before the next byte is looked at. The clock is read once a key, and at
+/// Quit too, which is not answered. At most `limit` bytes are taken, and one more by which the run knows that there are more;
+/// what follows Quit among the bytes taken doesn't count.
 ///
 /// `Ok`: the input was read to its end, or Quit came. `ReadFault`, `WriteFault`, `StoreFault`: the count of faults of the
 /// source, of the sink, of the store rose. `TooMuch`: one byte more than the limit was taken, and no Quit before.
 /// `NoMemory`: out of memory. No other status comes.
-pub fn run_keys<D, A: AnswersKeys<D>, S: Source, K: Sink, C: Clock>(
+pub fn run_keys<W, D, A: AnswersKeys<W, D>, S: Source, K: Sink, C: Clock>(
     alloc: Global,
+    with: &W,
     answers: &mut A,
     store: &mut D,
     limit: u64,
@@ -152,7 +161,8 @@ pub fn run_keys<D, A: AnswersKeys<D>, S: Source, K: Sink, C: Clock>(
     sink: &mut K,
     clock: &mut C,
 ) -> Status
-    ensures { Ran A.machine (answerer_told A.told A.faults answers.old store.old)
+    requires { A.can_lend with.now }
+    ensures { Ran (A.machine with.now) (answerer_told A.told A.faults answers.old store.old)
         (answerer_told A.told A.faults answers.new store.new) (C.coming clock.old) (C.coming clock.new) result (record {
           limit = limit;
           source = source_told S.left S.given S.faults source.old;
@@ -162,7 +172,7 @@ pub fn run_keys<D, A: AnswersKeys<D>, S: Source, K: Sink, C: Clock>(
         }) }
 {
     match LineReader::new(alloc, limit) {
-        Ok(bytes) => answer_all(bytes, answers, store, source, sink, clock),
+        Ok(bytes) => answer_all(bytes, with, answers, store, source, sink, clock),
         Err(_) => Status::NoMemory,
     }
 }

@@ -6,9 +6,9 @@ ghost use Rattle.cm_outside.specs.Lines.{max_line};
 use cm_outside::StoreFault;
 use std::alloc::AllocError;
 
-/// What answers lines with the help of a store, or of `()` where it needs none. What it answers may depend on the
-/// lines before and on what the store has.
-pub trait Answers<D> {
+/// What answers lines with the help of what it is lent for each, as a kit of rules, and of a store, or of `()` where it
+/// needs none. What it answers may depend on the lines before and on what the store has.
+pub trait Answers<W, D> {
     /// Plain data, by which it and its store are seen.
     ghost Plain: { Type 0 };
     /// What it and its store are as plain data, where they tell this.
@@ -17,10 +17,13 @@ pub trait Answers<D> {
     ghost machine: { Machine (List ℕ) Plain };
     /// How often the store failed. The count never falls.
     ghost faults: { D → ℕ };
+    /// What may be lent.
+    ghost can_lend: { W → Type 0 };
 
     /// The reply to a line, given without its LF. `Failed` comes only where the count of faults rose, and leaves all as
     /// before but for a file, which may be as asked; `NoMemory` changes nothing.
-    fn answer(&mut self, line: &[u8], store: &mut D) -> Result<String, StoreFault>
+    fn answer(&mut self, with: &W, line: &[u8], store: &mut D) -> Result<String, StoreFault>
+        requires { can_lend with.now }
         ensures answered { IfSome (told self.old store.old) (λ p.
             Answered machine line.now p (told self.new store.new) result) }
         ensures later { faults store.old ≤ faults store.new }

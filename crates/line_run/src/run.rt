@@ -12,12 +12,14 @@ use cm_outside::{LineReader, Reading, Sink, Source, Status, StoreFault, write_wh
 use std::alloc::Global;
 
 /// Answers what was read. An `Err` is how the run ends.
-fn respond<D, A: Answers<D>, K: Sink>(
+fn respond<W, D, A: Answers<W, D>, K: Sink>(
+    with: &W,
     answers: &mut A,
     store: &mut D,
     reading: &Reading,
     sink: &mut K,
 ) -> Result<(), Status>
+    requires { A.can_lend with.now }
     ensures responds { IfSome (A.told answers.old store.old) (λ p. Responds A.machine reading.now
         (exchange_of p (A.told answers.new store.new) (K.held sink.old) (K.held sink.new)) result) }
     ensures goes_on { OnOk result (IsLine reading.now) }
@@ -27,7 +29,7 @@ fn respond<D, A: Answers<D>, K: Sink>(
     ensures store_cause { result ≡ Err Status.StoreFault → Rose (A.faults store.old) (A.faults store.new) }
 {
     let answered = match reading {
-        Reading::Line(line) => answers.answer(line.as_slice(), store),
+        Reading::Line(line) => answers.answer(with, line.as_slice(), store),
         Reading::TooLong => answers.answer_long(store).map_err(|_| StoreFault::NoMemory),
         Reading::End => return Err(Status::Ok),
         Reading::Failed => return Err(Status::ReadFault),
@@ -45,14 +47,16 @@ fn respond<D, A: Answers<D>, K: Sink>(
 }
 
 /// Has each line that the reader cuts off the source answered, to its end.
-fn answer_all<D, A: Answers<D>, S: Source, K: Sink>(
+fn answer_all<W, D, A: Answers<W, D>, S: Source, K: Sink>(
     mut reader: LineReader,
+    with: &W,
     answers: &mut A,
     store: &mut D,
     source: &mut S,
     sink: &mut K,
 ) -> Status
-    requires { reader ≡ record { limit = reader.limit; taken = 0; ended = false; rest = [] } }
+    requires lent { A.can_lend with.now }
+    requires fresh { reader ≡ record { limit = reader.limit; taken = 0; ended = false; rest = [] } }
     // What the run leaves, and why it ended so.
     ensures ended { IfSome (S.left source.old) (λ input. IfSome (A.told answers.old store.old) (λ first.
         Ended A.machine result reader.limit (S.given source.new - S.given source.old) input
@@ -73,27 +77,29 @@ fn answer_all<D, A: Answers<D>, S: Source, K: Sink>(
         let Ok(reading) = reader.read_line(source) else {
             return Status::NoMemory;
         };
-        if let Err(status) = respond(answers, store, &reading, sink) {
+        if let Err(status) = respond(with, answers, store, &reading, sink) {
             return status;
         }
     }
 }
 
-/// Has each line of the source answered, in order, to its end: one reply a line, each written whole before the next
-/// line is answered. A line ends at LF or at the end of input, and a last part without bytes is no line. At most
-/// `limit` bytes are taken, and one more by which the run knows that there are more.
+/// Has each line of the source answered, in order, to its end, with what is lent for each: one reply a line, each written
+/// whole before the next line is answered. A line ends at LF or at the end of input, and a last part without bytes is no
+/// line. At most `limit` bytes are taken, and one more by which the run knows that there are more.
 ///
 /// `Ok`: the input was read to its end. `ReadFault`, `WriteFault`, `StoreFault`: the count of faults of the source, of
 /// the sink, of the store rose. `TooMuch`: one byte more than the limit was taken. `NoMemory`: out of memory. No other
 /// status comes.
-pub fn run_lines<D, A: Answers<D>, S: Source, K: Sink>(
+pub fn run_lines<W, D, A: Answers<W, D>, S: Source, K: Sink>(
     alloc: Global,
+    with: &W,
     answers: &mut A,
     store: &mut D,
     limit: u64,
     source: &mut S,
     sink: &mut K,
 ) -> Status
+    requires { A.can_lend with.now }
     ensures { Ran A.machine (answerer_told A.told A.faults answers.old store.old)
         (answerer_told A.told A.faults answers.new store.new) result (record {
           limit = limit;
@@ -104,7 +110,7 @@ pub fn run_lines<D, A: Answers<D>, S: Source, K: Sink>(
         }) }
 {
     match LineReader::new(alloc, limit) {
-        Ok(reader) => answer_all(reader, answers, store, source, sink),
+        Ok(reader) => answer_all(reader, with, answers, store, source, sink),
         Err(_) => Status::NoMemory,
     }
 }

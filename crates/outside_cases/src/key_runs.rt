@@ -37,21 +37,24 @@ impl Same {
     }
 }
 
-impl AnswersKeys<MemStore> for Same {
+impl AnswersKeys<(), MemStore> for Same {
     ghost Plain = { ⊤ };
 
     ghost told = { λ a store. None };
 
-    ghost machine = { record { after = λ key time p. p; saved = λ key time p. p; frame = λ p. codes "-" } };
+    ghost machine = { λ with. record { after = λ key time p. p; saved = λ key time p. p; frame = λ p. codes "-" } };
 
     ghost faults = { λ store. store.faults };
 
-    fn first_frame(&mut self, _store: &MemStore) -> Result<String, AllocError> {
+    ghost can_lend = { λ with. Unit {0} };
+
+    fn first_frame(&mut self, _with: &(), _store: &MemStore) -> Result<String, AllocError> {
         String::from_str(self.alloc, "-")
     }
 
     fn answer_key(
         &mut self,
+        _with: &(),
         key: Key,
         _time: i64,
         store: &mut MemStore,
@@ -106,7 +109,14 @@ fn over(
     let mut clock = MemClock::new(Vec::from_slice(alloc, &[5, 6, 7, 8])?);
     let mut same = Same { alloc };
     let status = run_keys(
-        alloc, &mut same, &mut store, case.limit, source, sink, &mut clock,
+        alloc,
+        &(),
+        &mut same,
+        &mut store,
+        case.limit,
+        source,
+        sink,
+        &mut clock,
     );
     Ok((status, clock.now()))
 }

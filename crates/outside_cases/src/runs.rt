@@ -19,7 +19,7 @@ impl Same {
     }
 }
 
-impl Answers<()> for Same {
+impl Answers<(), ()> for Same {
     ghost Plain = { ⊤ };
 
     ghost told = { λ a store. Some tt };
@@ -28,7 +28,9 @@ impl Answers<()> for Same {
 
     ghost faults = { λ store. 0 };
 
-    fn answer(&mut self, _line: &[u8], _store: &mut ()) -> Result<String, StoreFault> {
+    ghost can_lend = { λ with. Unit {0} };
+
+    fn answer(&mut self, _with: &(), _line: &[u8], _store: &mut ()) -> Result<String, StoreFault> {
         match self.reply() {
             Ok(reply) => Ok(reply),
             Err(_) => Err(StoreFault::NoMemory),
@@ -65,7 +67,15 @@ fn ends(
     let mut source = source(alloc, input.0, input.1)?;
     let mut sink = sink(alloc, failing_writes)?;
     let mut same = Same { alloc };
-    let status = run_lines(alloc, &mut same, &mut (), limit, &mut source, &mut sink);
+    let status = run_lines(
+        alloc,
+        &(),
+        &mut same,
+        &mut (),
+        limit,
+        &mut source,
+        &mut sink,
+    );
     Ok(status == want.0 && sink.bytes() == want.1)
 }
 

@@ -5,15 +5,15 @@ use Rattle.key_run.proofs.run.answer_all.Goals as goal
 
 pub returns-in-Err-clause-ended : goal.returns-in-Err-clause-ended
 returns-in-Err-clause-ended g c =
-    ended_of _ _ _ _ _ _ _ (ends_opening g.A.AnswersKeys.machine (g.S.Source.left c.args.source.now) (g.A.AnswersKeys.told c.args.answers.now c.args.store.now) (g.A.AnswersKeys.told c.open.new.answers c.args.store.now)
+    ended_of _ _ _ _ _ _ _ (ends_opening (g.A.AnswersKeys.machine c.args.with.now) (g.S.Source.left c.args.source.now) (g.A.AnswersKeys.told c.args.answers.now c.args.store.now) (g.A.AnswersKeys.told c.open.new.answers c.args.store.now)
     (g.C.Clock.coming c.args.clock.now) (g.K.Sink.held c.args.sink.now) (g.K.Sink.held c.open.new.sink) c.in-Err.status c.args.bytes.limit (g.S.Source.given c.args.source.now - g.S.Source.given c.args.source.now) (omega arith)
     c.in-Err.ensures.ends c.in-Err.ensures.responds)
 
 pub loop-byte-init : goal.loop-byte-init
 loop-byte-init g c =
-    let new = c.requires in
+    let new = c.requires.fresh in
     record {
-      typing = begins g.A.AnswersKeys.machine (g.S.Source.left c.args.source.now) (g.A.AnswersKeys.told c.args.answers.now c.args.store.now) (g.A.AnswersKeys.told c.open.new.answers c.args.store.now)
+      typing = begins (g.A.AnswersKeys.machine c.args.with.now) (g.S.Source.left c.args.source.now) (g.A.AnswersKeys.told c.args.answers.now c.args.store.now) (g.A.AnswersKeys.told c.open.new.answers c.args.store.now)
           (g.C.Clock.coming c.args.clock.now) (g.K.Sink.held c.args.sink.now) (g.K.Sink.held c.open.new.sink) c.new-keys.result c.args.bytes c.new-keys.ensures.start new c.in_default.ensures.responds;
       within = omega (arith, ap (λ (p : Progress). p.taken) new);
       limit = refl;
@@ -25,7 +25,7 @@ loop-byte-init g c =
 
 pub returns-in-End-clause-ended : goal.returns-in-End-clause-ended
 returns-in-End-clause-ended g c =
-    ended_of _ _ _ _ _ _ _ (ends_at_end g.A.AnswersKeys.machine (g.S.Source.left c.args.source.now) (g.S.Source.left c.loop-byte.source) (g.S.Source.left c.read_byte.new.source) (record {
+    ended_of _ _ _ _ _ _ _ (ends_at_end (g.A.AnswersKeys.machine c.args.with.now) (g.S.Source.left c.args.source.now) (g.S.Source.left c.loop-byte.source) (g.S.Source.left c.read_byte.new.source) (record {
       first = g.A.AnswersKeys.told c.args.answers.now c.args.store.now;
       now = g.A.AnswersKeys.told c.loop-byte.answers c.loop-byte.store;
       times = g.C.Clock.coming c.args.clock.now;
@@ -37,7 +37,7 @@ returns-in-End-clause-ended g c =
 
 pub returns-in-End-clause-gave : goal.returns-in-End-clause-gave
 returns-in-End-clause-gave g c =
-    gave_of _ _ _ _ _ _ _ (ends_at_end g.A.AnswersKeys.machine (g.S.Source.left c.args.source.now) (g.S.Source.left c.loop-byte.source) (g.S.Source.left c.read_byte.new.source) (record {
+    gave_of _ _ _ _ _ _ _ (ends_at_end (g.A.AnswersKeys.machine c.args.with.now) (g.S.Source.left c.args.source.now) (g.S.Source.left c.loop-byte.source) (g.S.Source.left c.read_byte.new.source) (record {
       first = g.A.AnswersKeys.told c.args.answers.now c.args.store.now;
       now = g.A.AnswersKeys.told c.loop-byte.answers c.loop-byte.store;
       times = g.C.Clock.coming c.args.clock.now;
@@ -49,7 +49,7 @@ returns-in-End-clause-gave g c =
 
 pub returns-in-End-clause-clock : goal.returns-in-End-clause-clock
 returns-in-End-clause-clock g c =
-    clock_of _ _ _ _ _ _ _ (ends_at_end g.A.AnswersKeys.machine (g.S.Source.left c.args.source.now) (g.S.Source.left c.loop-byte.source) (g.S.Source.left c.read_byte.new.source) (record {
+    clock_of _ _ _ _ _ _ _ (ends_at_end (g.A.AnswersKeys.machine c.args.with.now) (g.S.Source.left c.args.source.now) (g.S.Source.left c.loop-byte.source) (g.S.Source.left c.read_byte.new.source) (record {
       first = g.A.AnswersKeys.told c.args.answers.now c.args.store.now;
       now = g.A.AnswersKeys.told c.loop-byte.answers c.loop-byte.store;
       times = g.C.Clock.coming c.args.clock.now;
@@ -61,7 +61,7 @@ returns-in-End-clause-clock g c =
 
 pub returns-in-Failed-clause-ended : goal.returns-in-Failed-clause-ended
 returns-in-Failed-clause-ended g c =
-    ended_of _ _ _ _ _ _ _ (ends_at_fault g.A.AnswersKeys.machine (g.S.Source.left c.args.source.now) (g.S.Source.left c.loop-byte.source) (g.S.Source.left c.read_byte.new.source) (record {
+    ended_of _ _ _ _ _ _ _ (ends_at_fault (g.A.AnswersKeys.machine c.args.with.now) (g.S.Source.left c.args.source.now) (g.S.Source.left c.loop-byte.source) (g.S.Source.left c.read_byte.new.source) (record {
       first = g.A.AnswersKeys.told c.args.answers.now c.args.store.now;
       now = g.A.AnswersKeys.told c.loop-byte.answers c.loop-byte.store;
       times = g.C.Clock.coming c.args.clock.now;
@@ -73,7 +73,7 @@ returns-in-Failed-clause-ended g c =
 
 pub returns-in-Failed-clause-gave : goal.returns-in-Failed-clause-gave
 returns-in-Failed-clause-gave g c =
-    gave_of _ _ _ _ _ _ _ (ends_at_fault g.A.AnswersKeys.machine (g.S.Source.left c.args.source.now) (g.S.Source.left c.loop-byte.source) (g.S.Source.left c.read_byte.new.source) (record {
+    gave_of _ _ _ _ _ _ _ (ends_at_fault (g.A.AnswersKeys.machine c.args.with.now) (g.S.Source.left c.args.source.now) (g.S.Source.left c.loop-byte.source) (g.S.Source.left c.read_byte.new.source) (record {
       first = g.A.AnswersKeys.told c.args.answers.now c.args.store.now;
       now = g.A.AnswersKeys.told c.loop-byte.answers c.loop-byte.store;
       times = g.C.Clock.coming c.args.clock.now;
@@ -85,7 +85,7 @@ returns-in-Failed-clause-gave g c =
 
 pub returns-in-Failed-clause-clock : goal.returns-in-Failed-clause-clock
 returns-in-Failed-clause-clock g c =
-    clock_of _ _ _ _ _ _ _ (ends_at_fault g.A.AnswersKeys.machine (g.S.Source.left c.args.source.now) (g.S.Source.left c.loop-byte.source) (g.S.Source.left c.read_byte.new.source) (record {
+    clock_of _ _ _ _ _ _ _ (ends_at_fault (g.A.AnswersKeys.machine c.args.with.now) (g.S.Source.left c.args.source.now) (g.S.Source.left c.loop-byte.source) (g.S.Source.left c.read_byte.new.source) (record {
       first = g.A.AnswersKeys.told c.args.answers.now c.args.store.now;
       now = g.A.AnswersKeys.told c.loop-byte.answers c.loop-byte.store;
       times = g.C.Clock.coming c.args.clock.now;
@@ -97,7 +97,7 @@ returns-in-Failed-clause-clock g c =
 
 pub returns-in-Budget-clause-ended : goal.returns-in-Budget-clause-ended
 returns-in-Budget-clause-ended g c =
-    ended_of _ _ _ _ _ _ _ (ends_past g.A.AnswersKeys.machine (g.S.Source.left c.args.source.now) (g.S.Source.left c.loop-byte.source) (g.S.Source.left c.read_byte.new.source) (record {
+    ended_of _ _ _ _ _ _ _ (ends_past (g.A.AnswersKeys.machine c.args.with.now) (g.S.Source.left c.args.source.now) (g.S.Source.left c.loop-byte.source) (g.S.Source.left c.read_byte.new.source) (record {
       first = g.A.AnswersKeys.told c.args.answers.now c.args.store.now;
       now = g.A.AnswersKeys.told c.loop-byte.answers c.loop-byte.store;
       times = g.C.Clock.coming c.args.clock.now;
@@ -109,7 +109,7 @@ returns-in-Budget-clause-ended g c =
 
 pub returns-in-Budget-clause-gave : goal.returns-in-Budget-clause-gave
 returns-in-Budget-clause-gave g c =
-    gave_of _ _ _ _ _ _ _ (ends_past g.A.AnswersKeys.machine (g.S.Source.left c.args.source.now) (g.S.Source.left c.loop-byte.source) (g.S.Source.left c.read_byte.new.source) (record {
+    gave_of _ _ _ _ _ _ _ (ends_past (g.A.AnswersKeys.machine c.args.with.now) (g.S.Source.left c.args.source.now) (g.S.Source.left c.loop-byte.source) (g.S.Source.left c.read_byte.new.source) (record {
       first = g.A.AnswersKeys.told c.args.answers.now c.args.store.now;
       now = g.A.AnswersKeys.told c.loop-byte.answers c.loop-byte.store;
       times = g.C.Clock.coming c.args.clock.now;
@@ -121,7 +121,7 @@ returns-in-Budget-clause-gave g c =
 
 pub returns-in-Budget-clause-clock : goal.returns-in-Budget-clause-clock
 returns-in-Budget-clause-clock g c =
-    clock_of _ _ _ _ _ _ _ (ends_past g.A.AnswersKeys.machine (g.S.Source.left c.args.source.now) (g.S.Source.left c.loop-byte.source) (g.S.Source.left c.read_byte.new.source) (record {
+    clock_of _ _ _ _ _ _ _ (ends_past (g.A.AnswersKeys.machine c.args.with.now) (g.S.Source.left c.args.source.now) (g.S.Source.left c.loop-byte.source) (g.S.Source.left c.read_byte.new.source) (record {
       first = g.A.AnswersKeys.told c.args.answers.now c.args.store.now;
       now = g.A.AnswersKeys.told c.loop-byte.answers c.loop-byte.store;
       times = g.C.Clock.coming c.args.clock.now;
@@ -133,7 +133,7 @@ returns-in-Budget-clause-clock g c =
 
 pub returns-in-Budget-clause-complete : goal.returns-in-Budget-clause-complete
 returns-in-Budget-clause-complete g c =
-    λ _ _ _. past_completes _ _ _ _ _ _ (ends_past g.A.AnswersKeys.machine (g.S.Source.left c.args.source.now) (g.S.Source.left c.loop-byte.source) (g.S.Source.left c.read_byte.new.source) (record {
+    λ _ _ _. past_completes _ _ _ _ _ _ (ends_past (g.A.AnswersKeys.machine c.args.with.now) (g.S.Source.left c.args.source.now) (g.S.Source.left c.loop-byte.source) (g.S.Source.left c.read_byte.new.source) (record {
       first = g.A.AnswersKeys.told c.args.answers.now c.args.store.now;
       now = g.A.AnswersKeys.told c.loop-byte.answers c.loop-byte.store;
       times = g.C.Clock.coming c.args.clock.now;
@@ -145,7 +145,7 @@ returns-in-Budget-clause-complete g c =
 
 pub returns-in-Err-press-clause-ended : goal.returns-in-Err-press-clause-ended
 returns-in-Err-press-clause-ended g c =
-    ended_of _ _ _ _ _ _ _ (ends_at_key g.A.AnswersKeys.machine (g.S.Source.left c.args.source.now) (g.S.Source.left c.read_byte.new.source) (record {
+    ended_of _ _ _ _ _ _ _ (ends_at_key (g.A.AnswersKeys.machine c.args.with.now) (g.S.Source.left c.args.source.now) (g.S.Source.left c.read_byte.new.source) (record {
       first = g.A.AnswersKeys.told c.args.answers.now c.args.store.now;
       now = g.A.AnswersKeys.told c.loop-byte.answers c.loop-byte.store;
       times = g.C.Clock.coming c.args.clock.now;
@@ -154,7 +154,7 @@ returns-in-Err-press-clause-ended g c =
       held_now = g.K.Sink.held c.loop-byte.sink;
     })
     (g.A.AnswersKeys.told c.press.new.answers c.press.new.store) (g.C.Clock.coming c.press.new.clock) (g.K.Sink.held c.press.new.sink) c.in-Some.key c.feed-key.new.self c.read_byte.new.self c.in-Err-press.status c.args.bytes.limit (g.S.Source.given c.read_byte.new.source - g.S.Source.given c.args.source.now)
-    (byte_more g.A.AnswersKeys.machine (g.S.Source.left c.args.source.now) (g.S.Source.left c.loop-byte.source) (g.S.Source.left c.read_byte.new.source) (record {
+    (byte_more (g.A.AnswersKeys.machine c.args.with.now) (g.S.Source.left c.args.source.now) (g.S.Source.left c.loop-byte.source) (g.S.Source.left c.read_byte.new.source) (record {
       first = g.A.AnswersKeys.told c.args.answers.now c.args.store.now;
       now = g.A.AnswersKeys.told c.loop-byte.answers c.loop-byte.store;
       times = g.C.Clock.coming c.args.clock.now;
@@ -167,7 +167,7 @@ returns-in-Err-press-clause-ended g c =
 
 pub returns-in-Err-press-clause-gave : goal.returns-in-Err-press-clause-gave
 returns-in-Err-press-clause-gave g c =
-    gave_of _ _ _ _ _ _ _ (ends_at_key g.A.AnswersKeys.machine (g.S.Source.left c.args.source.now) (g.S.Source.left c.read_byte.new.source) (record {
+    gave_of _ _ _ _ _ _ _ (ends_at_key (g.A.AnswersKeys.machine c.args.with.now) (g.S.Source.left c.args.source.now) (g.S.Source.left c.read_byte.new.source) (record {
       first = g.A.AnswersKeys.told c.args.answers.now c.args.store.now;
       now = g.A.AnswersKeys.told c.loop-byte.answers c.loop-byte.store;
       times = g.C.Clock.coming c.args.clock.now;
@@ -176,7 +176,7 @@ returns-in-Err-press-clause-gave g c =
       held_now = g.K.Sink.held c.loop-byte.sink;
     })
     (g.A.AnswersKeys.told c.press.new.answers c.press.new.store) (g.C.Clock.coming c.press.new.clock) (g.K.Sink.held c.press.new.sink) c.in-Some.key c.feed-key.new.self c.read_byte.new.self c.in-Err-press.status c.args.bytes.limit (g.S.Source.given c.read_byte.new.source - g.S.Source.given c.args.source.now)
-    (byte_more g.A.AnswersKeys.machine (g.S.Source.left c.args.source.now) (g.S.Source.left c.loop-byte.source) (g.S.Source.left c.read_byte.new.source) (record {
+    (byte_more (g.A.AnswersKeys.machine c.args.with.now) (g.S.Source.left c.args.source.now) (g.S.Source.left c.loop-byte.source) (g.S.Source.left c.read_byte.new.source) (record {
       first = g.A.AnswersKeys.told c.args.answers.now c.args.store.now;
       now = g.A.AnswersKeys.told c.loop-byte.answers c.loop-byte.store;
       times = g.C.Clock.coming c.args.clock.now;
@@ -189,7 +189,7 @@ returns-in-Err-press-clause-gave g c =
 
 pub returns-in-Err-press-clause-clock : goal.returns-in-Err-press-clause-clock
 returns-in-Err-press-clause-clock g c =
-    clock_of _ _ _ _ _ _ _ (ends_at_key g.A.AnswersKeys.machine (g.S.Source.left c.args.source.now) (g.S.Source.left c.read_byte.new.source) (record {
+    clock_of _ _ _ _ _ _ _ (ends_at_key (g.A.AnswersKeys.machine c.args.with.now) (g.S.Source.left c.args.source.now) (g.S.Source.left c.read_byte.new.source) (record {
       first = g.A.AnswersKeys.told c.args.answers.now c.args.store.now;
       now = g.A.AnswersKeys.told c.loop-byte.answers c.loop-byte.store;
       times = g.C.Clock.coming c.args.clock.now;
@@ -198,7 +198,7 @@ returns-in-Err-press-clause-clock g c =
       held_now = g.K.Sink.held c.loop-byte.sink;
     })
     (g.A.AnswersKeys.told c.press.new.answers c.press.new.store) (g.C.Clock.coming c.press.new.clock) (g.K.Sink.held c.press.new.sink) c.in-Some.key c.feed-key.new.self c.read_byte.new.self c.in-Err-press.status c.args.bytes.limit (g.S.Source.given c.read_byte.new.source - g.S.Source.given c.args.source.now)
-    (byte_more g.A.AnswersKeys.machine (g.S.Source.left c.args.source.now) (g.S.Source.left c.loop-byte.source) (g.S.Source.left c.read_byte.new.source) (record {
+    (byte_more (g.A.AnswersKeys.machine c.args.with.now) (g.S.Source.left c.args.source.now) (g.S.Source.left c.loop-byte.source) (g.S.Source.left c.read_byte.new.source) (record {
       first = g.A.AnswersKeys.told c.args.answers.now c.args.store.now;
       now = g.A.AnswersKeys.told c.loop-byte.answers c.loop-byte.store;
       times = g.C.Clock.coming c.args.clock.now;
@@ -212,7 +212,7 @@ returns-in-Err-press-clause-clock g c =
 pub loop-byte-preserved-in_default-press : goal.loop-byte-preserved-in_default-press
 loop-byte-preserved-in_default-press g c =
     record {
-      typing = key_more g.A.AnswersKeys.machine (g.S.Source.left c.args.source.now) (g.S.Source.left c.read_byte.new.source) (record {
+      typing = key_more (g.A.AnswersKeys.machine c.args.with.now) (g.S.Source.left c.args.source.now) (g.S.Source.left c.read_byte.new.source) (record {
         first = g.A.AnswersKeys.told c.args.answers.now c.args.store.now;
         now = g.A.AnswersKeys.told c.loop-byte.answers c.loop-byte.store;
         times = g.C.Clock.coming c.args.clock.now;
@@ -220,7 +220,7 @@ loop-byte-preserved-in_default-press g c =
         held = g.K.Sink.held c.args.sink.now;
         held_now = g.K.Sink.held c.loop-byte.sink;
       })
-          (g.A.AnswersKeys.told c.press.new.answers c.press.new.store) (g.C.Clock.coming c.press.new.clock) (g.K.Sink.held c.press.new.sink) c.in-Some.key c.feed-key.new.self c.read_byte.new.self (byte_more g.A.AnswersKeys.machine (g.S.Source.left c.args.source.now) (g.S.Source.left c.loop-byte.source) (g.S.Source.left c.read_byte.new.source) (record {
+          (g.A.AnswersKeys.told c.press.new.answers c.press.new.store) (g.C.Clock.coming c.press.new.clock) (g.K.Sink.held c.press.new.sink) c.in-Some.key c.feed-key.new.self c.read_byte.new.self (byte_more (g.A.AnswersKeys.machine c.args.with.now) (g.S.Source.left c.args.source.now) (g.S.Source.left c.loop-byte.source) (g.S.Source.left c.read_byte.new.source) (record {
             first = g.A.AnswersKeys.told c.args.answers.now c.args.store.now;
             now = g.A.AnswersKeys.told c.loop-byte.answers c.loop-byte.store;
             times = g.C.Clock.coming c.args.clock.now;
@@ -241,7 +241,7 @@ loop-byte-preserved-in_default-press g c =
 pub loop-byte-preserved : goal.loop-byte-preserved
 loop-byte-preserved g c =
     record {
-      typing = (byte_more g.A.AnswersKeys.machine (g.S.Source.left c.args.source.now) (g.S.Source.left c.loop-byte.source) (g.S.Source.left c.read_byte.new.source) (record {
+      typing = (byte_more (g.A.AnswersKeys.machine c.args.with.now) (g.S.Source.left c.args.source.now) (g.S.Source.left c.loop-byte.source) (g.S.Source.left c.read_byte.new.source) (record {
         first = g.A.AnswersKeys.told c.args.answers.now c.args.store.now;
         now = g.A.AnswersKeys.told c.loop-byte.answers c.loop-byte.store;
         times = g.C.Clock.coming c.args.clock.now;

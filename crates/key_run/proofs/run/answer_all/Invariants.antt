@@ -5,7 +5,7 @@ use Rattle.key_run.proofs.run.answer_all.Given as goal
 
 abbrev pub invariant-loop-byte : goal.invariant-loop-byte
 invariant-loop-byte g l = record {
-  typing : IfSome (g.S.Source.left l.fn.source) (λ input. Typing g.A.AnswersKeys.machine input (g.S.Source.left l.source) (record {
+  typing : IfSome (g.S.Source.left l.fn.source) (λ input. Typing (g.A.AnswersKeys.machine l.fn.with) input (g.S.Source.left l.source) (record {
     first = g.A.AnswersKeys.told l.fn.answers l.fn.store;
     now = g.A.AnswersKeys.told l.answers l.store;
     times = g.C.Clock.coming l.fn.clock;
