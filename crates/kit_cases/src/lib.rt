@@ -7,4 +7,8 @@ mod kit;
 #[cfg(test)]
 mod more;
 #[cfg(test)]
+mod more_kit;
+#[cfg(test)]
+mod more_rules;
+#[cfg(test)]
 mod views;

@@ -9,6 +9,10 @@ use std::rc::Rc;
 /// The greatest number of ranges of a chunk.
 pub(crate) const MAX_RANGES: usize = 128;
 
+/// The greatest number of ranges of a small chunk. No run of more ranges is cut into small chunks, and an update joins a small one
+/// with what it touches beside it.
+pub(crate) const FEW: usize = 32;
+
 /// Up to 128 ranges in order, whose places count from the start of the first.
 #[derive(Drop)]
 pub(crate) struct Chunk<T> {

@@ -1,7 +1,7 @@
-ghost use Rattle.std.specs.Prelude.{IfOk, [], ◌++◌, ◌+◌, ◌∷◌, ◌≡◌, ◌≤◌, ◌<◌, ◌^◌, length, map};
+ghost use Rattle.std.specs.Prelude.{IfOk, false, [], ◌++◌, ◌+◌, ◌∷◌, ◌≡◌, ◌≤◌, ◌<◌, ◌^◌, length, map};
 ghost use Rattle.range_set.specs.PrivateChunks.{AreChunks, AreSound, BeginBy, IsBuilder, IsChunk, built, flat, shift};
 
-use crate::chunk::{Chunk, MAX_RANGES, Placed};
+use crate::chunk::{Chunk, FEW, MAX_RANGES, Placed};
 use crate::range_value::RangeValue;
 use crate::ranged::Ranged;
 use std::alloc::{AllocError, Global};
@@ -31,8 +31,8 @@ impl<T: RangeValue> ChunkBuilder<T> {
         }
     }
 
-    /// Puts a range after the others. `Err`: out of memory.
-    pub(crate) fn push(&mut self, range: Ranged<T>) -> Result<(), AllocError>
+    /// Puts a range after the others, the first of `left` that are still to come of a run. `Err`: out of memory.
+    pub(crate) fn push(&mut self, range: Ranged<T>, left: usize) -> Result<(), AllocError>
         requires builder { IsBuilder T.rules self.old }
         requires room { length (built self.old) + 1 < 2 ^ 64 }
         requires after { BeginBy range.from (built self.old) }
@@ -40,14 +40,15 @@ impl<T: RangeValue> ChunkBuilder<T> {
         ensures builder { IfOk result (λ _. IsBuilder T.rules self.new) }
         ensures ranges { IfOk result (λ _. built self.new ≡ built self.old ++ range ∷ []) }
     {
-        self.make_room(range.from)?;
+        self.make_room(range.from, left)?;
         self.growing.put(self.start, range)?;
         self.len += 1;
         Ok(())
     }
 
-    /// Makes the growing chunk one that a range can be put into that begins at `from`. `Err`: out of memory.
-    fn make_room(&mut self, from: u32) -> Result<(), AllocError>
+    /// Makes the growing chunk one that a range can be put into that begins at `from`, the first of `left` that are still to
+    /// come of a run. `Err`: out of memory.
+    fn make_room(&mut self, from: u32, left: usize) -> Result<(), AllocError>
         requires builder { IsBuilder T.rules self.old }
         requires after { BeginBy from (built self.old) }
         ensures builder { IfOk result (λ _. IsBuilder T.rules self.new) }
@@ -56,7 +57,7 @@ impl<T: RangeValue> ChunkBuilder<T> {
         ensures after { IfOk result (λ _. self.new.start ≤ from) }
         ensures first { IfOk result (λ _. self.new.growing.ranges.items ≡ [] → from ≡ self.new.start) }
     {
-        if self.growing.ranges.len() == MAX_RANGES {
+        if is_full(self.growing.ranges.len(), left) {
             seal(&mut self.done, self.start, &mut self.growing)?;
             self.start = from;
         } else if self.growing.ranges.is_empty() {
@@ -95,6 +96,15 @@ impl<T: RangeValue> ChunkBuilder<T> {
     }
 }
 
+/// Whether a chunk of `len` ranges grows no more, where `left` are still to come of its run: it has the most that a chunk may have,
+/// or half of those that would make one such chunk and a small one.
+fn is_full(len: usize, left: usize) -> bool
+    requires { len ≤ 128 }
+    ensures { result ≡ false → len < 128 }
+{
+    len == MAX_RANGES || (left <= len && len + left > MAX_RANGES && len + left <= MAX_RANGES + FEW)
+}
+
 /// Ends the growing chunk, if it has ranges, and begins one without ranges. `Err`: out of memory.
 fn seal<T: RangeValue>(
     done: &mut Vec<Placed<T>>,
@@ -108,11 +118,11 @@ fn seal<T: RangeValue>(
     ensures opened { IfOk result (λ _. IsChunk T.rules start growing.new) }
     ensures empty { IfOk result (λ _. growing.new.ranges.items ≡ []) }
 {
-    let alloc = *done.allocator();
-    let chunk = mem::replace(growing, Chunk::empty(alloc));
-    if chunk.ranges.is_empty() {
+    if growing.ranges.is_empty() {
         return Ok(());
     }
+    let alloc = *done.allocator();
+    let chunk = mem::replace(growing, Chunk::empty(alloc));
     done.push(Placed {
         start,
         chunk: Rc::new(alloc, chunk)?,

@@ -58,7 +58,7 @@ impl<'a, T: RangeValue> Iter<'a, T> {
     }
 
     /// Passes over chunks that come next and have no range that stands for what it covers.
-    pub(crate) fn pass_marks(&mut self)
+    pub(crate) fn pass_without_point(&mut self)
         ensures kept { points_of T.rules self.new ≡ points_of T.rules self.old }
         ensures fewer { length self.new ≤ length self.old }
     {

@@ -141,13 +141,16 @@ pub(crate) fn put_sorted<T: RangeValue>(
     ensures ranges { IfOk result (λ _. built builder.new ≡ built builder.old ++ stable_sort (before T.rules) run.old.items) }
     ensures none { IfOk result (λ _. run.new.items ≡ []) }
 {
+    if run.is_empty() {
+        return Ok(());
+    }
     let alloc = *run.allocator();
     let mut ranges = mem::replace(run, Vec::new(alloc));
     sort_stably(&mut ranges)?;
     put_all(ranges, builder)
 }
 
-/// Puts ranges in order after those of a builder. `Err`: out of memory.
+/// Puts a run of ranges in order after those of a builder. `Err`: out of memory.
 pub(crate) fn put_all<T: RangeValue>(
     ranges: Vec<Ranged<T>>,
     builder: &mut ChunkBuilder<T>,
@@ -159,8 +162,10 @@ pub(crate) fn put_all<T: RangeValue>(
     ensures builder { IfOk result (λ _. IsBuilder T.rules builder.new) }
     ensures ranges { IfOk result (λ _. built builder.new ≡ built builder.old ++ ranges.items) }
 {
+    let mut left = ranges.len();
     for range in ranges {
-        builder.push(range)?;
+        builder.push(range, left)?;
+        left -= 1;
     }
     Ok(())
 }

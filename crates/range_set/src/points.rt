@@ -43,7 +43,7 @@ impl<'a, T: RangeValue> Iterator for Points<'a, T> {
 
     fn next(&mut self) -> Option<RangeRef<'a, T>> {
         loop {
-            self.ranges.pass_marks();
+            self.ranges.pass_without_point();
             let range = self.ranges.next()?;
             if range.value.is_point() {
                 return Some(range);

@@ -82,7 +82,8 @@ impl<T: RangeValue> RangeSet<T> {
         Between::among(Iter::over(self.chunks.as_slice()), from, to)
     }
 
-    /// The ranges that stand for what they cover, in order; it costs these and the chunks.
+    /// The ranges that stand for what they cover, in order. Chunks without one are passed over whole; of the others each range
+    /// is looked at.
     pub fn points(&self) -> Points<'_, T>
         ensures { result ≡ points_of T.rules self.now }
     {
@@ -96,7 +97,7 @@ impl<T: RangeValue> RangeSet<T> {
         self.len
     }
 
-    /// What may be relied on in a set: it stands in order, and both ends of each range fit u32.
+    /// What may be relied on in a set: it stands in order, and both ends of each range fit u32. It does nothing when it runs.
     pub fn known(&self)
         ensures order { first_fault T.rules self.now ≡ None }
         ensures fit { EndWithin 4294967295 self.now }
@@ -130,8 +131,9 @@ impl<T: RangeValue> RangeSet<T> {
 
     /// The ranges that `keep` allows and those of `add`, the old ones first where they tie (RangeSet.update). `keep` is asked
     /// of ranges as `iter` lends them, of some twice. A chunk whose ranges it allows, and among which no range of `add`
-    /// belongs, is shared; of the others the values that stay are copied. `Err`: the first range of `add` that ends before it
-    /// starts or belongs before the one before it; or out of memory.
+    /// belongs, is shared, unless it has few ranges and what changes is beside it; of the others the values that stay are
+    /// copied. `Err`: the first range of `add` that ends before it starts or belongs before the one before it; or out of
+    /// memory.
     pub fn update<F: Fn(&RangeRef<'_, T>) -> bool>(
         &self,
         add: Vec<Ranged<T>>,

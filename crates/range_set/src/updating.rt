@@ -4,7 +4,7 @@ ghost use Rattle.range_set.specs.PrivateChunks.{AreChunks, AreSound, IsChunk, fl
 ghost use Rattle.range_set.specs.PrivateUpdates.{IsBeyond, KeepsPart, TakesBefore};
 ghost use Rattle.range_set.specs.Updating.{AnswersAs, updated};
 
-use crate::chunk::Placed;
+use crate::chunk::{FEW, MAX_RANGES, Placed};
 use crate::chunk_builder::ChunkBuilder;
 use crate::moving::put_sorted;
 use crate::range_ref::RangeRef;
@@ -14,8 +14,8 @@ use std::alloc::{AllocError, Global};
 use std::collections::VecDeque;
 
 /// The chunks of the ranges of others that a test allows and of added ones, which stand in order, and how many ranges they have.
-/// A chunk of more than a few ranges, all of which stay and among which no added one belongs, is shared; of the others the
-/// ranges that stay are copied. `Err`: out of memory.
+/// A chunk whose ranges all stay, and among which no added one belongs, is shared, unless it is a small one beside what is
+/// touched; of the others the ranges that stay are copied. `Err`: out of memory.
 pub(crate) fn updated_chunks<T: RangeValue, F: Fn(&RangeRef<'_, T>) -> bool>(
     alloc: Global,
     chunks: &[Placed<T>],
@@ -34,9 +34,12 @@ pub(crate) fn updated_chunks<T: RangeValue, F: Fn(&RangeRef<'_, T>) -> bool>(
     let mut added = VecDeque::from_vec(add);
     let mut builder = ChunkBuilder::new(alloc);
     let mut run = Vec::new(alloc);
+    let mut following = chunks.iter();
+    let _ = following.next();
     for placed in chunks {
+        let next = following.next();
         take_before(placed, &mut added, &mut run)?;
-        if is_beyond(placed, &added) && stays_whole(placed, keep) {
+        if is_apart(placed, &run, &added, next) && stays_whole(placed, keep) {
             put_sorted(&mut run, &mut builder)?;
             builder.share(placed.start, &placed.chunk)?;
         } else {
@@ -81,6 +84,40 @@ fn take_before<T: RangeValue>(
     Ok(())
 }
 
+/// Whether a chunk stays apart from added ranges: none belongs before its last one, and it isn't joined with what is touched.
+fn is_apart<T: RangeValue>(
+    placed: &Placed<T>,
+    run: &[Ranged<T>],
+    added: &VecDeque<Ranged<T>>,
+    next: Option<&Placed<T>>,
+) -> bool
+    requires { IsChunk T.rules placed.now.start placed.now.chunk.value }
+    ensures { IsTrue result → IsBeyond T.rules (map (shift placed.now.start) placed.now.chunk.value.ranges.items) added.now.items }
+{
+    is_beyond(placed, added) && !is_joined(placed, run, added, next)
+}
+
+/// Whether a chunk is a small one, and ranges of a run that isn't a full chunk stand before it, or an added range belongs after it
+/// and by the end of the next chunk. No contract speaks of this: it only decides which chunks are shared.
+fn is_joined<T: RangeValue>(
+    placed: &Placed<T>,
+    run: &[Ranged<T>],
+    added: &VecDeque<Ranged<T>>,
+    next: Option<&Placed<T>>,
+) -> bool {
+    let is_open = !run.is_empty() && run.len() < MAX_RANGES;
+    placed.chunk.ranges.len() <= FEW && (is_open || is_within_next(added, next))
+}
+
+/// Whether there is an added range, and it begins by the end of the next chunk or there is none.
+fn is_within_next<T: RangeValue>(added: &VecDeque<Ranged<T>>, next: Option<&Placed<T>>) -> bool {
+    match (added.front(), next) {
+        (Some(range), Some(next)) => range.from.saturating_sub(next.start) <= next.chunk.reach,
+        (Some(_), None) => true,
+        (None, _) => false,
+    }
+}
+
 /// Whether no added range belongs before the last of a chunk.
 fn is_beyond<T: RangeValue>(placed: &Placed<T>, added: &VecDeque<Ranged<T>>) -> bool
     requires { IsChunk T.rules placed.now.start placed.now.chunk.value }
@@ -92,18 +129,12 @@ fn is_beyond<T: RangeValue>(placed: &Placed<T>, added: &VecDeque<Ranged<T>>) -> 
     }
 }
 
-/// How many ranges are few: a chunk of so many isn't shared by an update, so that small chunks go into one with what comes next.
-const FEW: usize = 32;
-
-/// Whether a chunk of more than a few ranges stays whole: a test allows each of them.
+/// Whether a chunk stays whole: a test allows each of its ranges.
 fn stays_whole<T: RangeValue, F: Fn(&RangeRef<'_, T>) -> bool>(placed: &Placed<T>, keep: &F) -> bool
     requires callable { F.IsAlwaysCallable keep.now }
     requires chunk { IsChunk T.rules placed.now.start placed.now.chunk.value }
     ensures { (p : _) → AnswersAs F.Fn keep.now p → IsTrue result → filter p (map (shift placed.now.start) placed.now.chunk.value.ranges.items) ≡ map (shift placed.now.start) placed.now.chunk.value.ranges.items }
 {
-    if placed.chunk.ranges.len() <= FEW {
-        return false;
-    }
     for range in &placed.chunk.ranges {
         let range = RangeRef {
             from: range.from + placed.start,

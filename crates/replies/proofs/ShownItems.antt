@@ -1,5 +1,5 @@
 -- The items of a list of plain data: they are less deep than the list, and are written one after the other.
-use Rattle.std.proofs.Common.{◌≡◌, ◌<◌, ◌≤◌, ◌+◌, ◌∙◌, ℕ, zero, suc, List, [], ◌∷◌, length, map, take, take_all, get_or, refl, sym, ap, arith}
+use Rattle.std.proofs.Common.{◌≡◌, ◌<◌, ◌≤◌, ◌∙◌, ℕ, zero, suc, List, [], ◌∷◌, length, map, take, take_all, get_or, refl, sym, ap, arith}
 use Rattle.cm_plain.specs.Datum.{Datum, data_of, depth, deepest}
 use Rattle.cm_plain.specs.Plain.{datum_of}
 use Rattle.cm_plain.specs.declared.plain.Plain.{Plain}

@@ -1,4 +1,5 @@
 pub mod Objects
+pub mod Scalars
 pub mod Refusals
 pub mod Shown
 pub mod Screens

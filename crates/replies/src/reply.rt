@@ -4,23 +4,18 @@ ghost use Rattle.replies.specs.Replies.{reply_data, reply_text};
 
 use crate::answer::{Answer, Reply};
 use crate::answer_values::answer_value;
+use crate::objects::single;
 use crate::refusal_values::refusal_value;
 use itoa::Buffer;
-use serde_json::{Value, json};
+use serde_json::Value;
 use std::alloc::{AllocError, Global};
 
 fn reply_value(alloc: Global, reply: &Reply) -> Result<Value, AllocError>
     ensures { IfOk result (λ v. view v ≡ reply_data reply.now) }
 {
     match reply {
-        Reply::Ok(answer) => {
-            let answer = answer_value(alloc, answer)?;
-            json!(in alloc; {"ok": answer})
-        }
-        Reply::No(refusal) => {
-            let refusal = refusal_value(alloc, refusal)?;
-            json!(in alloc; {"no": refusal})
-        }
+        Reply::Ok(answer) => single(alloc, "ok", answer_value(alloc, answer)?),
+        Reply::No(refusal) => single(alloc, "no", refusal_value(alloc, refusal)?),
     }
 }
 

@@ -1,51 +1,42 @@
-ghost use Rattle.std.specs.Prelude.{◌≡◌, IfOk, map};
-ghost use Rattle.serde_json.specs.Data.{array};
-ghost use Rattle.serde_json.specs.View.{items_of, view};
+ghost use Rattle.std.specs.Prelude.{◌≡◌, IfOk};
+ghost use Rattle.serde_json.specs.View.{view};
 ghost use Rattle.replies.specs.Screens.{cursor_data, row_data, run_data, screen_data};
 
+use crate::objects::with_member;
+use crate::scalar::Scalar::{Text, U32};
 use crate::shown_screen::{ShownCursor, ShownRun, ShownScreen};
+use crate::written::{Written, list_value};
 use listed::Listed;
-use serde_json::{Value, json};
+use serde_json::{Map, Value};
 use std::alloc::{AllocError, Global};
 
-fn run_value(alloc: Global, run: &ShownRun) -> Result<Value, AllocError>
-    ensures { IfOk result (λ v. view v ≡ run_data run.now) }
-{
-    let text = run.text.text()?;
-    let codes = run.codes.text()?;
-    json!(in alloc; [text.as_str(), codes.as_str()])
-}
+impl Written for ShownRun {
+    ghost as_data = { run_data };
 
-fn row_value(alloc: Global, runs: &[ShownRun]) -> Result<Value, AllocError>
-    ensures { IfOk result (λ v. view v ≡ row_data runs.now) }
-{
-    let mut values = Vec::with_capacity(alloc, runs.len())?;
-    for run in runs {
-        values.push(run_value(alloc, run)?)?;
+    fn value(&self, alloc: Global) -> Result<Value, AllocError> {
+        list_value(alloc, &[Text(&self.text), Text(&self.codes)])
     }
-    Ok(Value::Array(values))
 }
 
-fn rows_value(alloc: Global, rows: &[Listed<ShownRun>]) -> Result<Value, AllocError>
-    ensures { IfOk result (λ v. view v ≡ array (items_of (map row_data rows.now))) }
-{
-    let mut values = Vec::with_capacity(alloc, rows.len())?;
-    for row in rows {
-        values.push(row_value(alloc, row.as_slice())?)?;
+impl Written for Listed<ShownRun> {
+    ghost as_data = { row_data };
+
+    fn value(&self, alloc: Global) -> Result<Value, AllocError> {
+        list_value(alloc, self.as_slice())
     }
-    Ok(Value::Array(values))
 }
 
-fn cursor_value(alloc: Global, cursor: &ShownCursor) -> Result<Value, AllocError>
-    ensures { IfOk result (λ v. view v ≡ cursor_data cursor.now) }
+fn cursor_value(alloc: Global, cursor: ShownCursor) -> Result<Value, AllocError>
+    ensures { IfOk result (λ v. view v ≡ cursor_data cursor) }
 {
-    json!(in alloc; [cursor.row, cursor.column])
+    list_value(alloc, &[U32(cursor.row), U32(cursor.column)])
 }
 
 pub(crate) fn screen_value(alloc: Global, screen: &ShownScreen) -> Result<Value, AllocError>
     ensures { IfOk result (λ v. view v ≡ screen_data screen.now) }
 {
-    let cursor = cursor_value(alloc, &screen.cursor)?;
-    let rows = rows_value(alloc, screen.rows.as_slice())?;
-    json!(in alloc; {"cursor": cursor, "rows": rows})
+    let cursor = cursor_value(alloc, screen.cursor)?;
+    let members = with_member(alloc, Map::new(alloc), "cursor", cursor)?;
+    let rows = list_value(alloc, screen.rows.as_slice())?;
+    Ok(Value::Object(with_member(alloc, members, "rows", rows)?))
 }

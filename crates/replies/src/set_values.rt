@@ -1,52 +1,49 @@
 // Sets of changes, and what `map` made.
-ghost use Rattle.std.specs.Prelude.{◌≡◌, IfOk, map};
-ghost use Rattle.serde_json.specs.View.{view};
-ghost use Rattle.replies.specs.Replies.{mapped_data, section_data};
+ghost use Rattle.std.specs.Prelude.{◌≡◌, IfOk, codes, encode_utf8_all};
+ghost use Rattle.serde_json.specs.Data.{member, no_members, string};
+ghost use Rattle.serde_json.specs.View.{members_view, view};
+ghost use Rattle.replies.specs.Replies.{mapped_data, section_data, with_place};
 
 use crate::mapped::{MappedParts, MappedPlace};
-use crate::texts::inserted_value;
+use crate::objects::{members_of, with_member};
+use crate::scalar::Scalar::{Inserted, Null, U32};
+use crate::written::{Written, list_value};
 use change_desc::Section;
 use change_set::InsertedText;
-use serde_json::{Value, json};
+use serde_json::{Map, Value};
 use std::alloc::{AllocError, Global};
 
-fn section_value(alloc: Global, section: &Section<InsertedText>) -> Result<Value, AllocError>
-    ensures { IfOk result (λ v. view v ≡ section_data section.now) }
-{
-    match section {
-        Section::Keep(len) => json!(in alloc; *len),
-        Section::Replace(len, text) => {
-            let text = inserted_value(text)?;
-            json!(in alloc; [*len, text])
+impl Written for Section<InsertedText> {
+    ghost as_data = { section_data };
+
+    fn value(&self, alloc: Global) -> Result<Value, AllocError> {
+        match self {
+            Section::Keep(len) => Ok(Value::from(*len)),
+            Section::Replace(len, text) => list_value(alloc, &[U32(*len), Inserted(text)]),
         }
     }
 }
 
-fn section_values(
+/// The text that `map` leads to, and where the position went, if one was asked for.
+fn place_and_text(
     alloc: Global,
-    sections: &[Section<InsertedText>],
-) -> Result<Vec<Value>, AllocError>
-    ensures { IfOk result (λ v. map view v.items ≡ map section_data sections.now) }
+    place: MappedPlace,
+    text: &InsertedText,
+) -> Result<Map<String, Value>, AllocError>
+    ensures { IfOk result (λ m. members_view m.entries ≡ with_place place (member (codes "text") (string (encode_utf8_all text.now)) no_members)) }
 {
-    let mut values = Vec::with_capacity(alloc, sections.len())?;
-    for section in sections {
-        values.push(section_value(alloc, section)?)?;
+    let text = ("text", Inserted(text));
+    match place {
+        MappedPlace::NotAsked => members_of(alloc, &[text]),
+        MappedPlace::Deleted => members_of(alloc, &[("pos", Null), text]),
+        MappedPlace::At(pos) => { members_of(alloc, &[("pos", U32(pos)), text]) }
     }
-    Ok(values)
 }
 
 pub(crate) fn mapped_value(alloc: Global, mapped: &MappedParts) -> Result<Value, AllocError>
     ensures { IfOk result (λ v. view v ≡ mapped_data mapped.now) }
 {
-    let sections = Value::Array(section_values(alloc, mapped.set.sections())?);
-    let text = inserted_value(&mapped.text)?;
-    match mapped.place {
-        MappedPlace::NotAsked => json!(in alloc; {"sections": sections, "text": text}),
-        MappedPlace::Deleted => {
-            json!(in alloc; {"pos": null, "sections": sections, "text": text})
-        }
-        MappedPlace::At(pos) => {
-            json!(in alloc; {"pos": pos, "sections": sections, "text": text})
-        }
-    }
+    let members = place_and_text(alloc, mapped.place, &mapped.text)?;
+    let sections = list_value(alloc, mapped.set.sections())?;
+    Ok(Value::Object(with_member(alloc, members, "sections", sections)?))
 }

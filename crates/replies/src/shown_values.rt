@@ -1,16 +1,20 @@
 // Values of facets and fields.
-ghost use Rattle.std.specs.Prelude.{◌≡◌, IfOk, map};
+ghost use Rattle.std.specs.Prelude.{◌≡◌, IfOk};
 ghost use Rattle.cm_plain.specs.Datum.{data_of};
 ghost use Rattle.cm_plain.specs.Plain.{datum_of};
 ghost use Rattle.serde_json.specs.Data.{array};
-ghost use Rattle.serde_json.specs.View.{items_of, view};
+ghost use Rattle.serde_json.specs.View.{view};
+ghost use Rattle.replies.specs.declared.shown.Shown.TheVariants.{Absent};
 ghost use Rattle.replies.specs.Shown.{history_data, kind_word, plain_data, plain_items, shown_data, shown_range, shown_ranges};
 
+use crate::objects::object_of;
+use crate::scalar::Scalar::{Bool, U32, U64, Word};
 use crate::shown::{Shown, ShownRange};
+use crate::written::{Written, list_value};
 use cm_plain::{Plain, PlainList};
 use decoration::Kind;
 use listed::Listed;
-use serde_json::{Value, json};
+use serde_json::Value;
 use std::alloc::{AllocError, Global};
 
 #[cycle(plain)]
@@ -20,14 +24,14 @@ fn plain_value(alloc: Global, plain: &Plain) -> Result<Value, AllocError>
     match plain {
         Plain::Unit => Ok(Value::Null),
         Plain::Bool(flag) => Ok(Value::Bool(*flag)),
-        Plain::Int(number) => json!(in alloc; *number),
-        Plain::Text(text) => Ok(Value::String(text.text()?)),
-        Plain::List(list) => list_value(alloc, list),
+        Plain::Int(number) => Ok(Value::from(*number)),
+        Plain::Text(text) => text.value(alloc),
+        Plain::List(list) => plain_list_value(alloc, list),
     }
 }
 
 #[cycle(plain)]
-fn list_value(alloc: Global, list: &PlainList) -> Result<Value, AllocError>
+fn plain_list_value(alloc: Global, list: &PlainList) -> Result<Value, AllocError>
     ensures { IfOk result (λ v. view v ≡ array (plain_items (data_of list.now))) }
 {
     let mut values = Vec::new(alloc);
@@ -49,36 +53,40 @@ fn kind_word(kind: Kind) -> &'static str
     }
 }
 
-fn range_value(alloc: Global, range: &ShownRange) -> Result<Value, AllocError>
-    ensures { IfOk result (λ v. view v ≡ shown_range range.now) }
-{
-    json!(in alloc; {"from": range.from, "kind": kind_word(range.kind), "to": range.to})
+impl Written for ShownRange {
+    ghost as_data = { shown_range };
+
+    fn value(&self, alloc: Global) -> Result<Value, AllocError> {
+        object_of(
+            alloc,
+            &[
+                ("from", U32(self.from)),
+                ("kind", Word(kind_word(self.kind))),
+                ("to", U32(self.to)),
+            ],
+        )
+    }
 }
 
-fn set_value(alloc: Global, ranges: &[ShownRange]) -> Result<Value, AllocError>
-    ensures { IfOk result (λ v. view v ≡ shown_ranges ranges.now) }
-{
-    let mut values = Vec::with_capacity(alloc, ranges.len())?;
-    for range in ranges {
-        values.push(range_value(alloc, range)?)?;
-    }
-    Ok(Value::Array(values))
-}
+impl Written for Listed<ShownRange> {
+    ghost as_data = { shown_ranges };
 
-fn sets_value(alloc: Global, sets: &[Listed<ShownRange>]) -> Result<Value, AllocError>
-    ensures { IfOk result (λ v. view v ≡ array (items_of (map shown_ranges sets.now))) }
-{
-    let mut values = Vec::with_capacity(alloc, sets.len())?;
-    for set in sets {
-        values.push(set_value(alloc, set.as_slice())?)?;
+    fn value(&self, alloc: Global) -> Result<Value, AllocError> {
+        list_value(alloc, self.as_slice())
     }
-    Ok(Value::Array(values))
 }
 
 fn history_value(alloc: Global, done: u64, undone: u64) -> Result<Value, AllocError>
     ensures { IfOk result (λ v. view v ≡ history_data done undone) }
 {
-    json!(in alloc; {"done": done, "undone": undone})
+    object_of(alloc, &[("done", U64(done)), ("undone", U64(undone))])
+}
+
+/// A field that the state doesn't have.
+fn absent_value(alloc: Global) -> Result<Value, AllocError>
+    ensures { IfOk result (λ v. view v ≡ shown_data Absent) }
+{
+    object_of(alloc, &[("absent", Bool(true))])
 }
 
 pub(crate) fn shown_value(alloc: Global, shown: &Shown) -> Result<Value, AllocError>
@@ -86,9 +94,9 @@ pub(crate) fn shown_value(alloc: Global, shown: &Shown) -> Result<Value, AllocEr
 {
     match shown {
         Shown::Plain(plain) => plain_value(alloc, plain),
-        Shown::Ranges(ranges) => set_value(alloc, ranges.as_slice()),
-        Shown::Layers(sets) => sets_value(alloc, sets.as_slice()),
+        Shown::Ranges(ranges) => ranges.value(alloc),
+        Shown::Layers(sets) => list_value(alloc, sets.as_slice()),
         Shown::History { done, undone } => history_value(alloc, *done, *undone),
-        Shown::Absent => json!(in alloc; {"absent": true}),
+        Shown::Absent => absent_value(alloc),
     }
 }

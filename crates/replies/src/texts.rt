@@ -1,7 +1,8 @@
-ghost use Rattle.std.specs.Prelude.{◌≡◌, IfOk, map, encode_utf8_all};
+ghost use Rattle.std.specs.Prelude.{◌≡◌, IfOk, encode_utf8_all};
 ghost use Rattle.serde_json.specs.Data.{string};
 ghost use Rattle.serde_json.specs.View.{view};
 
+use crate::written::Written;
 use change_set::InsertedText;
 use cm_plain::Str;
 use serde_json::Value;
@@ -13,18 +14,10 @@ pub(crate) fn inserted_value(text: &InsertedText) -> Result<Value, AllocError>
     Ok(Value::String(text.text().text()?))
 }
 
-pub(crate) fn text_value(text: &Str) -> Result<Value, AllocError>
-    ensures { IfOk result (λ v. view v ≡ string (encode_utf8_all text.now)) }
-{
-    Ok(Value::String(text.text()?))
-}
+impl Written for Str {
+    ghost as_data = { λ text. string (encode_utf8_all text) };
 
-pub(crate) fn text_values(alloc: Global, texts: &[Str]) -> Result<Vec<Value>, AllocError>
-    ensures { IfOk result (λ v. map view v.items ≡ map (λ text. string (encode_utf8_all text)) texts.now) }
-{
-    let mut values = Vec::with_capacity(alloc, texts.len())?;
-    for text in texts {
-        values.push(text_value(text)?)?;
+    fn value(&self, _alloc: Global) -> Result<Value, AllocError> {
+        Ok(Value::String(self.text()?))
     }
-    Ok(values)
 }

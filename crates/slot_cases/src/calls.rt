@@ -1,17 +1,19 @@
 // How many rules are called, and whether a step is made where those that aren't due refuse.
-ghost use Rattle.std.specs.Prelude.{IfOk};
 ghost use Rattle.values.specs.Shipped.{shipped};
 ghost use Rattle.values.specs.Whole.{IsWhole};
 
 use crate::declared::declared;
-use crate::meter::{Answering, Meter};
 use crate::running::{first, next};
 use crate::transactions::Sent;
 use facet_slots::Slots;
 use registry::Registry;
+use shipped_kit::{Answering, Gate};
 use shipped_rules::Shipped;
 use std::alloc::Global;
-use values::{Gap, Kit};
+use values::Kit;
+
+/// The number of the computer that gives the length of the document.
+const LENGTH_RULE: u32 = 1;
 
 /// The calls of a creation: one for the field, one for each of two computed inputs, and one for each of thirteen facets, of which
 /// ten are declared from the start.
@@ -78,14 +80,14 @@ const ROWS: &[Row<'static>] = &[
 fn is_made(
     alloc: Global,
     kit: &Kit<Shipped>,
-    meter: &Meter,
+    gate: &Gate,
     slots: &Slots<Shipped>,
     sent: Sent<'_>,
     answering: Answering,
 ) -> bool
     requires { IsWhole shipped kit.now }
 {
-    meter.start(answering);
+    gate.start(answering);
     next(alloc, kit, slots, sent).is_ok()
 }
 
@@ -93,63 +95,67 @@ fn is_made(
 fn is_row_of(
     alloc: Global,
     kit: &Kit<Shipped>,
-    meter: &Meter,
+    gate: &Gate,
     slots: &Slots<Shipped>,
     row: &Row<'_>,
 ) -> bool
     requires { IsWhole shipped kit.now }
 {
     let sent = row.sent;
-    is_made(alloc, kit, meter, slots, sent, Answering::All)
-        && meter.calls() == row.calls
-        && is_made(alloc, kit, meter, slots, sent, Answering::Updaters) == row.needs_updaters_alone
-        && is_made(alloc, kit, meter, slots, sent, Answering::Length) == row.needs_length_at_most
+    is_made(alloc, kit, gate, slots, sent, Answering::All)
+        && gate.calls() == row.calls
+        && is_made(alloc, kit, gate, slots, sent, Answering::Updaters) == row.needs_updaters_alone
+        && is_made(
+            alloc,
+            kit,
+            gate,
+            slots,
+            sent,
+            Answering::UpdatersAndComputer(LENGTH_RULE),
+        ) == row.needs_length_at_most
 }
 
 /// Whether a creation and the transaction after it are as a row says.
 fn is_row_over(
     alloc: Global,
     kit: &Kit<Shipped>,
-    meter: &Meter,
+    gate: &Gate,
     registry: &Registry<Shipped>,
     row: &Row<'_>,
 ) -> bool
     requires { IsWhole shipped kit.now }
 {
-    meter.start(Answering::All);
+    gate.start(Answering::All);
     match first(alloc, kit, registry) {
-        Ok(slots) => { meter.calls() == CREATION && is_row_of(alloc, kit, meter, &slots, row) }
+        Ok(slots) => { gate.calls() == CREATION && is_row_of(alloc, kit, gate, &slots, row) }
         Err(_) => false,
     }
 }
 
-fn is_row(alloc: Global, kit: &Kit<Shipped>, meter: &Meter, row: &Row<'_>) -> bool
+fn is_row(alloc: Global, kit: &Kit<Shipped>, gate: &Gate, row: &Row<'_>) -> bool
     requires { IsWhole shipped kit.now }
 {
     match declared(alloc, row.compare_input) {
-        Ok(registry) => is_row_over(alloc, kit, meter, &registry, row),
+        Ok(registry) => is_row_over(alloc, kit, gate, &registry, row),
         Err(_) => false,
     }
 }
 
 /// The index of the first row that isn't so.
-fn first_failure(alloc: Global, kit: &Kit<Shipped>, meter: &Meter) -> Option<usize>
+fn first_failure(alloc: Global, kit: &Kit<Shipped>, gate: &Gate) -> Option<usize>
     requires { IsWhole shipped kit.now }
 {
     for (at, row) in ROWS.iter().enumerate() {
-        if !is_row(alloc, kit, meter, row) {
+        if !is_row(alloc, kit, gate, row) {
             return Some(at);
         }
     }
     None
 }
 
-/// Whether each row is so, with a kit that counts by this meter.
-pub(crate) fn are_rows(alloc: Global, kit: Result<Kit<Shipped>, Gap>, meter: &Meter) -> bool
-    requires { IfOk kit (λ kit. IsWhole shipped kit) }
+/// Whether each row is so, with a kit behind this gate.
+pub(crate) fn are_rows(alloc: Global, kit: &Kit<Shipped>, gate: &Gate) -> bool
+    requires { IsWhole shipped kit.now }
 {
-    match kit {
-        Ok(kit) => first_failure(alloc, &kit, meter).is_none(),
-        Err(_) => false,
-    }
+    first_failure(alloc, kit, gate).is_none()
 }

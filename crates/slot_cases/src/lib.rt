@@ -9,8 +9,6 @@ mod declared;
 #[cfg(test)]
 mod kit;
 #[cfg(test)]
-mod meter;
-#[cfg(test)]
 mod running;
 #[cfg(test)]
 mod transactions;

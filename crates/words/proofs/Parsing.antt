@@ -35,7 +35,7 @@ taken a words rows X is plain faults matches =
     let same : rows ≡ subcommand_of command words = rw is at (matches (ap is_simple is ∙ simple)).1 in
     ap found same ∙ (sym (ap (λ (k : Kinds). unless_failed k (found (subcommand_of command words))) none) ∙ asked_is words plain)
 
--- where a parse failed, and not for want of memory, the words ask for nothing
+-- where a parse failed for another reason than that it was out of memory, the words ask for nothing
 pub refused : (a : App) (words : List Text) (e : Error) → a ≡ command → list_any (begins_with 45) words ≡ false
     → (is_simple_and_free a ≡ true → HasKind (fault_of a words) e) → (kind_of e ≡ OutOfMemory → ⊥) → None ≡ words_of words
 refused a words e is plain faults other = go (fault_of command words) refl (rw is at (faults (ap is_simple_and_free is ∙ free)))

@@ -1,12 +1,12 @@
 -- Numbers of few digits, as `parse` reads them.
 use Rattle.std.proofs.Common.{◌≡◌, ◌∙◌, ℕ, ◌<◌, ◌≤◌, ◌^◌, Bool, true, false, List, [], ◌∷◌, length, refl, sym, ap, arith, subst}
-use Rattle.std.specs.Prelude.{Option, Some, None, Result, Ok, Err, option_map}
+use Rattle.std.specs.Prelude.{◌==◌, Option, Some, None, Result, Ok, Err, option_map, slice_index}
 use Rattle.std.specs.Char.{is_digit}
 use Rattle.std.specs.List.{list_all}
 use Rattle.std.specs.Result.{result_ok}
 use Rattle.std.specs.Str.Parse.{AllDigits, IsNumeral, ParsesUnsigned, digits_value, without_leading_plus}
 use Rattle.std.proofs.Math.Nat.{pow-le-pow_right}
-use Rattle.std.proofs.lemmas.Bool.{le-leb, leb-true, lt-ltb}
+use Rattle.std.proofs.lemmas.Bool.{le-leb, leb-true, lt-ltb, ne_eqb}
 use Rattle.std.proofs.lemmas.Int.Digits.{digits_value-lt}
 use Rattle.std.specs.Borrow.{Bor}
 use Rattle.clap.specs.Words.{first_of, first_value, rows_of}
@@ -19,6 +19,11 @@ use Rattle.words.proofs.Forms.{all_digits}
 list_digits : (text : List ℕ) → AllDigits 10 text → list_all (λ c. is_digit c 10) text ≡ true
 list_digits [] d = refl
 list_digits (c ∷ cs) d = simp (lt-ltb _ _ d.0, list_digits cs d.1)
+
+-- whether the first byte is this one, as `starts_with` says it
+pub first_byte : (byte : ℕ) (text : List ℕ) → 0 < byte → (slice_index text 0 == byte) ≡ begins_with byte text
+first_byte byte [] some = ne_eqb 0 byte (λ e. omega (arith, some, e))
+first_byte byte (b ∷ bs) some = refl
 
 -- a text without `+` is what it is without a leading one
 unsigned_is : (text : List ℕ) → begins_with 43 text ≡ false → without_leading_plus text ≡ text

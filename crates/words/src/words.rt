@@ -13,6 +13,12 @@ use std::convert::AsStr;
 use viewport::MAX_SIZE;
 use workload::MAX_TRANSACTIONS;
 
+/// The most decimal digits of a number of rows or of columns.
+const SIZE_DIGITS: usize = 3;
+
+/// The most decimal digits of a number of transactions.
+const TRANSACTION_DIGITS: usize = 7;
+
 /// What the words of the command line ask for.
 #[derive(Debug, Drop)]
 pub enum Words {
@@ -49,18 +55,18 @@ impl Words {
     }
 }
 
-/// Whether a text begins with this ASCII character.
-fn begins_with(text: &str, byte: u8) -> bool
-    ensures { result ≡ begins_with byte text.now }
+/// Whether a word begins with `-`.
+fn is_option(word: &str) -> bool
+    ensures { result ≡ begins_with 45 word.now }
 {
-    text.as_bytes().first() == Some(&byte)
+    word.starts_with('-')
 }
 
-/// Whether a word begins with `-`.
+/// Whether one of the words begins with `-`.
 fn has_option<T: AsStr>(words: &[T]) -> bool
     ensures { result ≡ list_any (begins_with 45) (map T.text words.now) }
 {
-    words.iter().any(|word| begins_with(word.as_str(), b'-'))
+    words.iter().any(|word| is_option(word.as_str()))
 }
 
 /// What takes a number from 1 to the greatest one.
@@ -105,16 +111,15 @@ fn asked(alloc: Global, matches: &ArgMatches<'_>) -> Result<Option<Words>, Alloc
     let Some((name, given)) = matches.subcommand() else {
         return Ok(None);
     };
-    if name == "replay" {
-        Ok(Some(Words::Replay))
-    } else if name == "collab" {
-        Ok(Some(Words::Collab))
-    } else if name == "edit" {
-        edit(alloc, given)
-    } else if name == "make" {
-        Ok(number(given, "N", 7).map(|transactions| Words::Make { transactions }))
-    } else {
-        Ok(None)
+    match name {
+        "replay" => Ok(Some(Words::Replay)),
+        "collab" => Ok(Some(Words::Collab)),
+        "edit" => edit(alloc, given),
+        "make" => {
+            let transactions = number(given, "N", TRANSACTION_DIGITS);
+            Ok(transactions.map(|transactions| Words::Make { transactions }))
+        }
+        _ => Ok(None),
     }
 }
 
@@ -125,10 +130,10 @@ fn edit(alloc: Global, given: &ArgMatches<'_>) -> Result<Option<Words>, AllocErr
     let Some(file) = given.get_str("FILE") else {
         return Ok(None);
     };
-    let Some(rows) = number(given, "ROWS", 3) else {
+    let Some(rows) = number(given, "ROWS", SIZE_DIGITS) else {
         return Ok(None);
     };
-    let Some(cols) = number(given, "COLS", 3) else {
+    let Some(cols) = number(given, "COLS", SIZE_DIGITS) else {
         return Ok(None);
     };
     let file = Str::of_text(alloc, file)?;
@@ -140,15 +145,15 @@ fn number(given: &ArgMatches<'_>, id: &str, places: usize) -> Option<u32>
     requires { places ≤ 9 }
     ensures { result ≡ number_in places id.now (rows_of (found_of given.now)) }
 {
-    digits(given.get_str(id)?, places)
+    number_of(given.get_str(id)?, places)
 }
 
 /// The number that a text of 1 to `places` decimal digits writes. `None`: the text is no such number.
-fn digits(text: &str, places: usize) -> Option<u32>
+fn number_of(text: &str, places: usize) -> Option<u32>
     requires { places ≤ 9 }
     ensures { result ≡ written places text.now }
 {
-    if text.len() > places || begins_with(text, b'+') {
+    if text.len() > places || text.starts_with('+') {
         return None;
     }
     text.parse().ok()

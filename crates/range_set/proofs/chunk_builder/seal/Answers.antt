@@ -10,8 +10,8 @@ returns-clause-chunks g c =
     let e = c.in_ok-new.ensures.ok ∙ c.replace-chunk.ensures.value in
     rw c.in_ok-push.ensures.items (AreChunks-push rules c.args.done.now.items _ c.requires.chunks
     (subst (IsChunk rules c.args.start) (sym e) c.requires.chunk)
-    (subst (λ (ch : Chunk g.row.T.Denot). 1 ≤ length ch.ranges.items) (sym c.in_ok-new.ensures.ok)
-    (nonempty _ _ (sym c.is_empty.ensures ∙ c.if-is_empty.false) c.replace-chunk.result.ranges.ok.0)))
+    (subst (λ (ch : Chunk g.row.T.Denot). 1 ≤ length ch.ranges.items) (sym e)
+    (nonempty _ _ (sym c.is_empty.ensures ∙ c.if-is_empty.false) c.args.growing.now.ranges.ok.0)))
 
 pub returns-clause-ranges : goal.returns-clause-ranges
 returns-clause-ranges g c =

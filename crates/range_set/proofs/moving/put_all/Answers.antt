@@ -32,7 +32,14 @@ loop-range-init g c =
       ranges = sym (append-nil (built c.args.builder.now));
       left = ap (λ rs. built c.args.builder.now ++ rs) e;
       forward = subst AllForward (sym e) c.requires.forward;
+      count = c.len-left.ensures ∙ (c.args.ranges.ok.0 ∙ ap length (sym e));
     }
+
+pub overflow_sub-left : goal.overflow_sub-left
+overflow_sub-left g c =
+    let n = c.loop-range.invariant.count in
+    let k = ap length c.in-Some.ensures.steps.0 in
+    omega (arith, n, k)
 
 pub loop-range-preserved : goal.loop-range-preserved
 loop-range-preserved g c =
@@ -45,4 +52,5 @@ loop-range-preserved g c =
       ranges = pushed ∙ (ap (λ rs. rs ++ c.in-Some.range ∷ []) before.ranges ∙ append_assoc (built c.args.builder.now) c.loop-range.yielded (c.in-Some.range ∷ []));
       left = ap (λ rs. rs ++ rest) pushed ∙ (append_assoc here (c.in-Some.range ∷ []) rest ∙ (ap (λ rs. here ++ rs) (sym c.in-Some.ensures.steps.0) ∙ before.left));
       forward = (subst AllForward c.in-Some.ensures.steps.0 before.forward).1;
+      count = let n = before.count in let k = ap length c.in-Some.ensures.steps.0 in omega (arith, n, k);
     }

@@ -1,4 +1,4 @@
-use Rattle.std.proofs.Common.{◌≡◌, ◌++◌}
+use Rattle.std.proofs.Common.{◌≡◌, ◌++◌, length}
 use Rattle.range_set.specs.Order.{AllForward}
 use Rattle.range_set.specs.PrivateChunks.{IsBuilder, built}
 use Rattle.range_set.proofs.moving.put_all.Given as goal
@@ -9,4 +9,5 @@ invariant-loop-range g l = record {
   ranges : built l.builder ≡ built l.initial.builder ++ l.yielded;
   left : built l.builder ++ l.range-iterator.rest.items ≡ built l.initial.builder ++ l.fn.ranges.items;
   forward : AllForward l.range-iterator.rest.items;
+  count : l.left ≡ length l.range-iterator.rest.items;
 }

@@ -13,7 +13,7 @@ use Rattle.range_set.proofs.RangeOrder.{forward-no_fault, rises-no_fault}
 use Rattle.range_set.proofs.Updates.{IsUpdating, after_take, goes_after_take, goes_copy, goes_share, no_fault_done, nothing_left, updating_copy, updating_end, updating_init, updating_order, updating_share}
 use Rattle.range_set.proofs.Walked.{rest_at}
 use Rattle.range_set.proofs.updating.updated_chunks.Goals as goal
-use Rattle.range_set.proofs.updating.updated_chunks.Goals.{then-is_beyond+then-stays_whole+in_ok-put_sorted+in_ok-share, else-is_beyond+in_ok-keep_each}
+use Rattle.range_set.proofs.updating.updated_chunks.Goals.{then-is_apart+then-stays_whole+in_ok-put_sorted+in_ok-share, else-is_apart+in_ok-keep_each}
 
 pub loop-placed-init : goal.loop-placed-init
 loop-placed-init g c =
@@ -31,8 +31,8 @@ loop-placed-init g c =
 pub take_before-requires : goal.take_before-requires
 take_before-requires g c = (chunk-at g.T.RangeValue.rules c.args.chunks.now c.loop-placed.placed-index c.placed-item.result c.loop-placed-test.true c.placed-item.is c.requires.chunks).0
 
-pub is_beyond-requires : goal.is_beyond-requires
-is_beyond-requires g c = (chunk-at g.T.RangeValue.rules c.args.chunks.now c.loop-placed.placed-index c.placed-item.result c.loop-placed-test.true c.placed-item.is c.requires.chunks).0
+pub is_apart-requires : goal.is_apart-requires
+is_apart-requires g c = (chunk-at g.T.RangeValue.rules c.args.chunks.now c.loop-placed.placed-index c.placed-item.result c.loop-placed-test.true c.placed-item.is c.requires.chunks).0
 
 pub stays_whole-requires-clause-chunk : goal.stays_whole-requires-clause-chunk
 stays_whole-requires-clause-chunk g c = (chunk-at g.T.RangeValue.rules c.args.chunks.now c.loop-placed.placed-index c.placed-item.result c.loop-placed-test.true c.placed-item.is c.requires.chunks).0
@@ -130,9 +130,9 @@ loop-placed-preserved g c =
     let goes : (q : Ranged g.row.T.Denot → Bool) → AnswersAs g.F.Fn c.args.keep.now q → whole q ≡ done ++ stable_sort (before rules) (new_run ++ (filter q (chunk ++ rest) ++ new_added)) =
     λ q a. goes_after_take rules q (whole q) done run chunk rest added new_run new_added here.later_rises c.in_ok-take_before.ensures
     (subst (λ (qs : List (Placed g.row.T.Denot)). whole q ≡ done ++ stable_sort (before rules) (run ++ (filter q (flat qs) ++ added))) is (c.loop-placed.invariant.goes q a)) in
-    elim c.if-is_beyond.branch [
-      | then-is_beyond+then-stays_whole+in_ok-put_sorted+in_ok-share w ↦
-          let beyond = c.is_beyond.ensures w.if-is_beyond.true in
+    elim c.if-is_apart.branch [
+      | then-is_apart+then-stays_whole+in_ok-put_sorted+in_ok-share w ↦
+          let beyond = c.is_apart.ensures w.if-is_apart.true in
           let len = length_shifted rules p.start p.chunk.value.ranges.items in
           let many = (chunk-at rules ps i p c.loop-placed-test.true c.placed-item.is c.requires.chunks).1 in
           let more = w.in_ok-share.ensures.ranges ∙ ap (λ xs. xs ++ chunk) w.in_ok-put_sorted.ensures.ranges in
@@ -144,7 +144,7 @@ loop-placed-preserved g c =
                 (subst (λ xs. whole q ≡ xs ++ stable_sort (before rules) (filter q rest ++ new_added)) (sym more)
                 (goes_share rules q most (whole q) done new_run chunk rest new_added (omega (arith, len, many)) up beyond (w.stays_whole.ensures q a w.if-stays_whole.true) (goes q a)));
           }
-      | else-is_beyond+in_ok-keep_each w ↦
+      | else-is_apart+in_ok-keep_each w ↦
           record {
             builder = rw w.builder-is c.loop-placed.invariant.builder;
             updating = rw (w.builder-is, w.run-is) (updating_copy rules most done new_run w.keep_each.new.run.items chunk rest new_added up w.in_ok-keep_each.ensures.part);

@@ -14,4 +14,4 @@ returns-in_err-get_str c =
 pub returns : goal.returns
 returns c =
     let text = first_given (found_of c.args.given.now) c.args.id.now c.get_str.result c.get_str.ensures ∙ ap (option_map (λ s. s.now)) c.in_ok-get_str.was in
-    c.digits.ensures ∙ sym (ap (option_and_then (written c.args.places)) text)
+    c.number_of.ensures ∙ sym (ap (option_and_then (written c.args.places)) text)
