@@ -33,13 +33,9 @@ use Rattle.collab_run.specs.Transcript as plays
 abbrev pub byte_limit : ℕ
 byte_limit = 4294967296
 
--- a run whose replies are those of a plain session from this one on, which another session stands after, with the files
-abbrev pub ReplayedFrom : Rules → PlainSession → Status → Run → (store store_now : StoreTold) → Type 0
-ReplayedFrom rules first status run store store_now = (last : PlainSession) × Ran (machine rules) (desk_told first store) (desk_told last store_now) status run
-
--- a run whose replies are those of the plain session from its start
+-- a run whose replies are those of the plain session from its start, which another session stands after, with the files
 abbrev pub Replayed : Rules → Status → Run → (store store_now : StoreTold) → Type 0
-Replayed rules status run store store_now = ReplayedFrom rules fresh status run store store_now
+Replayed rules status run store store_now = (last : PlainSession) × Ran (machine rules) (desk_told fresh store) (desk_told last store_now) status run
 
 -- the devices of a run
 pub record Devices (S K D C : Type 0) : Type 0 where
