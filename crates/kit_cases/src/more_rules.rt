@@ -20,7 +20,7 @@ use values::{
     UpdateBox, UpdateView, Updater, Val,
 };
 
-/// The same, where all rules but transaction filters and extenders are made.
+/// Whether a case holds, where all rules but transaction filters and extenders are made.
 fn holds_filtering(
     alloc: Global,
     case: Case,
@@ -87,7 +87,7 @@ fn holds_filtering(
     is_so(kit, case)
 }
 
-/// The same, where all rules but effect maps and those that see a transaction are made.
+/// Whether a case holds, where all rules but effect maps and those that see a transaction are made.
 fn holds_guarding(
     alloc: Global,
     case: Case,
@@ -149,7 +149,7 @@ fn holds_guarding(
     )
 }
 
-/// The same, where computers and creators are made too.
+/// Whether a case holds, where computers and creators are made too.
 fn holds_listing(
     alloc: Global,
     case: Case,
@@ -205,7 +205,7 @@ fn holds_listing(
     )
 }
 
-/// The same, where combiners and comparers are made.
+/// Whether a case holds, where combiners and comparers are made.
 fn holds_reading(
     alloc: Global,
     case: Case,

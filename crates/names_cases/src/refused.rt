@@ -110,6 +110,10 @@ fn names_that_are_taken_are_refused(rt: HostRuntime) -> Result<(), Fail> {
             "{\"group\":{\"name\":\"f\",\"of\":[]}}",
             "{\"no\":{\"code\":\"NameTaken\",\"name\":\"f\"}}\n",
         ),
+        (
+            "{\"prec\":{\"name\":\"f\",\"at\":\"high\",\"of\":\"q\"}}",
+            "{\"no\":{\"code\":\"UnknownName\",\"name\":\"q\"}}\n",
+        ),
         ("{\"compartment\":{\"name\":\"c\"}}", ""),
         (
             "{\"compartment\":{\"name\":\"c\"}}",

@@ -136,9 +136,14 @@ fn many_points_are_mapped(rt: HostRuntime) -> Result<(), Fail> {
     Ok(())
 }
 
-/// A set of 1,000 points without those at a place, with one more there: `None` where out of memory.
-fn updated_points(alloc: Global, most: u32, at: u32) -> Result<Option<RangeSet<Numbered>>, Fail> {
-    let set = points(alloc, 1000, most)?;
+/// A set of so many points without those at a place, with one more there: `None` where out of memory.
+fn updated_points(
+    alloc: Global,
+    count: u32,
+    most: u32,
+    at: u32,
+) -> Result<Option<RangeSet<Numbered>>, Fail> {
+    let set = points(alloc, count, most)?;
     let mut add = Vec::new(alloc);
     add.push(Ranged {
         from: at,
@@ -149,8 +154,13 @@ fn updated_points(alloc: Global, most: u32, at: u32) -> Result<Option<RangeSet<N
 }
 
 /// How many ranges the set has, and whether its range at the place is the added one alone.
-fn has_update(alloc: Global, most: u32, at: u32) -> Result<Option<(usize, bool)>, Fail> {
-    let Some(set) = updated_points(alloc, most, at)? else {
+fn has_update(
+    alloc: Global,
+    count: u32,
+    most: u32,
+    at: u32,
+) -> Result<Option<(usize, bool)>, Fail> {
+    let Some(set) = updated_points(alloc, count, most, at)? else {
         return Ok(None);
     };
     let mut found = set.between(at, at);
@@ -163,9 +173,11 @@ fn has_update(alloc: Global, most: u32, at: u32) -> Result<Option<(usize, bool)>
 
 #[test]
 fn chunks_that_an_update_leaves_are_shared(rt: HostRuntime) -> Result<(), Fail> {
-    assert!(rt; has_update(rt.alloc(), 0, 15_000)? == Some((1001, true)));
-    assert!(rt; has_update(rt.alloc(), 0, 5)? == Some((1001, true)));
-    assert!(rt; has_update(rt.alloc(), 128, 500)? == Some((1000, true)));
-    assert!(rt; has_update(rt.alloc(), 127, 500)? == None);
+    assert!(rt; has_update(rt.alloc(), 1000, 0, 15_000)? == Some((1001, true)));
+    assert!(rt; has_update(rt.alloc(), 1000, 0, 5)? == Some((1001, true)));
+    assert!(rt; has_update(rt.alloc(), 1000, 128, 500)? == Some((1000, true)));
+    assert!(rt; has_update(rt.alloc(), 1000, 127, 500)? == None);
+    // 160 points stand in two chunks of 80, neither of which is small
+    assert!(rt; has_update(rt.alloc(), 160, 0, 15_000)? == Some((161, true)));
     Ok(())
 }

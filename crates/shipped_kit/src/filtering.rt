@@ -28,7 +28,7 @@ fn lent<U: KitUser>(
     }
 }
 
-/// The same, where all rules but transaction filters and extenders are made. `Err`: out of memory, and the user is as before.
+/// What a user makes of the kit, where all rules but transaction filters and extenders are made. `Err`: out of memory, and the user is as before.
 pub(crate) fn lend_filtering<U: KitUser>(
     alloc: Global,
     user: &mut U,

@@ -13,7 +13,7 @@ use values::{
     GuardBox, Guarding, Meanings, TrView, Updater, Val,
 };
 
-/// The same, where all rules but effect maps and those that see a transaction are made. `Err`: out of memory, and the user is as before.
+/// What a user makes of the kit, where all rules but effect maps and those that see a transaction are made. `Err`: out of memory, and the user is as before.
 pub(crate) fn lend_guarding<U: KitUser>(
     alloc: Global,
     user: &mut U,

@@ -14,7 +14,7 @@ use values::{
     UpdateBox, UpdateView, Updater, Val,
 };
 
-/// The same, where computers and creators are made too. `Err`: out of memory, and the user is as before.
+/// What a user makes of the kit, where computers and creators are made too. `Err`: out of memory, and the user is as before.
 pub(crate) fn lend_listing<U: KitUser>(
     alloc: Global,
     before: &Before,

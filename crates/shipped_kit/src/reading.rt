@@ -12,7 +12,7 @@ use values::{
     Combiner, Comparer, ComputeBox, Computer, CreateBox, Creator, Deps, Meanings, Sort, Val,
 };
 
-/// The same, where combiners and comparers are made. `Err`: out of memory, and the user is as before.
+/// What a user makes of the kit, where combiners and comparers are made. `Err`: out of memory, and the user is as before.
 pub(crate) fn lend_reading<U: KitUser>(
     alloc: Global,
     before: &Before,

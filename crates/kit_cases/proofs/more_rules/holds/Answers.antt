@@ -1,6 +1,6 @@
 use Rattle.values.specs.Stored.{Combines, Compares}
 use Rattle.kit_cases.specs.More.{more}
-use Rattle.kit_cases.proofs.Made.{all_made}
+use Rattle.shipped_kit.proofs.Made.{all_made}
 use Rattle.kit_cases.proofs.more_rules.holds.Goals as goal
 
 pub holds_reading-requires-clause-combiners : goal.holds_reading-requires-clause-combiners

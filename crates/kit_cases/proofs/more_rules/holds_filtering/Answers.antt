@@ -1,6 +1,6 @@
 use Rattle.values.specs.Stored.{Extends, Filters}
 use Rattle.kit_cases.specs.More.{more}
-use Rattle.kit_cases.proofs.Made.{all_made}
+use Rattle.shipped_kit.proofs.Made.{all_made}
 use Rattle.kit_cases.proofs.more_rules.holds_filtering.Goals as goal
 
 pub new-kit-requires : goal.new-kit-requires

@@ -1,6 +1,6 @@
 use Rattle.values.specs.Stored.{Guards, MapsEffects}
 use Rattle.kit_cases.specs.More.{more}
-use Rattle.kit_cases.proofs.Made.{all_made}
+use Rattle.shipped_kit.proofs.Made.{all_made}
 use Rattle.kit_cases.proofs.more_rules.holds_guarding.Goals as goal
 
 pub holds_filtering-requires-clause-effect_maps : goal.holds_filtering-requires-clause-effect_maps

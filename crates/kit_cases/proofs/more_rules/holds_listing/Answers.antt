@@ -1,6 +1,6 @@
 use Rattle.values.specs.Stored.{ComputesLists, Updates}
 use Rattle.kit_cases.specs.More.{more}
-use Rattle.kit_cases.proofs.Made.{all_made}
+use Rattle.shipped_kit.proofs.Made.{all_made}
 use Rattle.kit_cases.proofs.more_rules.holds_listing.Goals as goal
 
 pub holds_guarding-requires-clause-list_computers : goal.holds_guarding-requires-clause-list_computers

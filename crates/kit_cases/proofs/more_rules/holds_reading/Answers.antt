@@ -1,6 +1,6 @@
 use Rattle.values.specs.Stored.{Computes, Creates}
 use Rattle.kit_cases.specs.More.{more}
-use Rattle.kit_cases.proofs.Made.{all_made}
+use Rattle.shipped_kit.proofs.Made.{all_made}
 use Rattle.kit_cases.proofs.more_rules.holds_reading.Goals as goal
 
 pub holds_listing-requires-clause-computers : goal.holds_listing-requires-clause-computers
