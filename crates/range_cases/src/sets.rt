@@ -88,6 +88,35 @@ fn ranges_are_kept_and_added(rt: HostRuntime) -> Result<(), Fail> {
     Ok(())
 }
 
+/// Ranges with others added to them, where one ties with an old range and one is before it by its side.
+fn added(alloc: Global) -> Result<RangeSet<Numbered>, Fail> {
+    let set = RangeSet::of(ranges_of(alloc, &[(1, 2, 0, 0, 1), (3, 3, 0, 0, 2)])?)?;
+    let add = ranges_of(alloc, &[(0, 9, 0, 0, 3), (3, 3, -1, 0, 4), (3, 5, 0, 0, 5)])?;
+    Ok(set.with_ranges(add)?)
+}
+
+/// Why ranges are not added to a set of one.
+fn added_refusal_of(alloc: Global, rows: &[Row]) -> Result<Option<RangeError>, Fail> {
+    let set = RangeSet::of(ranges_of(alloc, &[(1, 2, 0, 0, 1)])?)?;
+    Ok(set.with_ranges(ranges_of(alloc, rows)?).err())
+}
+
+#[test]
+fn ranges_are_added(rt: HostRuntime) -> Result<(), Fail> {
+    let set = added(rt.alloc())?;
+    assert!(rt;
+        shows(
+            &set,
+            &[(0, 9, 3), (1, 2, 1), (3, 3, 4), (3, 3, 2), (3, 5, 5)]
+        )
+    );
+    let reversed = added_refusal_of(rt.alloc(), &[(0, 1, 0, 0, 2), (3, 2, 0, 0, 3)])?;
+    assert!(rt; reversed == Some(RangeError::Reversed { index: 1 }));
+    let unsorted = added_refusal_of(rt.alloc(), &[(4, 4, 0, 0, 2), (3, 3, 0, 0, 3)])?;
+    assert!(rt; unsorted == Some(RangeError::NotSorted { index: 1 }));
+    Ok(())
+}
+
 /// Whether a set is equal to its copy, and not to the set without ranges.
 fn is_its_copy(alloc: Global, set: &RangeSet<Numbered>) -> Result<bool, Fail> {
     let copy = set.try_copy()?;

@@ -153,7 +153,17 @@ fn updated_points(
     Ok(set.update(add, |range| range.from != at).ok())
 }
 
-/// How many ranges the set has, and whether its range at the place is the added one alone.
+/// How many ranges a set has, and whether its range at the place is the added one alone.
+fn found_at(set: &RangeSet<Numbered>, at: u32) -> (usize, bool) {
+    let mut found = set.between(at, at);
+    let is_added = match found.next() {
+        None => false,
+        Some(range) => range.value.number == at.wrapping_add(1) && found.next().is_none(),
+    };
+    (set.len(), is_added)
+}
+
+/// The same of updated points: `None` where out of memory.
 fn has_update(
     alloc: Global,
     count: u32,
@@ -163,12 +173,22 @@ fn has_update(
     let Some(set) = updated_points(alloc, count, most, at)? else {
         return Ok(None);
     };
-    let mut found = set.between(at, at);
-    let is_added = match found.next() {
-        None => false,
-        Some(range) => range.value.number == at.wrapping_add(1) && found.next().is_none(),
+    Ok(Some(found_at(&set, at)))
+}
+
+/// The same of points with one more that is added without a filter.
+fn has_more(alloc: Global, count: u32, most: u32, at: u32) -> Result<Option<(usize, bool)>, Fail> {
+    let set = points(alloc, count, most)?;
+    let mut add = Vec::new(alloc);
+    add.push(Ranged {
+        from: at,
+        to: at,
+        value: numbered(at, most),
+    })?;
+    let Some(more) = set.with_ranges(add).ok() else {
+        return Ok(None);
     };
-    Ok(Some((set.len(), is_added)))
+    Ok(Some(found_at(&more, at)))
 }
 
 #[test]
@@ -179,5 +199,17 @@ fn chunks_that_an_update_leaves_are_shared(rt: HostRuntime) -> Result<(), Fail> 
     assert!(rt; has_update(rt.alloc(), 1000, 127, 500)? == None);
     // 160 points stand in two chunks of 80, neither of which is small
     assert!(rt; has_update(rt.alloc(), 160, 0, 15_000)? == Some((161, true)));
+    Ok(())
+}
+
+#[test]
+fn chunks_without_an_added_range_are_shared(rt: HostRuntime) -> Result<(), Fail> {
+    // 20,000 points stand in three groups, the first chunk of which has points 1 to 128
+    assert!(rt; has_more(rt.alloc(), 20_000, 0, 300_000)? == Some((20_001, true)));
+    assert!(rt; has_more(rt.alloc(), 20_000, 0, 5)? == Some((20_001, true)));
+    assert!(rt; has_more(rt.alloc(), 20_000, 128, 505)? == Some((20_001, true)));
+    assert!(rt; has_more(rt.alloc(), 20_000, 127, 505)? == None);
+    assert!(rt; has_more(rt.alloc(), 20_000, u32::MAX, 100_005)? == Some((20_001, true)));
+    assert!(rt; has_more(rt.alloc(), 0, 0, 5)? == Some((1, true)));
     Ok(())
 }

@@ -1,19 +1,18 @@
 -- Chunks and builders of them, seen as lists of ranges.
-use Rattle.std.proofs.Common.{◌≡◌, ℕ, zero, suc, ◌+◌, ◌-◌, ◌^◌, ◌<◌, ◌≤◌, max, Bool, true, false, ◌&&◌, ◌||◌, List, [], ◌∷◌, ◌++◌, length, get_or, take, drop, map, refl, sym, ◌∙◌, ap, subst, arith, append_assoc}
-use Rattle.std.proofs.lemmas.List.{append-nil, map-append, length_push, length-append, length-map, take_more}
+use Rattle.std.proofs.Common.{◌≡◌, ℕ, zero, suc, ◌+◌, ◌-◌, ◌^◌, ◌<◌, ◌≤◌, max, Bool, true, false, ◌&&◌, ◌||◌, List, [], ◌∷◌, ◌++◌, length, get_or, drop, map, refl, sym, ◌∙◌, ap, subst, arith, add-one, append_assoc}
+use Rattle.std.proofs.lemmas.List.{append-nil, map-append, length_push}
 use Rattle.std.proofs.lemmas.List.Folds.{list_any-append}
 use Rattle.std.proofs.lemmas.Bool.Decides.{nat_tests}
-use Rattle.std.specs.Prelude.{nat_lt, ◌==◌, int_lt, ℤ}
+use Rattle.std.specs.Prelude.{nat_lt, ◌==◌, int_lt}
 use Rattle.std.specs.List.{list_any}
 use Rattle.range_set.specs.Rules.{RangeRules}
 use Rattle.range_set.specs.Order.{AllForward}
 use Rattle.range_set.specs.Mapping.{is_turned}
 use Rattle.range_set.specs.Points.{stands}
-use Rattle.range_set.specs.PrivateChunks.{AreChunks, AreSound, Ascend, BeginBy, EndBy, Fit, HaveHulls, IsBuilder, IsChunk, IsRest, TellPoints, built, first_start, flat, greatest_end, shift}
+use Rattle.range_set.specs.PrivateChunks.{AreChunks, Ascend, BeginBy, EndBy, Fit, IsChunk, first_start, flat, greatest_end, shift}
 use Rattle.range_set.specs.declared.ranged.Ranged.{Ranged}
 use Rattle.range_set.specs.declared.chunk.Placed.{Placed}
 use Rattle.range_set.specs.declared.chunk.Chunk.{Chunk}
-use Rattle.range_set.specs.declared.chunk_builder.ChunkBuilder.{ChunkBuilder}
 use Rattle.range_set.proofs.RangeOrder.{forward-append}
 
 pub not_less : (a b : ℕ) → nat_lt a b ≡ false → b ≤ a
@@ -40,6 +39,14 @@ or_second x false t e h = e
 pub nonempty : (n len : ℕ) → (len == 0) ≡ false → len ≡ n → 1 ≤ n
 nonempty n len h e = grind (arith, nat_tests)
 
+pub rest_at : {X : Type 0} (xs : List X) (i : ℕ) (x : X) → i < length xs → x ≡ get_or xs i x → drop i xs ≡ x ∷ drop (i + 1) xs
+rest_at xs i x l e = at xs i x l e ∙ ap (λ n. x ∷ drop n xs) (sym (add-one i))
+  where
+    at : {X : Type 0} (xs : List X) (i : ℕ) (x : X) → i < length xs → x ≡ get_or xs i x → drop i xs ≡ x ∷ drop (suc i) xs
+    at [] i x l e = absurd (omega arith)
+    at (y ∷ xs) zero x l e = ap (λ z. z ∷ xs) (sym e)
+    at (y ∷ xs) (suc i) x l e = at xs i x (omega arith) e
+
 module _ {T : Type 0} where
   pub flat-append : (ps qs : List (Placed T)) → flat (ps ++ qs) ≡ flat ps ++ flat qs
   flat-append [] qs = refl
@@ -53,6 +60,11 @@ module _ {T : Type 0} where
   greatest-push : (rs : List (Ranged T)) (r : Ranged T) → greatest_end (rs ++ r ∷ []) ≡ max (greatest_end rs) r.to
   greatest-push [] r = omega arith
   greatest-push (q ∷ rs) r = let e = greatest-push rs r in omega (arith, e)
+
+  pub greatest_shifted : (start : ℕ) (rs : List (Ranged T)) → 1 ≤ length rs → greatest_end (map (shift start) rs) ≡ start + greatest_end rs
+  greatest_shifted start [] some = absurd (omega arith)
+  greatest_shifted start (r ∷ []) some = omega arith
+  greatest_shifted start (r ∷ q ∷ rs) some = let e = greatest_shifted start (q ∷ rs) (omega arith) in omega (arith, e)
 
   first-push : (rs : List (Ranged T)) (r : Ranged T) → first_start rs ≡ 0 → (rs ≡ [] → r.from ≡ 0) → first_start (rs ++ r ∷ []) ≡ 0
   first-push [] r h k = k refl
@@ -73,7 +85,7 @@ module _ {T : Type 0} where
   Fit-append [] ys h k = k
   Fit-append (x ∷ xs) ys h k = (h.0, Fit-append xs ys h.1 k)
 
-  forward_shifted : (start : ℕ) (rs : List (Ranged T)) → AllForward rs → AllForward (map (shift start) rs)
+  pub forward_shifted : (start : ℕ) (rs : List (Ranged T)) → AllForward rs → AllForward (map (shift start) rs)
   forward_shifted start [] h = tt
   forward_shifted start (r ∷ rs) h = (shift_forward r.to r.from start h.0, forward_shifted start rs h.1)
 
@@ -163,12 +175,6 @@ module _ {T : Type 0} (rules : RangeRules T) where
   chunk-at (q ∷ ps) zero p l e h = subst (λ (x : Placed T). IsChunk rules x.start x.chunk.value × (1 ≤ length x.chunk.value.ranges.items)) (sym e) h.0
   chunk-at (q ∷ ps) (suc i) p l e h = chunk-at ps i p (omega arith) e h.1
 
-  pub hulls : (ps : List (Placed T)) → AreChunks rules ps → HaveHulls ps
-  hulls [] h = tt
-  hulls (p ∷ ps) h =
-      let k : greatest_end p.chunk.value.ranges.items ≤ p.chunk.value.reach = omega (arith, h.0.0.reach) in
-      ((end_by_greatest p.chunk.value.ranges.items p.chunk.value.reach k, h.0.0.fits), hulls ps h.1)
-
   pub fit_flat : (ps : List (Placed T)) → AreChunks rules ps → Fit (flat ps)
   fit_flat [] h = tt
   fit_flat (p ∷ ps) h =
@@ -176,13 +182,6 @@ module _ {T : Type 0} (rules : RangeRules T) where
       Fit-append (map (shift p.start) p.chunk.value.ranges.items) (flat ps)
       (fit_shifted p.start p.chunk.value.reach p.chunk.value.ranges.items h.0.0.forward (end_by_greatest p.chunk.value.ranges.items p.chunk.value.reach k) h.0.0.fits)
       (fit_flat ps h.1)
-
-  pub tell_points : (ps : List (Placed T)) → AreChunks rules ps → TellPoints rules ps
-  tell_points [] h = tt
-  tell_points (p ∷ ps) h = (h.0.0.points, tell_points ps h.1)
-
-  pub is_rest : (ps : List (Placed T)) → AreChunks rules ps → IsRest rules (flat ps) ps
-  is_rest ps h = record { fit = fit_flat ps h; hulls = hulls ps h; points = tell_points ps h }
 
   -- one more chunk after those of a builder, of which none grows
   pub share_built : (done ended after : List (Placed T)) (start at : ℕ) (before none : List (Ranged T)) (p : Placed T) → flat ended ≡ flat done ++ map (shift start) before → none ≡ []

@@ -1,11 +1,11 @@
 -- A chunk whose hull no change meets is only moved.
-use Rattle.std.proofs.Common.{◌≡◌, ℕ, suc, ◌+◌, ◌-◌, ◌<◌, ◌≤◌, Bool, true, false, ◌&&◌, ◌||◌, cond, List, [], ◌∷◌, length, map, Option, Some, None, refl, sym, ap, ◌∙◌, arith}
+use Rattle.std.proofs.Common.{◌≡◌, ℕ, ◌+◌, ◌<◌, ◌≤◌, Bool, true, false, ◌&&◌, ◌||◌, cond, List, [], ◌∷◌, map, Option, Some, None, refl, ap, ◌∙◌, arith}
 use Rattle.std.proofs.lemmas.Bool.Decides.{nat_tests}
 use Rattle.std.specs.List.{list_any}
-use Rattle.std.specs.Prelude.{nat_lt, ◌==◌, int_lt, int_le, ℤ, pos, option_map, option_and_then}
+use Rattle.std.specs.Prelude.{nat_lt, ◌==◌, int_lt, int_le, pos, option_map, option_and_then}
 use Rattle.change_desc.specs.Sections.{old_size}
 use Rattle.change_desc.specs.Positions.{is_negative}
-use Rattle.change_desc.specs.Ranges.{meets, replaced}
+use Rattle.change_desc.specs.Ranges.{replaced}
 use Rattle.change_desc.specs.declared.map_mode.MapMode.TheVariants.{Simple}
 use Rattle.range_set.specs.Rules.{RangeRules}
 use Rattle.range_set.specs.Order.{AllForward}

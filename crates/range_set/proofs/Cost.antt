@@ -1,5 +1,5 @@
 -- How many ranges are mapped by themselves at most.
-use Rattle.std.proofs.Common.{◌≡◌, ℕ, zero, suc, ◌+◌, ◌*◌, ◌<◌, ◌≤◌, max, Bool, true, false, ◌&&◌, ◌||◌, cond, leb, List, [], ◌∷◌, ◌++◌, length, map, filter, refl, sym, ap, subst, ◌∙◌, arith}
+use Rattle.std.proofs.Common.{◌≡◌, ℕ, zero, suc, ◌+◌, ◌*◌, ◌<◌, ◌≤◌, Bool, true, false, ◌&&◌, ◌||◌, cond, leb, List, [], ◌∷◌, ◌++◌, length, map, filter, refl, sym, ap, subst, ◌∙◌, arith}
 use Rattle.std.proofs.lemmas.Bool.Decides.{nat_tests}
 use Rattle.std.proofs.lemmas.List.{length-append}
 use Rattle.std.proofs.lemmas.List.Elements.{filter-append}
@@ -12,7 +12,7 @@ use Rattle.range_set.specs.Mapping.{is_affected, is_turned, meets_hull, most_map
 use Rattle.range_set.specs.PrivateChunks.{AreChunks, Ascend, IsChunk, first_start, flat, greatest_end, shift}
 use Rattle.range_set.specs.declared.ranged.Ranged.{Ranged}
 use Rattle.range_set.specs.declared.chunk.Placed.{Placed}
-use Rattle.range_set.proofs.Chunks.{ascend-rest, length_shifted, turned-shifted}
+use Rattle.range_set.proofs.Chunks.{ascend-rest, greatest_shifted, turned-shifted}
 use Rattle.range_set.proofs.Clear.{Sections}
 
 or_left : (a b : Bool) → (a || b) ≡ false → a ≡ false
@@ -42,7 +42,7 @@ meets_ends f t a b h = (grind (arith, nat_tests), grind (arith, nat_tests))
 meets_not : (f t a b : ℕ) → (leb f b && leb a t) ≡ false → f ≤ b → t < a
 meets_not f t a b h l = grind (arith, nat_tests)
 
-both_true : (a b : Bool) → a ≡ true → b ≡ true → (a && b) ≡ true
+pub both_true : (a b : Bool) → a ≡ true → b ≡ true → (a && b) ≡ true
 both_true true b e f = f
 both_true false b e f = cc
 
@@ -51,7 +51,7 @@ second_false true b e = e
 second_false false b e = refl
 
 module _ {T : Type 0} where
-  any_append : (p : Ranged T → Bool) (xs ys : List (Ranged T)) → list_any p xs ≡ true → list_any p (xs ++ ys) ≡ true
+  pub any_append : (p : Ranged T → Bool) (xs ys : List (Ranged T)) → list_any p xs ≡ true → list_any p (xs ++ ys) ≡ true
   any_append p [] ys h = cc
   any_append p (x ∷ xs) ys h = at (p x) h (any_append p xs ys)
     where
@@ -112,7 +112,7 @@ module _ {T : Type 0} where
   abbrev hulls_met : List (Ranged T) → List ChangedRange → ℕ
   hulls_met rs cs = length (filter (meets_hull rs) cs)
 
-  counts_more : (xs ys : List (Ranged T)) (cs : List ChangedRange) → hulls_met ys cs ≤ hulls_met (xs ++ ys) cs
+  pub counts_more : (xs ys : List (Ranged T)) (cs : List ChangedRange) → hulls_met ys cs ≤ hulls_met (xs ++ ys) cs
   counts_more xs ys [] = omega arith
   counts_more xs ys (c ∷ cs) = at (meets_hull ys c) (meets_hull (xs ++ ys) c) (hull_more xs ys c) (counts_more xs ys cs)
     where
@@ -196,11 +196,6 @@ module _ {T : Type 0} (rules : RangeRules T) (d : Sections) where
   none_met [] h = refl
   none_met (r ∷ rs) h =
       rw (or_left (list_any (meets r.from r.to) (replaced d)) _ (or_left (is_affected rules d r) _ h), none_met rs (or_right (is_affected rules d r) _ h)) refl
-
-  greatest_shifted : (start : ℕ) (rs : List (Ranged T)) → 1 ≤ length rs → greatest_end (map (shift start) rs) ≡ start + greatest_end rs
-  greatest_shifted start [] some = absurd (omega arith)
-  greatest_shifted start (r ∷ []) some = omega arith
-  greatest_shifted start (r ∷ q ∷ rs) some = let e = greatest_shifted start (q ∷ rs) (omega arith) in omega (arith, e)
 
   chunk_charge : (n : ℕ) (p : Placed T) (ys : List (Ranged T)) → IsChunk rules p.start p.chunk.value → 1 ≤ length p.chunk.value.ranges.items → Ascend n (map (shift p.start) p.chunk.value.ranges.items ++ ys)
       → list_any (is_affected rules d) (map (shift p.start) p.chunk.value.ranges.items) ≡ false → chunk_affected p ≡ true

@@ -1,6 +1,7 @@
 pub mod RangeOrder
 pub mod Clear
 pub mod Chunks
+pub mod Groups
 pub mod Passing
 pub mod Each
 pub mod Under
@@ -9,4 +10,6 @@ pub mod UpdateLoops
 pub mod ClearChunks
 pub mod Cost
 pub mod Walked
+pub mod Sharing
 pub mod Sets
+pub mod Adding

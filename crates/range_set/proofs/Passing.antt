@@ -1,14 +1,18 @@
 -- Chunks that a reader passes over, and where it ends.
-use Rattle.std.proofs.Common.{◌≡◌, ℕ, suc, ◌+◌, ◌<◌, ◌≤◌, Bool, true, false, ◌&&◌, ◌||◌, cond, List, [], ◌∷◌, ◌++◌, length, map, filter, refl, sym, ap, ◌∙◌, arith}
+use Rattle.std.proofs.Common.{◌≡◌, ℕ, ◌+◌, ◌<◌, ◌≤◌, Bool, true, false, ◌&&◌, ◌||◌, List, [], ◌∷◌, ◌++◌, length, map, filter, refl, sym, ap, subst, ◌∙◌, arith}
 use Rattle.std.proofs.lemmas.List.{length-append}
 use Rattle.std.proofs.lemmas.Bool.Decides.{nat_tests}
 use Rattle.std.specs.Prelude.{nat_le}
 use Rattle.std.specs.List.{list_any}
 use Rattle.range_set.specs.Rules.{RangeRules}
 use Rattle.range_set.specs.Points.{points_of, stands}
-use Rattle.range_set.specs.PrivateChunks.{Ascend, EndBy, Fit, flat, shift}
+use Rattle.range_set.specs.PrivateChunks.{AreGroups, Ascend, EndBy, Fit, IsChunk, flat, shift, spread}
 use Rattle.range_set.specs.Updating.{overlaps}
 use Rattle.range_set.specs.declared.ranged.Ranged.{Ranged}
+use Rattle.range_set.specs.declared.chunk.Placed.{Placed}
+use Rattle.range_set.specs.declared.group.PlacedGroup.{PlacedGroup}
+use Rattle.range_set.proofs.Chunks.{ascend-rest, end_by_greatest}
+use Rattle.range_set.proofs.Groups.{flat-spread, group_ends}
 
 ends_before : (from to a b : ℕ) → b < from → (nat_le a to && nat_le from b) ≡ false
 ends_before from to a b l = grind (arith, nat_tests)
@@ -63,3 +67,65 @@ module _ {T : Type 0} (rules : RangeRules T) where
 
   pub take_point : (r : Ranged T) (rest : List (Ranged T)) → stands rules r ≡ true → points_of rules (r ∷ rest) ≡ r ∷ points_of rules rest
   take_point r rest h = rw h refl
+
+module _ {T : Type 0} where
+  -- what passing over chunks whose hull ends before a place leaves: those that overlap a span from there on, and their order
+  pub record ArePassed (place : ℕ) (old new : List (Placed T)) : Type 0 where
+    pub kept : (to : ℕ) → filter (overlaps place to) (flat new) ≡ filter (overlaps place to) (flat old)
+    pub order : (n : ℕ) → Ascend n (flat old) → Ascend n (flat new)
+    pub fewer : length (flat new) ≤ length (flat old)
+    pub fit : Fit (flat old) → Fit (flat new)
+
+  pub passed_none : (place : ℕ) (ps : List (Placed T)) → ArePassed place ps ps
+  passed_none place ps = record {
+    kept = λ to. refl;
+    order = λ n h. h;
+    fewer = omega arith;
+    fit = λ h. h;
+  }
+
+  passed_hull : (place start reach : ℕ) (old here later : List (Placed T)) (rs : List (Ranged T)) → flat here ≡ map (shift start) rs ++ flat later → EndBy reach rs → start + reach < place → ArePassed place old here → ArePassed place old later
+  passed_hull place start reach old here later rs is ends l h = record {
+    kept = λ to. sym (none_overlap place to start reach rs (flat later) ends l) ∙ (ap (filter (overlaps place to)) (sym is) ∙ h.kept to);
+    order = λ n k. ascend-rest n (map (shift start) rs) (flat later) (subst (Ascend n) is (h.order n k));
+    fewer = let m = length-rest (map (shift start) rs) (flat later) in let n = ap length is in let k = h.fewer in omega (arith, m, n, k);
+    fit = λ k. fit-rest (map (shift start) rs) (flat later) (subst Fit is (h.fit k));
+  }
+
+  pub passed_chunk : (rules : RangeRules T) (place : ℕ) (old : List (Placed T)) (p : Placed T) (later : List (Placed T)) → IsChunk rules p.start p.chunk.value → p.start + p.chunk.value.reach < place
+      → ArePassed place old (p ∷ later) → ArePassed place old later
+  passed_chunk rules place old p later c l h =
+      let e = c.reach in
+      passed_hull place p.start p.chunk.value.reach old (p ∷ later) later p.chunk.value.ranges.items refl (end_by_greatest p.chunk.value.ranges.items p.chunk.value.reach (omega (arith, e))) l h
+
+  pub passed_group : (rules : RangeRules T) (place : ℕ) (old : List (Placed T)) (g : PlacedGroup T) (gs : List (PlacedGroup T)) → AreGroups rules (g ∷ gs) → g.start + g.group.value.reach < place
+      → ArePassed place old (spread (g ∷ gs)) → ArePassed place old (spread gs)
+  passed_group rules place old g gs c l h =
+      passed_hull place g.start g.group.value.reach old (spread (g ∷ gs)) (spread gs) (flat g.group.value.chunks.items) (flat-spread g gs) (group_ends rules g.start g.group.value c.0.0) l h
+
+module _ {T : Type 0} (rules : RangeRules T) where
+  -- what passing over chunks without a range that stands for what it covers leaves
+  pub record HaveNoPoint (old new : List (Placed T)) : Type 0 where
+    pub kept : points_of rules (flat new) ≡ points_of rules (flat old)
+    pub fewer : length (flat new) ≤ length (flat old)
+    pub fit : Fit (flat old) → Fit (flat new)
+
+  pub no_point_none : (ps : List (Placed T)) → HaveNoPoint ps ps
+  no_point_none ps = record {
+    kept = refl;
+    fewer = omega arith;
+    fit = λ h. h;
+  }
+
+  no_point_hull : (start : ℕ) (old here later : List (Placed T)) (rs : List (Ranged T)) → flat here ≡ map (shift start) rs ++ flat later → list_any (stands rules) rs ≡ false → HaveNoPoint old here → HaveNoPoint old later
+  no_point_hull start old here later rs is none h = record {
+    kept = sym (no_points rules start rs (flat later) none) ∙ (ap (points_of rules) (sym is) ∙ h.kept);
+    fewer = let m = length-rest (map (shift start) rs) (flat later) in let n = ap length is in let k = h.fewer in omega (arith, m, n, k);
+    fit = λ k. fit-rest (map (shift start) rs) (flat later) (subst Fit is (h.fit k));
+  }
+
+  pub no_point_chunk : (old : List (Placed T)) (p : Placed T) (later : List (Placed T)) → IsChunk rules p.start p.chunk.value → p.chunk.value.has_point ≡ false → HaveNoPoint old (p ∷ later) → HaveNoPoint old later
+  no_point_chunk old p later c e h = no_point_hull p.start old (p ∷ later) later p.chunk.value.ranges.items refl (sym c.points ∙ e) h
+
+  pub no_point_group : (old : List (Placed T)) (g : PlacedGroup T) (gs : List (PlacedGroup T)) → AreGroups rules (g ∷ gs) → g.group.value.has_point ≡ false → HaveNoPoint old (spread (g ∷ gs)) → HaveNoPoint old (spread gs)
+  no_point_group old g gs c e h = no_point_hull g.start old (spread (g ∷ gs)) (spread gs) (flat g.group.value.chunks.items) (flat-spread g gs) (sym c.0.0.points ∙ e) h

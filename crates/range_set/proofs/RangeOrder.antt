@@ -1,9 +1,9 @@
 -- A sorted list of ranges that end where they start or later has no fault.
-use Rattle.std.proofs.Common.{◌≡◌, ℕ, zero, suc, ◌+◌, ◌<◌, Bool, true, false, not, ◌&&◌, ◌||◌, cond, ℤ, List, [], ◌∷◌, ◌++◌, length, get_or, take, Option, Some, None, refl, sym, ◌∙◌, ap, arith}
+use Rattle.std.proofs.Common.{◌≡◌, ℕ, zero, suc, ◌+◌, ◌<◌, Bool, true, false, ◌&&◌, ◌||◌, cond, ℤ, List, [], ◌∷◌, ◌++◌, length, get_or, take, Option, Some, None, refl, sym, ◌∙◌, ap, arith}
 use Rattle.std.proofs.lemmas.List.{take_more}
 use Rattle.std.proofs.lemmas.List.Elements.{filter-append}
 use Rattle.std.specs.List.{filter, cons_option}
-use Rattle.std.specs.Prelude.{nat_lt, nat_le, ◌==◌, int_lt, int_le, pos, filter_map, option_map, option_and_then}
+use Rattle.std.specs.Prelude.{nat_lt, ◌==◌, int_lt, int_le, pos, filter_map, option_map, option_and_then}
 use Rattle.std.proofs.lemmas.Bool.Decides.{nat_tests}
 use Rattle.stable_order.specs.StableSort.{insert_by, stable_sort}
 use Rattle.stable_order.proofs.StableSort.{NoneBelow, NoneBelow-chain, Rises, Rises-stable_sort}

@@ -1,11 +1,11 @@
 -- Sets of chunks as a whole: their ends, and where a mapped set lies.
-use Rattle.std.proofs.Common.{◌≡◌, ℕ, zero, suc, ◌+◌, ◌-◌, ◌^◌, ◌<◌, ◌≤◌, Bool, true, false, ◌&&◌, ◌||◌, cond, List, [], ◌∷◌, ◌++◌, length, get_or, take, map, filter_map, Option, Some, None, refl, sym, ap, subst, ◌∙◌, arith}
+use Rattle.std.proofs.Common.{◌≡◌, ℕ, zero, suc, ◌+◌, ◌-◌, ◌<◌, ◌≤◌, Bool, true, false, ◌&&◌, ◌||◌, cond, List, [], ◌∷◌, ◌++◌, length, get_or, take, map, filter_map, Option, Some, None, refl, sym, ap, subst, ◌∙◌, arith}
 use Rattle.std.proofs.lemmas.Option.{get_or_from_slice_get, slice_get-map}
-use Rattle.std.proofs.lemmas.List.{append-nil, length-append, length-map, take_more}
+use Rattle.std.proofs.lemmas.List.{append-nil, length-append, length-map}
 use Rattle.std.specs.List.{cons_option}
 use Rattle.std.specs.Prelude.{IfSome, slice_get, nat_lt, ◌==◌, int_lt, int_le, ℤ, pos, option_map, option_and_then}
 use Rattle.change_desc.specs.Sections.{counted, new_size}
-use Rattle.change_desc.specs.Positions.{is_negative, map_pos}
+use Rattle.change_desc.specs.Positions.{is_negative}
 use Rattle.change_desc.specs.declared.map_mode.MapMode.{MapMode}
 use Rattle.change_desc.specs.declared.map_mode.MapMode.TheVariants.{Simple}
 use Rattle.change_desc.proofs.Bounds.{map_pos-within}
@@ -13,13 +13,15 @@ use Rattle.stable_order.specs.StableSort.{insert_by, stable_sort}
 use Rattle.range_set.specs.Rules.{RangeRules}
 use Rattle.range_set.specs.Order.{AllForward, before}
 use Rattle.range_set.specs.Mapping.{Ends, EndWithin, ends_unless_turned, map_ranges, moved, new_ends, place_of, point_ends, span_ends}
-use Rattle.range_set.specs.PrivateChunks.{AreChunks, EndBy, Fit, IsChunk, flat, greatest_end, shift}
+use Rattle.range_set.specs.PrivateChunks.{AreChunks, AreGroups, EndBy, Fit, flat, move, shift, spread}
 use Rattle.range_set.specs.declared.ranged.Ranged.{Ranged}
 use Rattle.range_set.specs.declared.chunk.Placed.{Placed}
-use Rattle.range_set.specs.declared.chunk.Chunk.{Chunk}
-use Rattle.range_set.proofs.Chunks.{AreChunks-push, chunk-at, end_by_greatest, fit_flat, flat-push, not_less}
+use Rattle.range_set.specs.declared.group.Group.{Group}
+use Rattle.range_set.specs.declared.group.PlacedGroup.{PlacedGroup}
+use Rattle.range_set.proofs.Chunks.{fit_flat, length_shifted, not_less}
 use Rattle.range_set.proofs.Clear.{Sections}
-use Rattle.range_set.proofs.Each.{Within, end_within, within}
+use Rattle.range_set.proofs.Each.{Within, end_within}
+use Rattle.range_set.proofs.Groups.{flat-spread, flat-spread_push, flat_forward, group-at, group_ends, shifted_twice, spread-push, spread_take}
 use Rattle.range_set.proofs.Walked.{hull_within, within_prefix, within_rest}
 
 -- ends that lie in a text, if there are any
@@ -93,30 +95,35 @@ module _ {T : Type 0} (rules : RangeRules T) where
   within_both len [] ys h k = k
   within_both len (x ∷ xs) ys h k = (h.0, within_both len xs ys h.1 k)
 
-  pub within_push : (len : ℕ) (ps : List (Placed T)) (i : ℕ) (p : Placed T) → i < length ps → p ≡ get_or ps i p → AreChunks rules ps → p.start + p.chunk.value.reach ≤ len → Within len (flat (take i ps)) → Within len (flat (take (i + 1) ps))
-  within_push len ps i p l e h k w =
-      let chunk = chunk-at rules ps i p l e h in
-      let reach = chunk.0.reach in
-      subst (λ qs. Within len (flat qs)) (sym (take_more ps i p l ∙ ap (λ x. take i ps ++ x ∷ []) (sym e)))
-      (subst (Within len) (sym (flat-push (take i ps) p))
-      (within_both len (flat (take i ps)) _ w (hull_in len p.start p.chunk.value.reach p.chunk.value.ranges.items chunk.0.forward (end_by_greatest p.chunk.value.ranges.items p.chunk.value.reach (omega (arith, reach))) k)))
+  pub within_push : (len : ℕ) (gs : List (PlacedGroup T)) (i : ℕ) (g : PlacedGroup T) → i < length gs → g ≡ get_or gs i g → AreGroups rules gs → g.start + g.group.value.reach ≤ len
+      → Within len (flat (spread (take i gs))) → Within len (flat (spread (take (i + 1) gs)))
+  within_push len gs i g l e h k w =
+      let group = (group-at rules gs i g l e h).0 in
+      subst (λ hs. Within len (flat (spread hs))) (sym (spread_take gs i g l e))
+      (subst (Within len) (sym (flat-spread_push (take i gs) g))
+      (within_both len (flat (spread (take i gs))) _ w
+      (hull_in len g.start g.group.value.reach (flat g.group.value.chunks.items) (flat_forward rules g.group.value.chunks.items group.chunks) (group_ends rules g.start g.group.value group) k)))
 
-  pub hull_of : (len : ℕ) (ps : List (Placed T)) (i : ℕ) (p : Placed T) → i < length ps → p ≡ get_or ps i p → AreChunks rules ps → Within len (flat ps) → p.start + p.chunk.value.reach ≤ len
-  hull_of len [] i p l e h w = absurd (omega arith)
-  hull_of len (q ∷ ps) zero p l e h w =
-      let k = hull_within rules [] len q.start q.chunk.value.ranges.items h.0.1 (within_prefix len (map (shift q.start) q.chunk.value.ranges.items) (flat ps) w) in
+  pub hull_of : (len : ℕ) (gs : List (PlacedGroup T)) (i : ℕ) (g : PlacedGroup T) → i < length gs → g ≡ get_or gs i g → AreGroups rules gs → Within len (flat (spread gs)) → g.start + g.group.value.reach ≤ len
+  hull_of len [] i g l e h w = absurd (omega arith)
+  hull_of len (q ∷ gs) zero g l e h w =
+      let ranges = flat q.group.value.chunks.items in
+      let parts = subst (Within len) (flat-spread q gs) w in
+      let k = hull_within rules [] len q.start ranges h.0.1 (within_prefix len (map (shift q.start) ranges) (flat (spread gs)) parts) in
       let r = h.0.0.reach in
-      subst (λ (x : Placed T). x.start + x.chunk.value.reach ≤ len) (sym e) (omega (arith, k, r))
-  hull_of len (q ∷ ps) (suc i) p l e h w = hull_of len ps i p (omega arith) e h.1 (within_rest len (map (shift q.start) q.chunk.value.ranges.items) (flat ps) w)
+      subst (λ (x : PlacedGroup T). x.start + x.group.value.reach ≤ len) (sym e) (omega (arith, k, r))
+  hull_of len (q ∷ gs) (suc i) g l e h w =
+      hull_of len gs i g (omega arith) e h.1 (within_rest len (map (shift q.start) (flat q.group.value.chunks.items)) (flat (spread gs)) (subst (Within len) (flat-spread q gs) w))
 
-  -- one more chunk that is shared
-  pub flat_shared : (ps done after : List (Placed T)) (i : ℕ) (p q : Placed T) → i < length ps → p ≡ get_or ps i p → q.start ≡ p.start → q.chunk.value ≡ p.chunk.value → flat done ≡ flat (take i ps) → after ≡ done ++ q ∷ [] → flat after ≡ flat (take (i + 1) ps)
-  flat_shared ps done after i p q l e s v h a =
-      ap flat a ∙ (flat-push done q
-      ∙ (ap (λ n. flat done ++ map (shift n) q.chunk.value.ranges.items) s
-      ∙ (ap (λ (ch : Chunk T). flat done ++ map (shift p.start) ch.ranges.items) v
-      ∙ (ap (λ xs. xs ++ map (shift p.start) p.chunk.value.ranges.items) h
-      ∙ sym (ap flat (take_more ps i p l ∙ ap (λ x. take i ps ++ x ∷ []) (sym e)) ∙ flat-push (take i ps) p)))))
+  -- one more group that is shared
+  pub spread_shared : (gs done after : List (PlacedGroup T)) (i : ℕ) (g q : PlacedGroup T) → i < length gs → g ≡ get_or gs i g → q.start ≡ g.start → q.group.value ≡ g.group.value → spread done ≡ spread (take i gs) → after ≡ done ++ q ∷ []
+      → spread after ≡ spread (take (i + 1) gs)
+  spread_shared gs done after i g q l e s v h a =
+      ap spread a ∙ (spread-push done q
+      ∙ (ap (λ n. spread done ++ map (move n) q.group.value.chunks.items) s
+      ∙ (ap (λ (x : Group T). spread done ++ map (move g.start) x.chunks.items) v
+      ∙ (ap (λ xs. xs ++ map (move g.start) g.group.value.chunks.items) h
+      ∙ sym (ap spread (spread_take gs i g l e) ∙ spread-push (take i gs) g)))))
 
 -- the last range of some chunks
 pub last_place : {X : Type 0} (xs : List X) (x : X) → slice_get xs (length xs - 1) ≡ Some x → (length xs - 1 < length xs) × (x ≡ get_or xs (length xs - 1) x)
@@ -158,6 +165,35 @@ module _ {T : Type 0} (rules : RangeRules T) where
       let n : length (q ∷ q' ∷ ps) - 1 ≡ suc (length (q' ∷ ps) - 1) = omega arith in
       last_append (map (shift q.start) q.chunk.value.ranges.items) (flat (q' ∷ ps)) (some_ranges q'.start q'.chunk.value.ranges.items (flat ps) h.1.0.1)
       ∙ last_flat (q' ∷ ps) p r h.1 (ap (slice_get (q ∷ q' ∷ ps)) (sym n) ∙ e) f
+
+  -- the last range of some groups
+  pub last_spread : (gs : List (PlacedGroup T)) (g : PlacedGroup T) (o : Option (Ranged T)) → AreGroups rules gs → slice_get gs (length gs - 1) ≡ Some g
+      → o ≡ slice_get (map (shift g.start) (flat g.group.value.chunks.items)) (length (flat g.group.value.chunks.items) - 1) → o ≡ slice_get (flat (spread gs)) (length (flat (spread gs)) - 1)
+  last_spread [] g o h e f = cc
+  last_spread (q ∷ []) g o h e f =
+      let same : q ≡ g = cc in
+      let ranges = flat g.group.value.chunks.items in
+      let n = length_shifted rules g.start ranges in
+      f ∙ (ap (λ k. slice_get (map (shift g.start) ranges) (k - 1)) (sym n)
+      ∙ (ap (λ xs. slice_get xs (length xs - 1)) (sym (append-nil (map (shift g.start) ranges)) ∙ sym (flat-spread g []))
+      ∙ ap (λ (x : PlacedGroup T). slice_get (flat (spread (x ∷ []))) (length (flat (spread (x ∷ []))) - 1)) (sym same)))
+  last_spread (q ∷ q' ∷ gs) g o h e f =
+      let n : length (q ∷ q' ∷ gs) - 1 ≡ suc (length (q' ∷ gs) - 1) = omega arith in
+      let some : 1 ≤ length (flat (spread (q' ∷ gs))) =
+      let a = ap length (flat-spread q' gs) ∙ length-append (map (shift q'.start) (flat q'.group.value.chunks.items)) (flat (spread gs)) in
+      let b = length_shifted rules q'.start (flat q'.group.value.chunks.items) in
+      let c = h.1.0.1 in
+      omega (arith, a, b, c) in
+      last_spread (q' ∷ gs) g o h.1 (ap (slice_get (q ∷ q' ∷ gs)) (sym n) ∙ e) f
+      ∙ (sym (last_append (map (shift q.start) (flat q.group.value.chunks.items)) (flat (spread (q' ∷ gs))) some)
+      ∙ ap (λ xs. slice_get xs (length xs - 1)) (sym (flat-spread q (q' ∷ gs))))
+
+  -- the last range of chunks that count from a place
+  pub last_moved : (base : ℕ) (ps : List (Placed T)) (p : Placed T) (r : Ranged T) → AreChunks rules ps → slice_get ps (length ps - 1) ≡ Some p
+      → slice_get p.chunk.value.ranges.items (length p.chunk.value.ranges.items - 1) ≡ Some r → slice_get (map (shift base) (flat ps)) (length (flat ps) - 1) ≡ Some (shift (base + p.start) r)
+  last_moved base ps p r h e f =
+      let n : p.start + base ≡ base + p.start = omega arith in
+      slice_get-map (shift base) (flat ps) (length (flat ps) - 1) ∙ (ap (option_map (shift base)) (last_flat ps p r h e f) ∙ ap (λ x. Some x) (shifted_twice base p.start r ∙ ap (λ n. shift n r) n))
 
   -- what a set tells of its ranges
   pub flat_within : (ps : List (Placed T)) → AreChunks rules ps → EndWithin 4294967295 (flat ps)

@@ -1,5 +1,5 @@
 -- A mapping under way: what is done is sorted, and the rest doesn't belong before it.
-use Rattle.std.proofs.Common.{◌≡◌, ℕ, zero, suc, ◌+◌, ◌-◌, ◌<◌, ◌≤◌, Bool, true, false, ◌&&◌, ◌||◌, cond, List, [], ◌∷◌, ◌++◌, length, map, filter_map, Option, Some, None, refl, sym, ap, subst, ◌∙◌, append_assoc, ◌⊎◌, inl, inr, eq-or-lt_of_le, arith}
+use Rattle.std.proofs.Common.{◌≡◌, ℕ, suc, ◌+◌, ◌<◌, ◌≤◌, Bool, true, false, ◌&&◌, ◌||◌, cond, List, [], ◌∷◌, ◌++◌, length, map, filter_map, Option, Some, None, refl, sym, ap, subst, ◌∙◌, append_assoc, ◌⊎◌, inl, inr, eq-or-lt_of_le, arith}
 use Rattle.std.proofs.lemmas.List.{append-nil, length-append, length-map}
 use Rattle.std.proofs.lemmas.List.Elements.{filter_map-append}
 use Rattle.std.proofs.lemmas.Bool.Decides.{nat_tests}
@@ -14,11 +14,10 @@ use Rattle.stable_order.proofs.StableSort.{NoneBelow, NoneBelow-chain, NoneBelow
 use Rattle.range_set.specs.Rules.{RangeRules}
 use Rattle.range_set.specs.Order.{before}
 use Rattle.range_set.specs.Ranking.{before-order}
-use Rattle.range_set.specs.Mapping.{Ends, ends_unless_turned, is_turned, moved, new_ends, place_of, point_ends, span_ends}
+use Rattle.range_set.specs.Mapping.{ends_unless_turned, moved, place_of, point_ends, span_ends}
 use Rattle.range_set.specs.PrivateChunks.{Ascend}
 use Rattle.range_set.specs.declared.ranged.Ranged.{Ranged}
-use Rattle.range_set.proofs.Chunks.{ascend-less, not_less}
-use Rattle.range_set.proofs.Clear.{IsClear, Sections, clear_apart, clear_place, goes_after, goes_before, map_pos-clear, none-narrow}
+use Rattle.range_set.proofs.Clear.{IsClear, Sections, clear_place, goes_after, goes_before, map_pos-clear}
 
 earlier : (a b : ℕ) (c : Bool) → (nat_lt a b || (a == b && c)) ≡ false → b ≤ a
 earlier a b c h = grind (arith, nat_tests)
@@ -243,7 +242,7 @@ module _ {T : Type 0} (rules : RangeRules T) (d : Sections) where
   pub under_init : (whole : List (Ranged T)) → Rises (before rules) whole → IsUnder whole [] [] whole
   under_init whole h = record { sources = []; run_is = refl; rises = h; goes = refl; room = omega arith }
 
-  length-filter_map : (f : Ranged T → Option (Ranged T)) (rs : List (Ranged T)) → length (filter_map f rs) ≤ length rs
+  pub length-filter_map : (f : Ranged T → Option (Ranged T)) (rs : List (Ranged T)) → length (filter_map f rs) ≤ length rs
   length-filter_map f [] = omega arith
   length-filter_map f (r ∷ rs) = let k = length-filter_map f rs in at (f r) k
     where

@@ -14,7 +14,7 @@ use Rattle.range_set.specs.PrivateChunks.{Ascend}
 use Rattle.range_set.specs.PrivateUpdates.{IsBeyond, KeepsPart, StandBefore, TakesBefore}
 use Rattle.range_set.specs.declared.ranged.Ranged.{Ranged}
 use Rattle.range_set.proofs.RangeOrder.{forward-append, forward_sort, no_fault_from}
-use Rattle.range_set.proofs.Under.{any_both, any_left, none_both, none_right, rises_across, rises_ascend, rises_left, rises_right, through}
+use Rattle.range_set.proofs.Under.{any_both, any_left, none_right, rises_across, rises_ascend, rises_left, rises_right, through}
 
 or_left : (a b : Bool) → (a || b) ≡ false → a ≡ false
 or_left false b h = refl
@@ -82,7 +82,7 @@ module _ {T : Type 0} (rules : RangeRules T) where
   below_right [] xs ys h = tt
   below_right (z ∷ zs) xs ys h = (none_right rules z xs ys h.0, below_right zs xs ys h.1)
 
-  below_append : (xs ys zs : List (Ranged T)) → Below xs zs → Below ys zs → Below (xs ++ ys) zs
+  pub below_append : (xs ys zs : List (Ranged T)) → Below xs zs → Below ys zs → Below (xs ++ ys) zs
   below_append [] ys zs h k = k
   below_append (x ∷ xs) ys zs h k = (h.0, below_append xs ys zs h.1 k)
 
@@ -122,11 +122,11 @@ module _ {T : Type 0} (rules : RangeRules T) where
   part_forward chunk old new k h l = turned-none new (k.none (λ (r : Ranged T). nat_lt r.to r.from) (none-turned old h) (none-turned chunk l))
 
   -- a range that belongs before the first of a list in order belongs before each of it
-  abbrev BeforeEach : Ranged T → List (Ranged T) → Type 0
+  abbrev pub BeforeEach : Ranged T → List (Ranged T) → Type 0
   BeforeEach x [] = Unit {0}
   BeforeEach x (y ∷ ys) = (before rules x y ≡ true) × BeforeEach x ys
 
-  abbrev EachBefore : List (Ranged T) → List (Ranged T) → Type 0
+  abbrev pub EachBefore : List (Ranged T) → List (Ranged T) → Type 0
   EachBefore [] ys = Unit {0}
   EachBefore (x ∷ xs) ys = BeforeEach x ys × EachBefore xs ys
 
@@ -150,7 +150,7 @@ module _ {T : Type 0} (rules : RangeRules T) where
   not_after x [] h = tt
   not_after x (y ∷ ys) h = ((before-order rules).one_way x y h.0, not_after x ys h.1)
 
-  none_after : (xs ys : List (Ranged T)) → EachBefore xs ys → Below xs ys
+  pub none_after : (xs ys : List (Ranged T)) → EachBefore xs ys → Below xs ys
   none_after [] ys h = tt
   none_after (x ∷ xs) ys h = (not_after x ys h.0, none_after xs ys h.1)
 
@@ -222,7 +222,7 @@ module _ {T : Type 0} (rules : RangeRules T) where
       ∙ sym (filter-append t (run ++ taken) (later ++ left))))))))))
 
   -- ranges that belong before others may stand before them in a list that is to be sorted
-  sort-swapped : (run taken later left : List (Ranged T)) → EachBefore taken later
+  pub sort-swapped : (run taken later left : List (Ranged T)) → EachBefore taken later
       → stable_sort (before rules) (run ++ (later ++ (taken ++ left))) ≡ stable_sort (before rules) ((run ++ taken) ++ (later ++ left))
   sort-swapped run taken later left h =
       let o = before-order rules in

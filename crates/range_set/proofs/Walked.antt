@@ -1,5 +1,5 @@
 -- One chunk after another, as they are mapped.
-use Rattle.std.proofs.Common.{◌≡◌, ℕ, zero, suc, ◌+◌, ◌^◌, ◌<◌, ◌≤◌, Bool, true, false, ◌||◌, cond, List, [], ◌∷◌, ◌++◌, length, get_or, take, drop, map, filter_map, Some, add-one, refl, sym, ap, subst, ◌∙◌, arith}
+use Rattle.std.proofs.Common.{◌≡◌, ℕ, zero, suc, ◌+◌, ◌<◌, ◌≤◌, Bool, true, false, ◌||◌, cond, List, [], ◌∷◌, ◌++◌, length, get_or, drop, map, filter_map, Some, refl, sym, ap, subst, ◌∙◌, arith}
 use Rattle.std.specs.List.{list_any}
 use Rattle.std.specs.Prelude.{IfSome}
 use Rattle.change_desc.specs.Sections.{counted, new_size, old_size}
@@ -13,10 +13,10 @@ use Rattle.range_set.specs.Rules.{RangeRules}
 use Rattle.range_set.specs.Order.{AllForward, before}
 use Rattle.range_set.proofs.RangeOrder.{forward_filtered, forward_moved}
 use Rattle.range_set.specs.Mapping.{is_turned, moved}
-use Rattle.range_set.specs.PrivateChunks.{AreChunks, Ascend, BeginBy, EndBy, IsChunk, first_start, flat, greatest_end, shift}
+use Rattle.range_set.specs.PrivateChunks.{AreChunks, Ascend, BeginBy, first_start, flat, greatest_end, shift}
 use Rattle.range_set.specs.declared.ranged.Ranged.{Ranged}
 use Rattle.range_set.specs.declared.chunk.Placed.{Placed}
-use Rattle.range_set.proofs.Chunks.{ascend-less, ascend-prefix, ascend-rest, begin_by-next, end_by_greatest, length_shifted}
+use Rattle.range_set.proofs.Chunks.{ascend-less, ascend-rest, begin_by-next, end_by_greatest, length_shifted, rest_at}
 use Rattle.range_set.proofs.Clear.{IsClear, Sections, clear_apart, clear_place, map_pos-clear, none-narrow}
 use Rattle.range_set.proofs.ClearChunks.{clear_each, clear_shifts}
 use Rattle.range_set.proofs.Cost.{allowance, chunk_affected}
@@ -32,14 +32,6 @@ or_right false b h = h
 or_right true b h = cc
 
 module _ {T : Type 0} where
-  pub rest_at : (ps : List (Placed T)) (i : ℕ) (p : Placed T) → i < length ps → p ≡ get_or ps i p → drop i ps ≡ p ∷ drop (i + 1) ps
-  rest_at ps i p l e = at ps i p l e ∙ ap (λ n. p ∷ drop n ps) (sym (add-one i))
-    where
-      at : (ps : List (Placed T)) (i : ℕ) (p : Placed T) → i < length ps → p ≡ get_or ps i p → drop i ps ≡ p ∷ drop (suc i) ps
-      at [] i p l e = absurd (omega arith)
-      at (q ∷ ps) zero p l e = ap (λ x. x ∷ ps) (sym e)
-      at (q ∷ ps) (suc i) p l e = at ps i p (omega arith) e
-
   -- the next chunk begins at a place or before
   abbrev pub StartsBy : ℕ → List (Placed T) → Type 0
   StartsBy a [] = ⊥
@@ -53,13 +45,19 @@ module _ {T : Type 0} where
   within_rest len [] ys h = h
   within_rest len (x ∷ xs) ys h = within_rest len xs ys h.1
 
+  -- what is after a hull begins no earlier than it
+  pub ascend_hull : (n start : ℕ) (rs ys : List (Ranged T)) → 1 ≤ length rs → first_start rs ≡ 0 → Ascend n (map (shift start) rs ++ ys) → (n ≤ start) × Ascend start ys
+  ascend_hull n start [] ys some f h = absurd (omega arith)
+  ascend_hull n start (r ∷ rs) ys some f h =
+      (omega (arith, h.0, f), ascend-less start (r.from + start) ys (omega (arith, f)) (ascend-rest (r.from + start) (map (shift start) rs) ys h.1))
+
 module _ {T : Type 0} (rules : RangeRules T) (d : Sections) where
   pub start_in : (xs : List (Ranged T)) → Within (old_size d) xs → StartIn rules d xs
   start_in [] h = tt
   start_in (x ∷ xs) h = (h.0.0, start_in xs h.1)
 
   -- a chunk begins where its first range does
-  begins_at : (n start : ℕ) (rs : List (Ranged T)) → 1 ≤ length rs → first_start rs ≡ 0 → BeginBy n (map (shift start) rs) → start ≤ n
+  pub begins_at : (n start : ℕ) (rs : List (Ranged T)) → 1 ≤ length rs → first_start rs ≡ 0 → BeginBy n (map (shift start) rs) → start ≤ n
   begins_at n start [] some f b = absurd (omega arith)
   begins_at n start (r ∷ rs) some f b = omega (arith, f, b.0)
 
@@ -72,12 +70,6 @@ module _ {T : Type 0} (rules : RangeRules T) (d : Sections) where
       at (r ∷ rs) some f asc =
           let b = begin_by-next n (map (shift p.start) p.chunk.value.ranges.items) (shift q.start r) (map (shift q.start) rs ++ flat ps) asc in
           let k = begins_at (r.from + q.start) p.start p.chunk.value.ranges.items h.0.1 h.0.0.first b in omega (arith, k, f, s)
-
-  -- what is after a chunk begins no earlier than it
-  ascend_start : (n start : ℕ) (rs ys : List (Ranged T)) → 1 ≤ length rs → first_start rs ≡ 0 → Ascend n (map (shift start) rs ++ ys) → (n ≤ start) × Ascend start ys
-  ascend_start n start [] ys some f h = absurd (omega arith)
-  ascend_start n start (r ∷ rs) ys some f h =
-      (omega (arith, h.0, f), ascend-less start (r.from + start) ys (omega (arith, f)) (ascend-rest (r.from + start) (map (shift start) rs) ys h.1))
 
   within_start : (len start : ℕ) (rs ys : List (Ranged T)) → 1 ≤ length rs → first_start rs ≡ 0 → Within len (map (shift start) rs ++ ys) → start ≤ len
   within_start len start [] ys some f h = absurd (omega arith)
@@ -142,8 +134,33 @@ module _ {T : Type 0} (rules : RangeRules T) (d : Sections) where
   hull_within len start (r ∷ []) some w = omega (arith, w.0.1)
   hull_within len start (r ∷ q ∷ rs) some w = let k = hull_within len start (q ∷ rs) (omega arith) w.1 in omega (arith, w.0.1, k)
 
-  clear_within : (p : ℕ) → p ≤ old_size d → IsClear p p d → clear_place d p ≤ new_size counted d
+  pub clear_within : (p : ℕ) → p ≤ old_size d → IsClear p p d → clear_place d p ≤ new_size counted d
   clear_within p l h = let w : IfSome (Some (clear_place d p)) (λ q. q ≤ new_size counted d) = subst (λ o. IfSome o (λ q. q ≤ new_size counted d)) (map_pos-clear d p true Simple l h) (map_pos-within d p true Simple) in w
+
+  -- what ranges give whose hull no change meets
+  pub record IsClearHull (start reach : ℕ) (rs : List (Ranged T)) : Type 0 where
+    pub clear : IsClear start start d
+    pub inside : start ≤ old_size d
+    pub fits : clear_place d start + reach ≤ new_size counted d
+    pub images : map (at_clear rules d) (map (shift start) rs) ≡ map (shift (clear_place d start)) rs
+    pub each : ClearEach rules d (map (shift start) rs)
+
+  pub clear_hull : (start reach : ℕ) (rs : List (Ranged T)) → 1 ≤ length rs → AllForward rs → reach ≡ greatest_end rs → list_any (is_turned rules) rs ≡ false → IsClear start (start + reach) d → Within (old_size d) (map (shift start) rs)
+      → IsClearHull start reach rs
+  clear_hull start reach rs some forward reach_is turned hull inside =
+      let ends = end_by_greatest rs reach (omega (arith, reach_is)) in
+      let each = clear_each rules d start reach rs hull forward ends turned inside in
+      let end : start + reach ≤ old_size d = let k = hull_within (old_size d) start rs some inside in omega (arith, k, reach_is) in
+      let far = clear_apart d start (start + reach) (omega arith) hull in
+      let last = none-narrow start (start + reach) (start + reach) (start + reach) (replaced d) (omega arith) (omega arith) hull in
+      let bound = clear_within (start + reach) end last in
+      record {
+        clear = none-narrow start (start + reach) start start (replaced d) (omega arith) (omega arith) hull;
+        inside = omega (arith, end);
+        fits = omega (arith, far, bound);
+        images = clear_shifts rules d start reach rs hull forward ends;
+        each = each;
+      }
 
   pub clear_chunk : (whole : List (Ranged T)) (p : Placed T) (rest : List (Placed T)) (done run : List (Ranged T)) (reached : ℕ) (reps : List ChangedRange) → IsWalked whole (p ∷ rest) done run reached reps
       → chunk_affected rules d p ≡ false → IsClearChunk whole p rest done run reached
@@ -153,22 +170,16 @@ module _ {T : Type 0} (rules : RangeRules T) (d : Sections) where
       let hull = or_right p.chunk.value.is_turned (list_any (meets p.start (p.start + p.chunk.value.reach)) (replaced d)) e in
       let turned : list_any (is_turned rules) items ≡ false = sym chunk.turned ∙ or_left p.chunk.value.is_turned (list_any (meets p.start (p.start + p.chunk.value.reach)) (replaced d)) e in
       let inside = within_prefix (old_size d) (map (shift p.start) items) (flat rest) h.within in
-      let reach_is = chunk.reach in
-      let ends = end_by_greatest items p.chunk.value.reach (omega (arith, reach_is)) in
-      let each = clear_each rules d p.start p.chunk.value.reach items hull chunk.forward ends turned inside in
       let some : 0 < length (map (shift p.start) items) = let n = length_shifted rules p.start items in let m = h.chunks.0.1 in omega (arith, n, m) in
-      let end : p.start + p.chunk.value.reach ≤ old_size d = let k = hull_within (old_size d) p.start items h.chunks.0.1 inside in omega (arith, k, reach_is) in
-      let far = clear_apart d p.start (p.start + p.chunk.value.reach) (omega arith) hull in
-      let last = none-narrow p.start (p.start + p.chunk.value.reach) (p.start + p.chunk.value.reach) (p.start + p.chunk.value.reach) (replaced d) (omega arith) (omega arith) hull in
-      let bound = clear_within (p.start + p.chunk.value.reach) end last in
+      let here = clear_hull p.start p.chunk.value.reach items h.chunks.0.1 chunk.forward chunk.reach turned hull inside in
       record {
-        clear = none-narrow p.start (p.start + p.chunk.value.reach) p.start p.start (replaced d) (omega arith) (omega arith) hull;
-        inside = omega (arith, end);
-        ascend = (ascend_start reached p.start items (flat rest) h.chunks.0.1 chunk.first h.ascend).0;
-        order = under_order rules d whole done run (map (shift p.start) items) (flat rest) h.under some each (start_in (flat rest) (within_rest (old_size d) (map (shift p.start) items) (flat rest) h.within));
-        fits = omega (arith, far, bound);
-        images = clear_shifts rules d p.start p.chunk.value.reach items hull chunk.forward ends;
-        each = each;
+        clear = here.clear;
+        inside = here.inside;
+        ascend = (ascend_hull reached p.start items (flat rest) h.chunks.0.1 chunk.first h.ascend).0;
+        order = under_order rules d whole done run (map (shift p.start) items) (flat rest) h.under some here.each (start_in (flat rest) (within_rest (old_size d) (map (shift p.start) items) (flat rest) h.within));
+        fits = here.fits;
+        images = here.images;
+        each = here.each;
       }
 
   pub walked_clear : (whole : List (Ranged T)) (p : Placed T) (rest : List (Placed T)) (done run more : List (Ranged T)) (reached : ℕ) (reps after : List ChangedRange) → IsWalked whole (p ∷ rest) done run reached reps
@@ -184,7 +195,7 @@ module _ {T : Type 0} (rules : RangeRules T) (d : Sections) where
             (e ∙ ap (λ xs. done ++ stable_sort (before rules) run ++ xs) (sym k.images));
         chunks = h.chunks.1;
         within = later;
-        ascend = (ascend_start reached p.start items (flat rest) h.chunks.0.1 h.chunks.0.0.first h.ascend).1;
+        ascend = (ascend_hull reached p.start items (flat rest) h.chunks.0.1 h.chunks.0.0.first h.ascend).1;
         same = next_same whole p rest done run reached reps after h f;
       }
 

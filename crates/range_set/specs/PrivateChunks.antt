@@ -1,14 +1,18 @@
--- A list of chunks as one list of ranges. Private: contracts of sets see that list alone.
-use Rattle.std.specs.Prelude.{◌≡◌, ℕ, ◌+◌, ◌^◌, ◌<◌, ◌≤◌, max, List, None, [], ◌∷◌, ◌++◌, length, map}
+-- Groups of chunks as one list of ranges. Private: contracts of sets see that list alone.
+use Rattle.std.specs.Prelude.{◌≡◌, ℕ, ◌+◌, ◌^◌, ◌<◌, ◌≤◌, max, List, Bool, ◌||◌, false, None, [], ◌∷◌, ◌++◌, length, map}
 use Rattle.std.specs.List.{list_any}
+use Rattle.change_desc.specs.Ranges.{meets, replaced}
 use Rattle.range_set.specs.Rules.{RangeRules}
 use Rattle.range_set.specs.Order.{AllForward, first_fault}
-use Rattle.range_set.specs.Mapping.{is_turned}
+use Rattle.range_set.specs.Mapping.{Changes, is_turned}
 use Rattle.range_set.specs.Points.{stands}
 use Rattle.range_set.specs.declared.ranged.Ranged.{Ranged}
 use Rattle.range_set.specs.declared.chunk.Placed.{Placed}
 use Rattle.range_set.specs.declared.chunk.Chunk.{Chunk}
 use Rattle.range_set.specs.declared.chunk_builder.ChunkBuilder.{ChunkBuilder}
+use Rattle.range_set.specs.declared.group.Group.{Group}
+use Rattle.range_set.specs.declared.group.PlacedGroup.{PlacedGroup}
+use Rattle.range_set.specs.declared.group_builder.GroupBuilder.{GroupBuilder}
 
 module _ {T : Type 0} where
   -- the range further on
@@ -19,6 +23,15 @@ module _ {T : Type 0} where
   abbrev pub flat : List (Placed T) → List (Ranged T)
   flat [] = []
   flat (p ∷ ps) = map (shift p.start) p.chunk.value.ranges.items ++ flat ps
+
+  -- the chunk further on
+  abbrev pub move : ℕ → Placed T → Placed T
+  move by p = record { start = p.start + by; chunk = p.chunk }
+
+  -- the chunks of all groups at their places
+  abbrev pub spread : List (PlacedGroup T) → List (Placed T)
+  spread [] = []
+  spread (g ∷ gs) = map (move g.start) g.group.value.chunks.items ++ spread gs
 
   -- the start of the first range, and the greatest end
   abbrev pub first_start : List (Ranged T) → ℕ
@@ -44,14 +57,18 @@ module _ {T : Type 0} where
   EndBy n [] = Unit {0}
   EndBy n (r ∷ rs) = (r.to ≤ n) × EndBy n rs
 
-  -- no chunk's ranges end past its hull
-  abbrev pub HaveHulls : List (Placed T) → Type 0
-  HaveHulls [] = Unit {0}
-  HaveHulls (p ∷ ps) = (EndBy p.chunk.value.reach p.chunk.value.ranges.items × (p.start + p.chunk.value.reach < 2 ^ 32)) × HaveHulls ps
-
   -- the ranges of a builder: those of the chunks that are done, and those of the one that is growing
   abbrev pub built : ChunkBuilder T → List (Ranged T)
   built b = flat b.done.items ++ map (shift b.start) b.growing.ranges.items
+
+  -- the chunks of a builder of groups
+  abbrev pub grouped : GroupBuilder T → List (Placed T)
+  grouped b = spread b.done.items ++ map (move b.start) b.growing.chunks.items
+
+  -- a chunk at a place is the first of those that were left
+  pub record IsNextChunk (old : List (Placed T)) (start : ℕ) (chunk : Chunk T) (new : List (Placed T)) : Type 0 where
+    pub ranges : flat old ≡ map (shift start) chunk.ranges.items ++ flat new
+    pub fewer : length new < length old
 
   -- each range begins at n or before
   abbrev pub BeginBy : ℕ → List (Ranged T) → Type 0
@@ -75,27 +92,53 @@ module _ {T : Type 0} (rules : RangeRules T) where
   AreChunks [] = Unit {0}
   AreChunks (p ∷ ps) = (IsChunk p.start p.chunk.value × (1 ≤ length p.chunk.value.ranges.items)) × AreChunks ps
 
-  -- a chunk says whether one of its ranges stands for what it covers
-  abbrev pub TellPoints : List (Placed T) → Type 0
-  TellPoints [] = Unit {0}
-  TellPoints (p ∷ ps) = (p.chunk.value.has_point ≡ list_any (stands rules) p.chunk.value.ranges.items) × TellPoints ps
+  -- Chunks that count from the start of the first of their ranges, with what a group keeps of these.
+  pub record IsGroup (start : ℕ) (group : Group T) : Type 0 where
+    pub chunks : AreChunks group.chunks.items
+    pub first : first_start (flat group.chunks.items) ≡ 0
+    pub count : group.count ≡ length (flat group.chunks.items)
+    pub reach : group.reach ≡ greatest_end (flat group.chunks.items)
+    pub turned : group.is_turned ≡ list_any (is_turned rules) (flat group.chunks.items)
+    pub points : group.has_point ≡ list_any (stands rules) (flat group.chunks.items)
+    pub fits : start + group.reach < 2 ^ 32
 
-  -- what an iterator keeps of the ranges that are left and of the chunks after them
-  pub record IsRest (rest : List (Ranged T)) (others : List (Placed T)) : Type 0 where
-    pub fit : Fit rest
-    pub hulls : HaveHulls others
-    pub points : TellPoints others
+  -- each group is one, and has ranges
+  abbrev pub AreGroups : List (PlacedGroup T) → Type 0
+  AreGroups [] = Unit {0}
+  AreGroups (g ∷ gs) = (IsGroup g.start g.group.value × (1 ≤ length (flat g.group.value.chunks.items))) × AreGroups gs
+
+  -- what an iterator keeps of the chunks that are left, which count from a place, and of the groups after them
+  pub record AreLeft (base : ℕ) (chunks : List (Placed T)) (groups : List (PlacedGroup T)) : Type 0 where
+    pub opened : AreChunks (map (move base) chunks)
+    pub others : AreGroups groups
 
   pub record AreSound (ps : List (Placed T)) (len : ℕ) : Type 0 where
     pub chunks : AreChunks ps
     pub count : len ≡ length (flat ps)
+
+  pub record AreGroupsOf (gs : List (PlacedGroup T)) (len : ℕ) : Type 0 where
+    pub groups : AreGroups gs
+    pub count : len ≡ length (flat (spread gs))
 
   pub record IsBuilder (b : ChunkBuilder T) : Type 0 where
     pub chunks : AreChunks b.done.items
     pub growing : IsChunk b.start b.growing
     pub len : b.len ≡ length (built b)
 
-  -- what a set keeps of its chunks and the number of its ranges
-  pub record IsRangeSet (ps : List (Placed T)) (len : ℕ) : Type 0 where
-    pub sound : AreSound ps len
-    pub order : first_fault rules (flat ps) ≡ None
+  pub record IsGroupBuilder (b : GroupBuilder T) : Type 0 where
+    pub groups : AreGroups b.done.items
+    pub growing : IsGroup b.start b.growing
+    pub len : b.len ≡ length (flat (grouped b))
+
+  -- what a set keeps of its groups and the number of its ranges
+  pub record IsRangeSet (gs : List (PlacedGroup T)) (len : ℕ) : Type 0 where
+    pub sound : AreGroupsOf gs len
+    pub order : first_fault rules (flat (spread gs)) ≡ None
+
+-- whether a Replace meets the hull of a group, or an empty range of it has an end side less than its start side
+abbrev pub group_affected : {T : Type 0} → Changes → PlacedGroup T → Bool
+group_affected d g = g.group.value.is_turned || list_any (meets g.start (g.start + g.group.value.reach)) (replaced d)
+
+abbrev pub AreClear : {T : Type 0} → Changes → List (PlacedGroup T) → Type 0
+AreClear d [] = Unit {0}
+AreClear d (g ∷ gs) = (group_affected d g ≡ false) × AreClear d gs

@@ -1,11 +1,27 @@
 -- An update under way, chunk by chunk: what functions that put ranges after a run say of it. Private.
-use Rattle.std.specs.Prelude.{◌≡◌, ℕ, ◌≤◌, Bool, true, false, List, [], ◌∷◌, ◌++◌, length}
+use Rattle.std.specs.Prelude.{◌≡◌, ℕ, ◌≤◌, ◌<◌, Bool, true, false, List, [], ◌∷◌, ◌++◌, length}
 use Rattle.std.specs.List.{list_any}
 use Rattle.range_set.specs.Rules.{RangeRules}
 use Rattle.range_set.specs.Order.{before}
 use Rattle.range_set.specs.declared.ranged.Ranged.{Ranged}
 
 module _ {T : Type 0} where
+  -- each range ends before a place
+  abbrev pub EndUnder : ℕ → List (Ranged T) → Type 0
+  EndUnder place [] = Unit {0}
+  EndUnder place (r ∷ rs) = (r.to < place) × EndUnder place rs
+
+  -- each range begins after a place
+  abbrev pub BeginPast : ℕ → List (Ranged T) → Type 0
+  BeginPast place [] = Unit {0}
+  BeginPast place (r ∷ rs) = (place < r.from) × BeginPast place rs
+
+  -- the start of the last range
+  abbrev pub last_start : List (Ranged T) → ℕ
+  last_start [] = 0
+  last_start (r ∷ []) = r.from
+  last_start (r ∷ q ∷ rs) = last_start (q ∷ rs)
+
   -- a test that none of a run and none of a chunk passes, none of the new run does, which has no more ranges than both
   pub record KeepsPart (chunk old new : List (Ranged T)) : Type 0 where
     pub none : (q : Ranged T → Bool) → list_any q old ≡ false → list_any q chunk ≡ false → list_any q new ≡ false

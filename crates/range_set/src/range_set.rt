@@ -1,23 +1,26 @@
-ghost use Rattle.std.specs.Prelude.{◌≡◌, ◌≢◌, ◌↔◌, ◌+◌, ◌-◌, ◌≤◌, ◌<◌, [], None, Some, length, IfOk, IfErr, IsTrue, filter, option_map, slice_get};
+ghost use Rattle.std.specs.Prelude.{◌≡◌, ◌≢◌, ◌↔◌, ◌+◌, ◌-◌, ◌≤◌, ◌<◌, ◌^◌, true, [], None, Some, length, IfOk, IfErr, IsTrue, filter, option_map, slice_get, map};
 ghost use Rattle.change_desc.specs.Sections.{counted, new_size, old_size};
 ghost use Rattle.range_set.specs.Order.{first_fault};
 ghost use Rattle.range_set.specs.Mapping.{map_ranges, most_mapped, EndWithin};
 ghost use Rattle.range_set.specs.Points.{points_of};
-ghost use Rattle.range_set.specs.PrivateChunks.{AreChunks, flat};
+ghost use Rattle.range_set.specs.PrivateChunks.{AreChunks, AreGroups, AreGroupsOf, flat, greatest_end, shift, spread};
 ghost use Rattle.range_set.specs.Seen.{seen};
 ghost use Rattle.range_set.specs.Updating.{AnswersAs, updated, overlaps};
 
 use crate::between::Between;
 use crate::chunk::Placed;
 use crate::chunk_builder::ChunkBuilder;
+use crate::group::PlacedGroup;
+use crate::group_builder::GroupBuilder;
 use crate::iter::Iter;
-use crate::moving::{mapped_chunks, put_all};
+use crate::moving::{mapped_groups, put_all};
+use crate::opening::opened;
 use crate::points::Points;
 use crate::range_error::RangeError;
 use crate::range_ref::RangeRef;
 use crate::range_value::RangeValue;
 use crate::ranged::Ranged;
-use crate::updating::updated_chunks;
+use crate::updating::{added_groups, updated_chunks};
 use change_desc::Desc;
 use std::alloc::{AllocError, Global};
 use std::marker::{Brand, Model};
@@ -25,23 +28,23 @@ use std::sync::ledger::{Blank, Ledger};
 use steps::Steps;
 
 /// A set of ranges in order (Reference Manual: RangeSet): by their starts, then by their start sides, then as they were
-/// given. It is a list of chunks of 1 to 128 ranges, which sets share.
+/// given. It is a list of groups of chunks of 1 to 128 ranges; sets share both.
 #[derive(Drop)]
 pub struct RangeSet<T: RangeValue> {
-    chunks: Vec<Placed<T>>,
+    groups: Vec<PlacedGroup<T>>,
     len: usize,
 }
 
 impl<T: RangeValue> Model for RangeSet<T> {
     ghost use Rattle.std.specs.Prelude.{List};
     ghost use Rattle.range_set.specs.declared.ranged.Ranged.{Ranged};
-    ghost use Rattle.range_set.specs.PrivateChunks.{IsRangeSet, flat};
+    ghost use Rattle.range_set.specs.PrivateChunks.{IsRangeSet, flat, spread};
 
     ghost Value = { List (Ranged T) };
 
-    ghost view = { λ s. flat s.chunks.items };
+    ghost view = { λ s. flat (spread s.groups.items) };
 
-    ghost invariant = { λ s. IsRangeSet T.rules s.chunks.items s.len };
+    ghost invariant = { λ s. IsRangeSet T.rules s.groups.items s.len };
 }
 
 impl<T: RangeValue> RangeSet<T> {
@@ -50,7 +53,7 @@ impl<T: RangeValue> RangeSet<T> {
         ensures { result ≡ [] }
     {
         RangeSet {
-            chunks: Vec::new(alloc),
+            groups: Vec::new(alloc),
             len: 0,
         }
     }
@@ -72,18 +75,18 @@ impl<T: RangeValue> RangeSet<T> {
     pub fn iter(&self) -> Iter<'_, T>
         ensures { result ≡ self.now }
     {
-        Iter::over(self.chunks.as_slice())
+        Iter::over(self.groups.as_slice())
     }
 
     /// The ranges that overlap or touch those from the place `from` to the place `to`, in order (RangeSet.between).
     pub fn between(&self, from: u32, to: u32) -> Between<'_, T>
         ensures { result ≡ filter (overlaps from to) self.now }
     {
-        Between::among(Iter::over(self.chunks.as_slice()), from, to)
+        Between::among(Iter::over(self.groups.as_slice()), from, to)
     }
 
-    /// The ranges that stand for what they cover, in order. Chunks without one are passed over whole; of the others each range
-    /// is looked at.
+    /// The ranges that stand for what they cover, in order. Groups and chunks without one are passed over whole; of the others
+    /// each range is looked at.
     pub fn points(&self) -> Points<'_, T>
         ensures { result ≡ points_of T.rules self.now }
     {
@@ -102,7 +105,7 @@ impl<T: RangeValue> RangeSet<T> {
         ensures order { first_fault T.rules self.now ≡ None }
         ensures fit { EndWithin 4294967295 self.now }
     {
-        let _ = &self.chunks;
+        let _ = &self.groups;
     }
 
     /// Whether both have the same ranges with equal values (RangeSet.eq). Their last ranges are looked at first, since a change
@@ -112,28 +115,28 @@ impl<T: RangeValue> RangeSet<T> {
     {
         self.len == other.len
             && same_last(
-                last_of(self.chunks.as_slice()),
-                last_of(other.chunks.as_slice()),
+                last_of(self.groups.as_slice()),
+                last_of(other.groups.as_slice()),
             )
             && same_ranges(self.iter(), other.iter())
     }
 
-    /// The same set once more, which shares its chunks. `Err`: out of memory.
+    /// The same set once more, which shares its groups. `Err`: out of memory.
     pub fn try_copy(&self) -> Result<RangeSet<T>, AllocError>
         ensures { IfOk result (λ s. s ≡ self.now) }
     {
-        let chunks = shared(*self.chunks.allocator(), self.chunks.as_slice())?;
+        let groups = shared(*self.groups.allocator(), self.groups.as_slice())?;
         Ok(RangeSet {
-            chunks,
+            groups,
             len: self.len,
         })
     }
 
     /// The ranges that `keep` allows and those of `add`, the old ones first where they tie (RangeSet.update). `keep` is asked
     /// of ranges as `iter` lends them, of some twice. A chunk whose ranges it allows, and among which no range of `add`
-    /// belongs, is shared, unless it has few ranges and what changes is beside it; of the others the values that stay are
-    /// copied. `Err`: the first range of `add` that ends before it starts or belongs before the one before it; or out of
-    /// memory.
+    /// belongs, is shared, unless it has few ranges and stands after ranges that don't fill a chunk, or a range of `add`
+    /// begins after it and by the end of the next chunk; of the others the values that stay are copied. `Err`: the first
+    /// range of `add` that ends before it starts or belongs before the one before it; or out of memory.
     pub fn update<F: Fn(&RangeRef<'_, T>) -> bool>(
         &self,
         add: Vec<Ranged<T>>,
@@ -153,16 +156,40 @@ impl<T: RangeValue> RangeSet<T> {
             Some(_) => {}
             None => return Err(RangeError::NoMemory),
         }
-        let alloc = *self.chunks.allocator();
-        let (chunks, len) = updated_chunks(alloc, self.chunks.as_slice(), add, &keep)?;
-        Ok(RangeSet { chunks, len })
+        let alloc = *self.groups.allocator();
+        let chunks = opened(alloc, self.groups.as_slice())?;
+        let (chunks, _) = updated_chunks(alloc, chunks.as_slice(), add, &keep)?;
+        let (groups, len) = grouped(alloc, chunks)?;
+        Ok(RangeSet { groups, len })
+    }
+
+    /// The ranges and those of `add`, the old ones first where they tie (RangeSet.update without a filter). Groups whose hull
+    /// ends before the first range of `add` begins, or begins after the last one does, are shared, and not looked at further.
+    /// `Err`: the first range of `add` that ends before it starts or belongs before the one before it; or out of memory.
+    pub fn with_ranges(&self, add: Vec<Ranged<T>>) -> Result<RangeSet<T>, RangeError>
+        ensures set { IfOk result (λ s. s ≡ updated T.rules (λ _. true) self.now add.items) }
+        ensures in_order { IfOk result (λ s. first_fault T.rules add.items ≡ None) }
+        ensures refused { IfErr result (λ e. e ≢ RangeError.NoMemory → first_fault T.rules add.items ≡ Some e) }
+    {
+        match fault_in(add.as_slice()) {
+            Some(fault) => return Err(fault),
+            None => {}
+        }
+        // As many ranges as this can't be counted, so they find no room.
+        match self.len.checked_add(add.len()) {
+            Some(_) => {}
+            None => return Err(RangeError::NoMemory),
+        }
+        let alloc = *self.groups.allocator();
+        let (groups, len) = added_groups(alloc, self.groups.as_slice(), add)?;
+        Ok(RangeSet { groups, len })
     }
 
     /// Whether each range lies in a document of `len` characters.
     pub fn ends_within(&self, len: u32) -> bool
         ensures { IsTrue result ↔ EndWithin len self.now }
     {
-        chunks_end_within(self.chunks.as_slice(), len)
+        groups_end_within(self.groups.as_slice(), len)
     }
 
     /// The set over the new document of some changes (RangeSet.map): each range is moved or dropped, and what stays is
@@ -176,8 +203,9 @@ impl<T: RangeValue> RangeSet<T> {
     }
 
     /// What `map` gives. A chunk whose hull meets no Replace, and in which no empty range has an end side less than its start
-    /// side, is only moved, and shared. Each other range is mapped by itself, which raises `mapped` by one; the values of
-    /// these alone are copied. `Err`: out of memory.
+    /// side, is only moved, and shared; so is a group, before the first group or after the last of which that does not hold.
+    /// Each other range is mapped by itself, which raises `mapped` by one; the values of these alone are copied. `Err`: out
+    /// of memory.
     pub fn map_steps<L: Ledger>(
         &self,
         changes: &Desc,
@@ -190,9 +218,9 @@ impl<T: RangeValue> RangeSet<T> {
     {
         // The proof takes from this line that the number of ranges fits usize.
         let _len = self.len();
-        let alloc = *self.chunks.allocator();
-        let (chunks, len) = mapped_chunks(alloc, self.chunks.as_slice(), changes, mapped)?;
-        Ok(RangeSet { chunks, len })
+        let alloc = *self.groups.allocator();
+        let (groups, len) = mapped_groups(alloc, self.groups.as_slice(), changes, mapped)?;
+        Ok(RangeSet { groups, len })
     }
 }
 
@@ -220,19 +248,37 @@ fn set_of<T: RangeValue>(ranges: Vec<Ranged<T>>) -> Result<RangeSet<T>, AllocErr
 {
     // The proof takes from this line that the number of ranges fits usize.
     let _len = ranges.len();
-    let mut builder = ChunkBuilder::new(*ranges.allocator());
+    let alloc = *ranges.allocator();
+    let mut builder = ChunkBuilder::new(alloc);
     put_all(ranges, &mut builder)?;
-    let (chunks, len) = builder.finish()?;
-    Ok(RangeSet { chunks, len })
+    let (chunks, _) = builder.finish()?;
+    let (groups, len) = grouped(alloc, chunks)?;
+    Ok(RangeSet { groups, len })
 }
 
-/// Whether each range of some chunks lies in a document of `len` characters: whether their hulls do.
-fn chunks_end_within<T: RangeValue>(chunks: &[Placed<T>], len: u32) -> bool
-    requires { AreChunks T.rules chunks.now }
-    ensures { IsTrue result ↔ EndWithin len (flat chunks.now) }
+/// Groups of chunks whose ranges stand in order, and how many ranges they have. `Err`: out of memory.
+fn grouped<T: RangeValue>(
+    alloc: Global,
+    chunks: Vec<Placed<T>>,
+) -> Result<(Vec<PlacedGroup<T>>, usize), AllocError>
+    requires chunks { AreChunks T.rules chunks.items }
+    requires order { first_fault T.rules (flat chunks.items) ≡ None }
+    requires room { length (flat chunks.items) < 2 ^ 64 }
+    ensures groups { IfOk result (λ made. AreGroupsOf T.rules made.0.items made.1) }
+    ensures ranges { IfOk result (λ made. flat (spread made.0.items) ≡ flat chunks.items) }
 {
-    for placed in chunks {
-        if placed.start + placed.chunk.reach > len {
+    let mut builder = GroupBuilder::new(alloc);
+    builder.put_all(chunks)?;
+    builder.finish()
+}
+
+/// Whether each range of some groups lies in a document of `len` characters: whether their hulls do.
+fn groups_end_within<T: RangeValue>(groups: &[PlacedGroup<T>], len: u32) -> bool
+    requires { AreGroups T.rules groups.now }
+    ensures { IsTrue result ↔ EndWithin len (flat (spread groups.now)) }
+{
+    for placed in groups {
+        if placed.start + placed.group.reach > len {
             return false;
         }
     }
@@ -256,16 +302,27 @@ fn fault_in<T: RangeValue>(ranges: &[Ranged<T>]) -> Option<RangeError>
     None
 }
 
-/// The last range of some chunks.
-fn last_of<T: RangeValue>(chunks: &[Placed<T>]) -> Option<RangeRef<'_, T>>
-    requires { AreChunks T.rules chunks.now }
-    ensures { option_map seen result ≡ slice_get (flat chunks.now) (length (flat chunks.now) - 1) }
+/// The last range of some groups.
+fn last_of<T: RangeValue>(groups: &[PlacedGroup<T>]) -> Option<RangeRef<'_, T>>
+    requires { AreGroups T.rules groups.now }
+    ensures { option_map seen result ≡ slice_get (flat (spread groups.now)) (length (flat (spread groups.now)) - 1) }
+{
+    let placed = groups.last()?;
+    last_in(placed.group.chunks.as_slice(), placed.start)
+}
+
+/// The last range of some chunks, which count from the place `base`.
+fn last_in<T: RangeValue>(chunks: &[Placed<T>], base: u32) -> Option<RangeRef<'_, T>>
+    requires chunks { AreChunks T.rules chunks.now }
+    requires fits { base + greatest_end (flat chunks.now) < 2 ^ 32 }
+    ensures { option_map seen result ≡ slice_get (map (shift base) (flat chunks.now)) (length (flat chunks.now) - 1) }
 {
     let placed = chunks.last()?;
     let range = placed.chunk.ranges.last()?;
+    let start = base + placed.start;
     Some(RangeRef {
-        from: range.from + placed.start,
-        to: range.to + placed.start,
+        from: range.from + start,
+        to: range.to + start,
         value: &range.value,
     })
 }
@@ -300,18 +357,21 @@ fn same_ranges<'a, 'b, T: RangeValue>(left: Iter<'a, T>, right: Iter<'b, T>) -> 
     }
 }
 
-/// The same chunks once more, shared. `Err`: out of memory.
-fn shared<T: RangeValue>(alloc: Global, chunks: &[Placed<T>]) -> Result<Vec<Placed<T>>, AllocError>
-    requires { AreChunks T.rules chunks.now }
-    ensures same { IfOk result (λ v. flat v.items ≡ flat chunks.now) }
-    ensures chunks { IfOk result (λ v. AreChunks T.rules v.items) }
+/// The same groups once more, shared. `Err`: out of memory.
+fn shared<T: RangeValue>(
+    alloc: Global,
+    groups: &[PlacedGroup<T>],
+) -> Result<Vec<PlacedGroup<T>>, AllocError>
+    requires { AreGroups T.rules groups.now }
+    ensures same { IfOk result (λ v. spread v.items ≡ spread groups.now) }
+    ensures groups { IfOk result (λ v. AreGroups T.rules v.items) }
 {
-    let mut copies = Vec::with_capacity(alloc, chunks.len())?;
-    for placed in chunks {
-        let chunk = placed.chunk.clone()?;
-        copies.push(Placed {
+    let mut copies = Vec::with_capacity(alloc, groups.len())?;
+    for placed in groups {
+        let group = placed.group.clone()?;
+        copies.push(PlacedGroup {
             start: placed.start,
-            chunk,
+            group,
         })?;
     }
     Ok(copies)

@@ -1,21 +1,122 @@
-ghost use Rattle.std.specs.Prelude.{IfOk, IsTrue, None, [], All, filter, length, map, ◌++◌, ◌+◌, ◌<◌, ◌^◌, ◌≡◌};
+ghost use Rattle.std.specs.Prelude.{IfOk, IsTrue, None, true, [], All, drop, filter, length, map, take, ◌++◌, ◌+◌, ◌<◌, ◌≤◌, ◌^◌, ◌≡◌};
 ghost use Rattle.range_set.specs.Order.{AllForward, before, first_fault};
-ghost use Rattle.range_set.specs.PrivateChunks.{AreChunks, AreSound, IsChunk, flat, shift};
-ghost use Rattle.range_set.specs.PrivateUpdates.{IsBeyond, KeepsPart, TakesBefore};
+ghost use Rattle.range_set.specs.PrivateChunks.{AreChunks, AreGroups, AreGroupsOf, AreSound, Ascend, IsChunk, first_start, flat, shift, spread};
+ghost use Rattle.range_set.specs.PrivateUpdates.{BeginPast, EndUnder, IsBeyond, KeepsPart, TakesBefore, last_start};
 ghost use Rattle.range_set.specs.Updating.{AnswersAs, updated};
 
 use crate::chunk::{FEW, MAX_RANGES, Placed};
 use crate::chunk_builder::ChunkBuilder;
+use crate::group::PlacedGroup;
+use crate::group_builder::GroupBuilder;
 use crate::moving::put_sorted;
+use crate::opening::opened;
 use crate::range_ref::RangeRef;
 use crate::range_value::RangeValue;
 use crate::ranged::Ranged;
 use std::alloc::{AllocError, Global};
 use std::collections::VecDeque;
 
+/// The groups of the ranges of others and of added ones, which stand in order, and how many ranges they have. Groups whose hull
+/// ends before the first added range begins, or begins after the last one does, are shared. `Err`: out of memory.
+pub(crate) fn added_groups<T: RangeValue>(
+    alloc: Global,
+    groups: &[PlacedGroup<T>],
+    add: Vec<Ranged<T>>,
+) -> Result<(Vec<PlacedGroup<T>>, usize), AllocError>
+    requires groups { AreGroups T.rules groups.now }
+    requires order { first_fault T.rules (flat (spread groups.now)) ≡ None }
+    requires added { first_fault T.rules add.items ≡ None }
+    requires room { length (flat (spread groups.now)) + length add.items < 2 ^ 64 }
+    ensures groups { IfOk result (λ made. AreGroupsOf T.rules made.0.items made.1) }
+    ensures order { IfOk result (λ made. first_fault T.rules (flat (spread made.0.items)) ≡ None) }
+    ensures ranges { IfOk result (λ made. flat (spread made.0.items) ≡ updated T.rules (λ _. true) (flat (spread groups.now)) add.items) }
+{
+    let (before, middle, after) = apart(groups, add.as_slice());
+    let chunks = opened(alloc, middle)?;
+    let chunks = with_all(alloc, chunks.as_slice(), add)?;
+    let mut builder = GroupBuilder::new(alloc);
+    builder.share_all(before)?;
+    builder.put_all(chunks)?;
+    builder.share_all(after)?;
+    builder.finish()
+}
+
+/// Groups in three parts: the ranges of the first end before any of added ones, which stand in order, begins, and those of the last
+/// begin after each does. The second has a group where there is one.
+fn apart<'a, T: RangeValue>(
+    groups: &'a [PlacedGroup<T>],
+    add: &[Ranged<T>],
+) -> (
+    &'a [PlacedGroup<T>],
+    &'a [PlacedGroup<T>],
+    &'a [PlacedGroup<T>],
+)
+    requires groups { AreGroups T.rules groups.now }
+    requires ascend { Ascend 0 (flat (spread groups.now)) }
+    ensures parts { groups.now ≡ result.0.now ++ (result.1.now ++ result.2.now) }
+    ensures before { EndUnder (first_start add.now) (flat (spread result.0.now)) }
+    ensures after { BeginPast (last_start add.now) (flat (spread result.2.now)) }
+{
+    let (Some(first), Some(last)) = (add.first(), add.last()) else {
+        return (&[], groups, &[]);
+    };
+    let begun = begun_by(groups, last.from).max(1).min(groups.len());
+    let ended = ended_before(groups, first.from).min(begun.saturating_sub(1));
+    let (before, rest) = groups.split_at(ended);
+    let (middle, after) = rest.split_at(begun - ended);
+    (before, middle, after)
+}
+
+/// How many groups there are before the first whose hull doesn't end before a place.
+fn ended_before<T: RangeValue>(groups: &[PlacedGroup<T>], place: u32) -> usize
+    requires groups { AreGroups T.rules groups.now }
+    ensures inside { result ≤ length groups.now }
+    ensures before { EndUnder place (flat (spread (take result groups.now))) }
+{
+    for (index, placed) in groups.iter().enumerate() {
+        if place <= placed.start + placed.group.reach {
+            return index;
+        }
+    }
+    groups.len()
+}
+
+/// How many groups there are before the first that begins after a place.
+fn begun_by<T: RangeValue>(groups: &[PlacedGroup<T>], place: u32) -> usize
+    requires groups { AreGroups T.rules groups.now }
+    requires ascend { Ascend 0 (flat (spread groups.now)) }
+    ensures inside { result ≤ length groups.now }
+    ensures after { BeginPast place (flat (spread (drop result groups.now))) }
+{
+    for (index, placed) in groups.iter().enumerate() {
+        if place < placed.start {
+            return index;
+        }
+    }
+    groups.len()
+}
+
+/// The chunks of the ranges of others and of added ones. `Err`: out of memory.
+fn with_all<T: RangeValue>(
+    alloc: Global,
+    chunks: &[Placed<T>],
+    add: Vec<Ranged<T>>,
+) -> Result<Vec<Placed<T>>, AllocError>
+    requires chunks { AreChunks T.rules chunks.now }
+    requires order { first_fault T.rules (flat chunks.now) ≡ None }
+    requires added { first_fault T.rules add.items ≡ None }
+    requires room { length (flat chunks.now) + length add.items < 2 ^ 64 }
+    ensures chunks { IfOk result (λ made. AreChunks T.rules made.items) }
+    ensures order { IfOk result (λ made. first_fault T.rules (flat made.items) ≡ None) }
+    ensures ranges { IfOk result (λ made. flat made.items ≡ updated T.rules (λ _. true) (flat chunks.now) add.items) }
+{
+    let (made, _) = updated_chunks(alloc, chunks, add, &|_range: &RangeRef<'_, T>| true)?;
+    Ok(made)
+}
+
 /// The chunks of the ranges of others that a test allows and of added ones, which stand in order, and how many ranges they have.
-/// A chunk whose ranges all stay, and among which no added one belongs, is shared, unless it is a small one beside what is
-/// touched; of the others the ranges that stay are copied. `Err`: out of memory.
+/// A chunk whose ranges all stay, and among which no added one belongs, is shared, unless it is a small one that `is_joined` names;
+/// of the others the ranges that stay are copied. `Err`: out of memory.
 pub(crate) fn updated_chunks<T: RangeValue, F: Fn(&RangeRef<'_, T>) -> bool>(
     alloc: Global,
     chunks: &[Placed<T>],

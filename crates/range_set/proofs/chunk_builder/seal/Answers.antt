@@ -1,4 +1,4 @@
-use Rattle.std.proofs.Common.{◌≡◌, ◌++◌, ◌≤◌, length, map, sym, ap, subst, ◌∙◌, arith}
+use Rattle.std.proofs.Common.{◌++◌, ◌≤◌, length, map, sym, ap, subst, ◌∙◌}
 use Rattle.range_set.specs.PrivateChunks.{IsChunk, flat, shift}
 use Rattle.range_set.specs.declared.chunk.Chunk.{Chunk}
 use Rattle.range_set.proofs.Chunks.{AreChunks-push, flat-push, nonempty}

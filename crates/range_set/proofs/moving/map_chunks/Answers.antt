@@ -1,10 +1,9 @@
-use Rattle.std.proofs.Common.{◌≡◌, ℕ, ◌+◌, ◌<◌, ◌≤◌, List, [], ◌∷◌, ◌++◌, length, drop, map, filter_map, true, false, ap, subst, sym, ◌∙◌, refl, arith}
+use Rattle.std.proofs.Common.{◌≡◌, ◌+◌, [], ◌∷◌, ◌++◌, length, drop, map, filter_map, true, false, ap, subst, sym, ◌∙◌, arith}
 use Rattle.std.proofs.lemmas.List.{length-append}
 use Rattle.std.proofs.lemmas.Result.{IfOk-weaker}
 use Rattle.std.specs.Prelude.{unwrap_or}
 use Rattle.change_desc.specs.Meeting.{BeginAfter}
 use Rattle.change_desc.specs.Places.{place_after}
-use Rattle.change_desc.specs.Ranges.{replaced}
 use Rattle.change_desc.specs.Sections.{old_size}
 use Rattle.change_desc.specs.Walker.{Walk}
 use Rattle.change_desc.specs.declared.map_mode.MapMode.TheVariants.{Simple}
@@ -13,15 +12,14 @@ use Rattle.stable_order.specs.StableSort.{stable_sort}
 use Rattle.stable_order.proofs.StableSort.{length-stable_sort}
 use Rattle.range_set.specs.Order.{before}
 use Rattle.range_set.specs.Mapping.{map_ranges, moved}
-use Rattle.range_set.specs.PrivateChunks.{IsChunk, built, flat, shift}
-use Rattle.range_set.specs.declared.ranged.Ranged.{Ranged}
+use Rattle.range_set.specs.PrivateChunks.{built, flat, shift}
 use Rattle.range_set.proofs.Chunks.{ascend-prefix, length_shifted}
 use Rattle.range_set.proofs.Clear.{Sections, clear_place, map_pos-clear}
-use Rattle.range_set.proofs.Cost.{allowance, allowed}
+use Rattle.range_set.proofs.Cost.{allowed}
 use Rattle.range_set.proofs.Each.{Within, end_within, within}
 use Rattle.range_set.proofs.RangeOrder.{rises-no_fault}
 use Rattle.range_set.proofs.Under.{rises_ascend, under_end, under_end_order}
-use Rattle.range_set.proofs.Walked.{IsWalked, affected_same, allowance_at, at_chunk, at_end, clear_chunk, run_forward, walked_clear, walked_each, walked_init, within_prefix}
+use Rattle.range_set.proofs.Walked.{affected_same, allowance_at, at_chunk, at_end, clear_chunk, run_forward, walked_clear, walked_each, walked_init, within_prefix}
 use Rattle.range_set.proofs.moving.map_chunks.Goals as goal
 use Rattle.range_set.proofs.moving.map_chunks.Goals.{then-is_affected+in_ok-map_each, else-is_affected+in_ok-put_sorted+in_ok-share}
 

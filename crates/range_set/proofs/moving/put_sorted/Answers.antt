@@ -1,4 +1,4 @@
-use Rattle.std.proofs.Common.{◌≡◌, ◌++◌, length, ap, subst, sym, ◌∙◌, arith}
+use Rattle.std.proofs.Common.{◌++◌, length, ap, subst, sym, ◌∙◌, arith}
 use Rattle.stable_order.specs.StableSort.{stable_sort}
 use Rattle.stable_order.proofs.StableSort.{length-stable_sort}
 use Rattle.range_set.specs.Order.{AllForward, before}

@@ -1,49 +1,31 @@
-use Rattle.std.proofs.Common.{◌≡◌, ◌-◌, ◌+◌, List, None, Some, length, ap, subst, sym, ◌∙◌, arith}
-use Rattle.std.specs.Prelude.{option_map, slice_get}
-use Rattle.range_set.specs.PrivateChunks.{IsChunk, flat}
-use Rattle.range_set.specs.declared.chunk.Chunk.{Chunk}
-use Rattle.range_set.specs.declared.ranged.Ranged.{Ranged}
-use Rattle.range_set.proofs.Chunks.{chunk-at}
-use Rattle.range_set.proofs.Each.{item_fits}
-use Rattle.range_set.proofs.Sets.{has_last, last_flat, last_place}
+use Rattle.std.proofs.Common.{◌-◌, List, length, map, ap, subst, sym, ◌∙◌, arith}
+use Rattle.std.specs.Prelude.{slice_get}
+use Rattle.range_set.specs.PrivateChunks.{AreChunks, flat, greatest_end, shift}
+use Rattle.range_set.specs.declared.chunk.Placed.{Placed}
+use Rattle.range_set.specs.declared.group.Group.{Group}
+use Rattle.range_set.proofs.Groups.{group-at}
+use Rattle.range_set.proofs.Sets.{last_place, last_spread}
 use Rattle.range_set.proofs.range_set.last_of.Goals as goal
 
-pub returns-in_err-range : goal.returns-in_err-range
-returns-in_err-range g c =
+pub last_in-requires : goal.last_in-requires
+last_in-requires g c =
+    let rules = g.T.RangeValue.rules in
     let p = c.in_ok-placed.placed.now in
-    let place = last_place c.args.chunks.now p (sym c.in_ok-placed.ensures.value) in
-    let chunk = chunk-at g.T.RangeValue.rules c.args.chunks.now (length c.args.chunks.now - 1) p place.0 place.1 c.requires in
-    let same = c.deref-2.ensures.value ∙ ap (λ (ch : Chunk g.row.T.Denot). ch.ranges.items) c.deref.ensures in
-    absurd (has_last p.chunk.value.ranges.items chunk.1 (subst (λ (xs : List (Ranged g.row.T.Denot)). slice_get xs (length xs - 1) ≡ None) same (sym c.in_err-range.ensures.value)))
-
-pub overflow_add-result : goal.overflow_add-result
-overflow_add-result g c =
-    let p = c.in_ok-placed.placed.now in
-    let r = c.in_ok-range.range.now in
-    let items = p.chunk.value.ranges.items in
-    let place = last_place c.args.chunks.now p (sym c.in_ok-placed.ensures.value) in
-    let chunk = chunk-at g.T.RangeValue.rules c.args.chunks.now (length c.args.chunks.now - 1) p place.0 place.1 c.requires in
-    let same = c.deref-2.ensures.value ∙ ap (λ (ch : Chunk g.row.T.Denot). ch.ranges.items) c.deref.ensures in
-    let at = last_place items r (subst (λ (xs : List (Ranged g.row.T.Denot)). slice_get xs (length xs - 1) ≡ Some r) same (sym c.in_ok-range.ensures.value)) in
-    let fits = item_fits g.T.RangeValue.rules p.start p.chunk.value (length items - 1) r chunk.0 at.0 at.1 in
-    omega (arith, fits.0)
-
-pub overflow_add-result-2 : goal.overflow_add-result-2
-overflow_add-result-2 g c =
-    let p = c.in_ok-placed.placed.now in
-    let r = c.in_ok-range.range.now in
-    let items = p.chunk.value.ranges.items in
-    let place = last_place c.args.chunks.now p (sym c.in_ok-placed.ensures.value) in
-    let chunk = chunk-at g.T.RangeValue.rules c.args.chunks.now (length c.args.chunks.now - 1) p place.0 place.1 c.requires in
-    let same = c.deref-2.ensures.value ∙ ap (λ (ch : Chunk g.row.T.Denot). ch.ranges.items) c.deref.ensures in
-    let at = last_place items r (subst (λ (xs : List (Ranged g.row.T.Denot)). slice_get xs (length xs - 1) ≡ Some r) same (sym c.in_ok-range.ensures.value)) in
-    let fits = item_fits g.T.RangeValue.rules p.start p.chunk.value (length items - 1) r chunk.0 at.0 at.1 in
-    omega (arith, fits.1)
+    let place = last_place c.args.groups.now p (sym c.in_ok-placed.ensures.value) in
+    let group = group-at rules c.args.groups.now (length c.args.groups.now - 1) p place.0 place.1 c.requires in
+    let same = c.as_slice.ensures.value ∙ ap (λ (x : Group g.row.T.Denot). x.chunks.items) c.deref.ensures in
+    record {
+      chunks = subst (AreChunks rules) (sym same) group.0.chunks;
+      fits =
+          let a = ap (λ (xs : List (Placed g.row.T.Denot)). greatest_end (flat xs)) same in
+          let b = group.0.reach in
+          let d = group.0.fits in
+          omega (arith, a, b, d);
+    }
 
 pub returns : goal.returns
 returns g c =
     let p = c.in_ok-placed.placed.now in
-    let r = c.in_ok-range.range.now in
-    let same = c.deref-2.ensures.value ∙ ap (λ (ch : Chunk g.row.T.Denot). ch.ranges.items) c.deref.ensures in
-    sym (last_flat g.T.RangeValue.rules c.args.chunks.now p r c.requires (sym c.in_ok-placed.ensures.value)
-    (subst (λ (xs : List (Ranged g.row.T.Denot)). slice_get xs (length xs - 1) ≡ Some r) same (sym c.in_ok-range.ensures.value)))
+    let same = c.as_slice.ensures.value ∙ ap (λ (x : Group g.row.T.Denot). x.chunks.items) c.deref.ensures in
+    last_spread g.T.RangeValue.rules c.args.groups.now p _ c.requires (sym c.in_ok-placed.ensures.value)
+    (c.last_in.ensures ∙ ap (λ (xs : List (Placed g.row.T.Denot)). slice_get (map (shift p.start) (flat xs)) (length (flat xs) - 1)) same)

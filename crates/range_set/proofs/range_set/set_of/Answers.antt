@@ -1,5 +1,4 @@
-use Rattle.std.proofs.Common.{◌≡◌, ◌++◌, [], None, length, ap, subst, sym, ◌∙◌, arith}
-use Rattle.range_set.specs.Order.{first_fault}
+use Rattle.std.proofs.Common.{◌++◌, None, length, ap, subst, sym, ◌∙◌, arith}
 use Rattle.range_set.specs.PrivateChunks.{Ascend}
 use Rattle.range_set.proofs.RangeOrder.{forward-no_fault, rises-no_fault}
 use Rattle.range_set.proofs.Under.{rises_ascend}
@@ -18,11 +17,3 @@ put_all-requires g c =
       order = subst (λ xs. Ascend 0 (xs ++ c.args.ranges.items)) (sym none) (rises_ascend rules c.args.ranges.items (rises-no_fault rules c.args.ranges.items c.requires));
       forward = forward-no_fault rules 0 None c.args.ranges.items c.requires;
     }
-
-pub invariant_of-result : goal.invariant_of-result
-invariant_of-result g c =
-    let same = c.in_ok-chunks.ensures.ranges ∙ (c.in_ok-put_all.ensures.ranges ∙ ap (λ xs. xs ++ c.args.ranges.items) c.new-builder.ensures.ranges) in
-    record { sound = c.in_ok-chunks.ensures.chunks; order = ap (first_fault g.T.RangeValue.rules) same ∙ c.requires }
-
-pub returns : goal.returns
-returns g c = c.in_ok-chunks.ensures.ranges ∙ (c.in_ok-put_all.ensures.ranges ∙ ap (λ xs. xs ++ c.args.ranges.items) c.new-builder.ensures.ranges)

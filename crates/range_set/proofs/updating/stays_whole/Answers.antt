@@ -1,4 +1,4 @@
-use Rattle.std.proofs.Common.{◌≡◌, ◌<◌, ◌++◌, ◌∷◌, [], List, length, get_or, take, map, filter, ap, subst, sym, refl, ◌∙◌, arith}
+use Rattle.std.proofs.Common.{◌≡◌, ◌<◌, List, length, get_or, take, map, filter, ap, subst, sym, refl, ◌∙◌, arith}
 use Rattle.range_set.specs.PrivateChunks.{shift}
 use Rattle.range_set.specs.declared.chunk.Chunk.{Chunk}
 use Rattle.range_set.specs.declared.ranged.Ranged.{Ranged}

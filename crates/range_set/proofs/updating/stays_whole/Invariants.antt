@@ -1,4 +1,4 @@
-use Rattle.std.proofs.Common.{◌≡◌, Bool, drop, filter, map, take}
+use Rattle.std.proofs.Common.{◌≡◌, Bool, filter, map, take}
 use Rattle.range_set.specs.PrivateChunks.{shift}
 use Rattle.range_set.specs.Updating.{AnswersAs}
 use Rattle.range_set.specs.declared.ranged.Ranged.{Ranged}

@@ -8,10 +8,9 @@ use Rattle.range_set.specs.PrivateChunks.{Ascend, built, flat, shift}
 use Rattle.range_set.specs.Updating.{AnswersAs, updated}
 use Rattle.range_set.specs.declared.chunk.Placed.{Placed}
 use Rattle.range_set.specs.declared.ranged.Ranged.{Ranged}
-use Rattle.range_set.proofs.Chunks.{chunk-at, length_shifted}
+use Rattle.range_set.proofs.Chunks.{chunk-at, length_shifted, rest_at}
 use Rattle.range_set.proofs.RangeOrder.{forward-no_fault, rises-no_fault}
 use Rattle.range_set.proofs.Updates.{IsUpdating, after_take, goes_after_take, goes_copy, goes_share, no_fault_done, nothing_left, updating_copy, updating_end, updating_init, updating_order, updating_share}
-use Rattle.range_set.proofs.Walked.{rest_at}
 use Rattle.range_set.proofs.updating.updated_chunks.Goals as goal
 use Rattle.range_set.proofs.updating.updated_chunks.Goals.{then-is_apart+then-stays_whole+in_ok-put_sorted+in_ok-share, else-is_apart+in_ok-keep_each}
 

@@ -1,4 +1,4 @@
-use Rattle.std.proofs.Common.{◌≡◌, ◌∷◌, filter, ap, subst, sym, refl, ◌∙◌, arith}
+use Rattle.std.proofs.Common.{filter, ap, subst, sym, refl, ◌∙◌}
 use Rattle.range_set.specs.PrivateChunks.{Ascend}
 use Rattle.range_set.specs.Seen.{seen}
 use Rattle.range_set.specs.Updating.{overlaps}

@@ -1,5 +1,5 @@
 use Rattle.std.proofs.Common.{length, sym, ap, ◌∙◌, arith}
-use Rattle.range_set.specs.PrivateChunks.{flat, shift}
+use Rattle.range_set.specs.PrivateChunks.{flat}
 use Rattle.range_set.proofs.Chunks.{begin_by_append, begins_by, nonempty}
 use Rattle.range_set.proofs.chunk_builder.ChunkBuilder.make_room.Goals as goal
 

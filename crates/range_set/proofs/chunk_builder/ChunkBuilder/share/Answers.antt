@@ -1,6 +1,6 @@
 use Rattle.std.proofs.Common.{◌≡◌, ◌++◌, ◌≤◌, map, length, sym, ap, subst, ◌∙◌, arith}
 use Rattle.std.proofs.lemmas.List.{length-append}
-use Rattle.range_set.specs.PrivateChunks.{IsChunk, built, flat, shift}
+use Rattle.range_set.specs.PrivateChunks.{IsChunk, built, shift}
 use Rattle.range_set.specs.declared.chunk.Chunk.{Chunk}
 use Rattle.range_set.proofs.Chunks.{AreChunks-push, length_shifted, share_built}
 use Rattle.range_set.proofs.chunk_builder.ChunkBuilder.share.Goals as goal

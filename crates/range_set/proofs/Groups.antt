@@ -1,0 +1,328 @@
+-- Groups of chunks, and builders of them, seen as lists of chunks and of ranges.
+use Rattle.std.proofs.Common.{◌≡◌, ℕ, zero, suc, ◌+◌, ◌-◌, ◌^◌, ◌<◌, ◌≤◌, max, ◌||◌, List, [], ◌∷◌, ◌++◌, length, get_or, take, map, refl, sym, ◌∙◌, ap, subst, arith, append_assoc}
+use Rattle.std.proofs.lemmas.List.{append-nil, map-append, length-append, take_more}
+use Rattle.std.proofs.lemmas.List.Folds.{list_any-append}
+use Rattle.std.specs.List.{list_any}
+use Rattle.range_set.specs.Rules.{RangeRules}
+use Rattle.range_set.specs.Order.{AllForward}
+use Rattle.range_set.specs.Mapping.{is_turned}
+use Rattle.range_set.specs.Points.{stands}
+use Rattle.range_set.specs.PrivateChunks.{AreChunks, AreGroups, AreLeft, Ascend, BeginBy, EndBy, IsChunk, IsGroup, IsNextChunk, first_start, flat, greatest_end, move, shift, spread}
+use Rattle.range_set.specs.declared.ranged.Ranged.{Ranged}
+use Rattle.range_set.specs.declared.chunk.Placed.{Placed}
+use Rattle.range_set.specs.declared.chunk.Chunk.{Chunk}
+use Rattle.range_set.specs.declared.group.Group.{Group}
+use Rattle.range_set.specs.declared.group.PlacedGroup.{PlacedGroup}
+use Rattle.range_set.proofs.Chunks.{AreChunks-push, begin_by-next, chunk-at, end_by_greatest, flat-append, flat-push, forward_shifted, greatest_shifted, length_shifted, turned-shifted}
+use Rattle.range_set.proofs.RangeOrder.{forward-append}
+
+module _ {T : Type 0} where
+  pub shifted_twice : (a b : ℕ) (r : Ranged T) → shift a (shift b r) ≡ shift (b + a) r
+  shifted_twice a b r =
+      let f : r.from + b + a ≡ r.from + (b + a) = omega arith in
+      let t : r.to + b + a ≡ r.to + (b + a) = omega arith in
+      ap (λ n. let q : Ranged T = record { from = n; to = r.to + b + a; value = r.value } in q) f
+      ∙ ap (λ n. let q : Ranged T = record { from = r.from + (b + a); to = n; value = r.value } in q) t
+
+  pub shift-twice : (a b : ℕ) (rs : List (Ranged T)) → map (shift a) (map (shift b) rs) ≡ map (shift (b + a)) rs
+  shift-twice a b [] = refl
+  shift-twice a b (r ∷ rs) = ap (λ q. q ∷ map (shift a) (map (shift b) rs)) (shifted_twice a b r) ∙ ap (λ qs. shift (b + a) r ∷ qs) (shift-twice a b rs)
+
+  pub flat-moved : (by : ℕ) (ps : List (Placed T)) → flat (map (move by) ps) ≡ map (shift by) (flat ps)
+  flat-moved by [] = refl
+  flat-moved by (p ∷ ps) =
+      ap (λ rs. map (shift (p.start + by)) p.chunk.value.ranges.items ++ rs) (flat-moved by ps)
+      ∙ (ap (λ rs. rs ++ map (shift by) (flat ps)) (sym (shift-twice by p.start p.chunk.value.ranges.items))
+      ∙ sym (map-append (shift by) (map (shift p.start) p.chunk.value.ranges.items) (flat ps)))
+
+  pub spread-append : (gs hs : List (PlacedGroup T)) → spread (gs ++ hs) ≡ spread gs ++ spread hs
+  spread-append [] hs = refl
+  spread-append (g ∷ gs) hs =
+      ap (λ r. map (move g.start) g.group.value.chunks.items ++ r) (spread-append gs hs)
+      ∙ sym (append_assoc (map (move g.start) g.group.value.chunks.items) (spread gs) (spread hs))
+
+  pub spread-push : (gs : List (PlacedGroup T)) (g : PlacedGroup T) → spread (gs ++ g ∷ []) ≡ spread gs ++ map (move g.start) g.group.value.chunks.items
+  spread-push gs g = spread-append gs (g ∷ []) ∙ ap (λ r. spread gs ++ r) (append-nil (map (move g.start) g.group.value.chunks.items))
+
+  -- the ranges of a group at its place, and of the groups after it
+  pub flat-spread : (g : PlacedGroup T) (gs : List (PlacedGroup T)) → flat (spread (g ∷ gs)) ≡ map (shift g.start) (flat g.group.value.chunks.items) ++ flat (spread gs)
+  flat-spread g gs =
+      flat-append (map (move g.start) g.group.value.chunks.items) (spread gs) ∙ ap (λ rs. rs ++ flat (spread gs)) (flat-moved g.start g.group.value.chunks.items)
+
+  pub flat-spread_push : (gs : List (PlacedGroup T)) (g : PlacedGroup T) → flat (spread (gs ++ g ∷ [])) ≡ flat (spread gs) ++ map (shift g.start) (flat g.group.value.chunks.items)
+  flat-spread_push gs g =
+      ap flat (spread-push gs g)
+      ∙ (flat-append (spread gs) (map (move g.start) g.group.value.chunks.items) ∙ ap (λ rs. flat (spread gs) ++ rs) (flat-moved g.start g.group.value.chunks.items))
+
+  pub flat-spread_append : (gs hs : List (PlacedGroup T)) → flat (spread (gs ++ hs)) ≡ flat (spread gs) ++ flat (spread hs)
+  flat-spread_append gs hs = ap flat (spread-append gs hs) ∙ flat-append (spread gs) (spread hs)
+
+  pub spread_take : (gs : List (PlacedGroup T)) (i : ℕ) (g : PlacedGroup T) → i < length gs → g ≡ get_or gs i g → take (i + 1) gs ≡ take i gs ++ g ∷ []
+  spread_take gs i g l e = take_more gs i g l ∙ ap (λ x. take i gs ++ x ∷ []) (sym e)
+
+  pub greatest-append : (xs ys : List (Ranged T)) → greatest_end (xs ++ ys) ≡ max (greatest_end xs) (greatest_end ys)
+  greatest-append [] ys = omega arith
+  greatest-append (x ∷ xs) ys = let e = greatest-append xs ys in omega (arith, e)
+
+  first-append : (xs ys : List (Ranged T)) → (xs ≡ [] → first_start ys ≡ 0) → first_start xs ≡ 0 → first_start (xs ++ ys) ≡ 0
+  first-append [] ys h k = h refl
+  first-append (x ∷ xs) ys h k = k
+
+  first_shifted : (start : ℕ) (rs : List (Ranged T)) → 1 ≤ length rs → first_start (map (shift start) rs) ≡ first_start rs + start
+  first_shifted start [] some = absurd (omega arith)
+  first_shifted start (r ∷ rs) some = refl
+
+  -- a list of ranges that isn't empty has a first one, which begins at the place
+  pub begins : (start n : ℕ) (rs later : List (Ranged T)) → 1 ≤ length rs → first_start rs ≡ 0 → Ascend n (map (shift start) rs ++ later) → n ≤ start
+  begins start n [] later some f h = absurd (omega arith)
+  begins start n (r ∷ rs) later some f h = omega (arith, h.0, f)
+
+  pub get-moved : (by : ℕ) (ps : List (Placed T)) (i : ℕ) (p : Placed T) → i < length ps → p ≡ get_or ps i p → move by p ≡ get_or (map (move by) ps) i (move by p)
+  get-moved by [] i p l e = absurd (omega arith)
+  get-moved by (q ∷ ps) zero p l e = ap (move by) e
+  get-moved by (q ∷ ps) (suc i) p l e = get-moved by ps i p (omega arith) e
+
+module _ {T : Type 0} (rules : RangeRules T) where
+  turned_any : (start : ℕ) (rs : List (Ranged T)) → list_any (is_turned rules) (map (shift start) rs) ≡ list_any (is_turned rules) rs
+  turned_any start [] = refl
+  turned_any start (r ∷ rs) =
+      ap (λ b. b || list_any (is_turned rules) (map (shift start) rs)) (turned-shifted rules start r) ∙ ap (λ b. is_turned rules r || b) (turned_any start rs)
+
+  points_any : (start : ℕ) (rs : List (Ranged T)) → list_any (stands rules) (map (shift start) rs) ≡ list_any (stands rules) rs
+  points_any start [] = refl
+  points_any start (r ∷ rs) = ap (λ b. stands rules r || b) (points_any start rs)
+
+  pub AreChunks-append : (ps qs : List (Placed T)) → AreChunks rules ps → AreChunks rules qs → AreChunks rules (ps ++ qs)
+  AreChunks-append [] qs h k = k
+  AreChunks-append (p ∷ ps) qs h k = (h.0, AreChunks-append ps qs h.1 k)
+
+  -- a chunk at another place
+  pub chunk_placed : (start at : ℕ) (chunk : Chunk T) → IsChunk rules start chunk → at + chunk.reach < 2 ^ 32 → IsChunk rules at chunk
+  chunk_placed start at chunk h l = record {
+    few = h.few;
+    first = h.first;
+    forward = h.forward;
+    reach = h.reach;
+    turned = h.turned;
+    points = h.points;
+    fits = l;
+  }
+
+  -- a group at another place
+  pub group_placed : (start at : ℕ) (group : Group T) → IsGroup rules start group → at + group.reach < 2 ^ 32 → IsGroup rules at group
+  group_placed start at group h l = record {
+    chunks = h.chunks;
+    first = h.first;
+    count = h.count;
+    reach = h.reach;
+    turned = h.turned;
+    points = h.points;
+    fits = l;
+  }
+
+  -- the hull of a chunk lies in that of its group
+  hull_first : (p : Placed T) (ps : List (Placed T)) → AreChunks rules (p ∷ ps) → p.start + p.chunk.value.reach ≤ greatest_end (flat (p ∷ ps))
+  hull_first p ps h =
+      let a = greatest-append (map (shift p.start) p.chunk.value.ranges.items) (flat ps) in
+      let b = greatest_shifted p.start p.chunk.value.ranges.items h.0.1 in
+      let c = h.0.0.reach in
+      omega (arith, a, b, c)
+
+  hull_others : (p : Placed T) (ps : List (Placed T)) → greatest_end (flat ps) ≤ greatest_end (flat (p ∷ ps))
+  hull_others p ps = let a = greatest-append (map (shift p.start) p.chunk.value.ranges.items) (flat ps) in omega (arith, a)
+
+  pub hull_at : (ps : List (Placed T)) (i : ℕ) (p : Placed T) → i < length ps → p ≡ get_or ps i p → AreChunks rules ps → p.start + p.chunk.value.reach ≤ greatest_end (flat ps)
+  hull_at [] i p l e h = absurd (omega arith)
+  hull_at (q ∷ ps) zero p l e h = subst (λ (x : Placed T). x.start + x.chunk.value.reach ≤ greatest_end (flat (q ∷ ps))) (sym e) (hull_first q ps h)
+  hull_at (q ∷ ps) (suc i) p l e h = let k = hull_at ps i p (omega arith) e h.1 in let o = hull_others q ps in omega (arith, k, o)
+
+  -- chunks whose ranges end in a document are chunks further on
+  pub are_moved : (by n : ℕ) (ps : List (Placed T)) → AreChunks rules ps → greatest_end (flat ps) ≤ n → by + n < 2 ^ 32 → AreChunks rules (map (move by) ps)
+  are_moved by n [] h l m = tt
+  are_moved by n (p ∷ ps) h l m =
+      let a = hull_first p ps h in
+      let b = hull_others p ps in (
+        (chunk_placed p.start (p.start + by) p.chunk.value h.0.0 (omega (arith, a, l, m)), h.0.1),
+        are_moved by n ps h.1 (omega (arith, b, l)) m,
+      )
+
+  pub are_opened : (start : ℕ) (group : Group T) → IsGroup rules start group → AreChunks rules (map (move start) group.chunks.items)
+  are_opened start group h = let e = h.reach in are_moved start group.reach group.chunks.items h.chunks (omega (arith, e)) h.fits
+
+  pub are_spread : (gs : List (PlacedGroup T)) → AreGroups rules gs → AreChunks rules (spread gs)
+  are_spread [] h = tt
+  are_spread (g ∷ gs) h = AreChunks-append (map (move g.start) g.group.value.chunks.items) (spread gs) (are_opened g.start g.group.value h.0.0) (are_spread gs h.1)
+
+  pub flat_forward : (ps : List (Placed T)) → AreChunks rules ps → AllForward (flat ps)
+  flat_forward [] h = tt
+  flat_forward (p ∷ ps) h = forward-append (map (shift p.start) p.chunk.value.ranges.items) (flat ps) (forward_shifted p.start p.chunk.value.ranges.items h.0.0.forward) (flat_forward ps h.1)
+
+  pub group_ends : (start : ℕ) (group : Group T) → IsGroup rules start group → EndBy group.reach (flat group.chunks.items)
+  group_ends start group h = let e = h.reach in end_by_greatest (flat group.chunks.items) group.reach (omega (arith, e))
+
+  -- chunks of which there are ranges
+  pub some_chunk : (ps : List (Placed T)) → 1 ≤ length (flat ps) → 1 ≤ length ps
+  some_chunk [] h = absurd (omega arith)
+  some_chunk (p ∷ ps) h = omega arith
+
+  some_flat : (p : Placed T) (ps : List (Placed T)) → AreChunks rules (p ∷ ps) → 1 ≤ length (flat (p ∷ ps))
+  some_flat p ps h =
+      let a = length-append (map (shift p.start) p.chunk.value.ranges.items) (flat ps) in
+      let b = length_shifted rules p.start p.chunk.value.ranges.items in
+      let c = h.0.1 in
+      omega (arith, a, b, c)
+
+  pub flat_some : (ps : List (Placed T)) → AreChunks rules ps → 1 ≤ length ps → 1 ≤ length (flat ps)
+  flat_some [] h some = absurd (omega arith)
+  flat_some (p ∷ ps) h some = some_flat p ps h
+
+  flat_none : (ps : List (Placed T)) → AreChunks rules ps → flat ps ≡ [] → ps ≡ []
+  flat_none [] h e = refl
+  flat_none (p ∷ ps) h e = absurd (let k = some_flat p ps h in let l = ap length e in omega (arith, k, l))
+
+  pub AreGroups-push : (gs : List (PlacedGroup T)) (g : PlacedGroup T) → AreGroups rules gs → IsGroup rules g.start g.group.value → 1 ≤ length (flat g.group.value.chunks.items) → AreGroups rules (gs ++ g ∷ [])
+  AreGroups-push [] g h k some = ((k, some), tt)
+  AreGroups-push (q ∷ gs) g h k some = (h.0, AreGroups-push gs g h.1 k some)
+
+  pub group-at : (gs : List (PlacedGroup T)) (i : ℕ) (g : PlacedGroup T) → i < length gs → g ≡ get_or gs i g → AreGroups rules gs → IsGroup rules g.start g.group.value × (1 ≤ length (flat g.group.value.chunks.items))
+  group-at [] i g l e h = absurd (omega arith)
+  group-at (q ∷ gs) zero g l e h = subst (λ (x : PlacedGroup T). IsGroup rules x.start x.group.value × (1 ≤ length (flat x.group.value.chunks.items))) (sym e) h.0
+  group-at (q ∷ gs) (suc i) g l e h = group-at gs i g (omega arith) e h.1
+
+  pub groups_left : (gs hs : List (PlacedGroup T)) → AreGroups rules (gs ++ hs) → AreGroups rules gs
+  groups_left [] hs h = tt
+  groups_left (g ∷ gs) hs h = (h.0, groups_left gs hs h.1)
+
+  pub groups_right : (gs hs : List (PlacedGroup T)) → AreGroups rules (gs ++ hs) → AreGroups rules hs
+  groups_right [] hs h = h
+  groups_right (g ∷ gs) hs h = groups_right gs hs h.1
+
+  -- a chunk that counts from a place
+  abbrev pub counted_chunk : ℕ → Placed T → Placed T
+  counted_chunk start p = record { start = p.start - start; chunk = p.chunk }
+
+  pub put_group : (start : ℕ) (before after : Group T) (p : Placed T) → IsGroup rules start before → IsChunk rules p.start p.chunk.value → 1 ≤ length p.chunk.value.ranges.items → start ≤ p.start
+      → (before.chunks.items ≡ [] → p.start ≡ start) → after.chunks.items ≡ before.chunks.items ++ counted_chunk start p ∷ [] → after.count ≡ before.count + length p.chunk.value.ranges.items
+      → after.reach ≡ max before.reach (p.start - start + p.chunk.value.reach) → after.is_turned ≡ (before.is_turned || p.chunk.value.is_turned) → after.has_point ≡ (before.has_point || p.chunk.value.has_point) → IsGroup rules start after
+  put_group start before after p h chunk some l first items count reach turned points =
+      let q : Placed T = counted_chunk start p in
+      let old = flat before.chunks.items in
+      let new = map (shift q.start) p.chunk.value.ranges.items in
+      let is : flat after.chunks.items ≡ old ++ new = ap flat items ∙ flat-push before.chunks.items q in
+      let greatest = ap greatest_end is ∙ greatest-append old new in
+      let end = greatest_shifted q.start p.chunk.value.ranges.items some in
+      let long = ap length is ∙ length-append old new in
+      let len = length_shifted rules q.start p.chunk.value.ranges.items in
+      record {
+        chunks = rw items (AreChunks-push rules before.chunks.items q h.chunks (chunk_placed p.start q.start p.chunk.value chunk (let f = chunk.fits in omega (arith, f))) some);
+        first = ap first_start is ∙ first-append old new (λ e.
+            let k = first (flat_none before.chunks.items h.chunks e) in
+            let a = first_shifted q.start p.chunk.value.ranges.items some in
+            let b = chunk.first in
+            omega (arith, k, a, b)) h.first;
+        count = let c = h.count in omega (arith, c, count, long, len);
+        reach = let a = h.reach in let b = chunk.reach in omega (arith, a, b, reach, greatest, end);
+        turned = turned ∙ (ap (λ b. b || p.chunk.value.is_turned) h.turned
+            ∙ (ap (λ b. list_any (is_turned rules) old || b) (chunk.turned ∙ sym (turned_any q.start p.chunk.value.ranges.items))
+            ∙ (sym (list_any-append (is_turned rules) old new) ∙ ap (list_any (is_turned rules)) (sym is))));
+        points = points ∙ (ap (λ b. b || p.chunk.value.has_point) h.points
+            ∙ (ap (λ b. list_any (stands rules) old || b) (chunk.points ∙ sym (points_any q.start p.chunk.value.ranges.items))
+            ∙ (sym (list_any-append (stands rules) old new) ∙ ap (list_any (stands rules)) (sym is))));
+        fits = let f = h.fits in let k = chunk.fits in omega (arith, f, k, reach, l);
+      }
+
+  move_counted : (start : ℕ) (p : Placed T) → start ≤ p.start → move start (counted_chunk start p) ≡ p
+  move_counted start p l =
+      let e : p.start - start + start ≡ p.start = omega (arith, l) in
+      ap (λ n. let q : Placed T = record { start = n; chunk = p.chunk } in q) e
+
+  pub put_chunks : (start : ℕ) (before after : List (Placed T)) (p : Placed T) → start ≤ p.start → after ≡ before ++ counted_chunk start p ∷ [] → map (move start) after ≡ map (move start) before ++ p ∷ []
+  put_chunks start before after p l e =
+      ap (map (move start)) e ∙ (map-append (move start) before (counted_chunk start p ∷ []) ∙ ap (λ q. map (move start) before ++ q ∷ []) (move_counted start p l))
+
+  -- one more group after those of a builder, of which none grows
+  pub share_grouped : (done ended after : List (PlacedGroup T)) (start at : ℕ) (before none : List (Placed T)) (g : PlacedGroup T) → spread ended ≡ spread done ++ map (move start) before → none ≡ []
+      → after ≡ ended ++ g ∷ [] → spread after ++ map (move at) none ≡ spread done ++ map (move start) before ++ map (move g.start) g.group.value.chunks.items
+  share_grouped done ended after start at before none g e n a =
+      ap (λ rs. spread after ++ map (move at) rs) n
+      ∙ (append-nil (spread after) ∙ (ap spread a ∙ (spread-push ended g ∙ ap (λ rs. rs ++ map (move g.start) g.group.value.chunks.items) e)))
+
+  pub length_moved : (by : ℕ) (ps : List (Placed T)) → length (flat (map (move by) ps)) ≡ length (flat ps)
+  length_moved by ps = ap length (flat-moved by ps) ∙ length_shifted rules by (flat ps)
+
+  -- the first of chunks that are left
+  pub next_chunk : (by : ℕ) (chunks : List (Placed T)) (later : List (Placed T)) (p : Placed T) (others : List (Placed T)) → chunks ≡ p ∷ others
+      → IsNextChunk (map (move by) chunks ++ later) (p.start + by) p.chunk.value (map (move by) others ++ later)
+  next_chunk by chunks later p others e =
+      subst (λ ps. IsNextChunk (map (move by) ps ++ later) (p.start + by) p.chunk.value (map (move by) others ++ later)) (sym e)
+      (record { ranges = refl; fewer = omega arith })
+
+  -- a chunk after others in order begins where they do or after
+  pub begin_by_chunk : (here : List (Placed T)) (p : Placed T) (rest : List (Placed T)) → AreChunks rules (p ∷ rest) → Ascend 0 (flat (here ++ p ∷ rest)) → BeginBy p.start (flat here)
+  begin_by_chunk here p rest h asc = at p.chunk.value.ranges.items h.0.1 h.0.0.first (subst (Ascend 0) (flat-append here (p ∷ rest)) asc)
+    where
+      at : (rs : List (Ranged T)) → 1 ≤ length rs → first_start rs ≡ 0 → Ascend 0 (flat here ++ (map (shift p.start) rs ++ flat rest)) → BeginBy p.start (flat here)
+      at [] some f a = absurd (omega arith)
+      at (r ∷ rs) some f a =
+          let e : r.from + p.start ≡ p.start = omega (arith, f) in
+          subst (λ n. BeginBy n (flat here)) e (begin_by-next 0 (flat here) (shift p.start r) (map (shift p.start) rs ++ flat rest) a)
+
+  -- the ranges of the first groups, and of the next one
+  pub groups_room : (gs : List (PlacedGroup T)) (i : ℕ) (g : PlacedGroup T) → i < length gs → g ≡ get_or gs i g
+      → length (flat (spread (take i gs))) + length (flat g.group.value.chunks.items) ≤ length (flat (spread gs))
+  groups_room [] i g l e = absurd (omega arith)
+  groups_room (q ∷ gs) zero g l e =
+      let a = ap length (flat-spread q gs) ∙ length-append (map (shift q.start) (flat q.group.value.chunks.items)) (flat (spread gs)) in
+      let b = length_shifted rules q.start (flat q.group.value.chunks.items) in
+      let c = ap (λ (x : PlacedGroup T). length (flat x.group.value.chunks.items)) e in
+      omega (arith, a, b, c)
+  groups_room (q ∷ gs) (suc i) g l e =
+      let k = groups_room gs i g (omega arith) e in
+      let a = ap length (flat-spread q gs) ∙ length-append (map (shift q.start) (flat q.group.value.chunks.items)) (flat (spread gs)) in
+      let b = ap length (flat-spread q (take i gs)) ∙ length-append (map (shift q.start) (flat q.group.value.chunks.items)) (flat (spread (take i gs))) in
+      omega (arith, k, a, b)
+
+  nothing : (ps : List (Placed T)) → length ps ≡ 0 → ps ≡ []
+  nothing [] h = refl
+  nothing (p ∷ ps) h = absurd (omega (arith, h))
+
+  -- a group is opened, where no chunk is left of the one before it, or passed over
+  pub left_open : (base : ℕ) (chunks : List (Placed T)) (groups : List (PlacedGroup T)) (g : PlacedGroup T) (gs : List (PlacedGroup T)) → length chunks ≡ 0 → groups ≡ g ∷ gs → AreLeft rules base chunks groups
+      → (map (move base) chunks ++ spread groups ≡ spread (g ∷ gs)) × (AreGroups rules (g ∷ gs) × AreLeft rules g.start g.group.value.chunks.items gs)
+  left_open base chunks groups g gs none some h =
+      let all = subst (AreGroups rules) some h.others in (
+        ap (λ ps. map (move base) ps ++ spread groups) (nothing chunks none) ∙ ap spread some,
+        (all, record { opened = are_opened g.start g.group.value all.0.0; others = all.1 }),
+      )
+
+  pub left_passed : (base : ℕ) (chunks : List (Placed T)) (gs : List (PlacedGroup T)) → length chunks ≡ 0 → AreGroups rules gs → (spread gs ≡ map (move base) chunks ++ spread gs) × AreLeft rules base chunks gs
+  left_passed base chunks gs none h = (
+    sym (ap (λ ps. map (move base) ps ++ spread gs) (nothing chunks none)),
+    record { opened = subst (λ ps. AreChunks rules (map (move base) ps)) (sym (nothing chunks none)) tt; others = h },
+  )
+
+  pub left_next : (base : ℕ) (chunks : List (Placed T)) (groups : List (PlacedGroup T)) (p : Placed T) (ps : List (Placed T)) → chunks ≡ p ∷ ps → AreLeft rules base chunks groups
+      → (map (move base) chunks ++ spread groups ≡ move base p ∷ (map (move base) ps ++ spread groups)) × (IsChunk rules (p.start + base) p.chunk.value × AreLeft rules base ps groups)
+  left_next base chunks groups p ps some h =
+      let all = subst (λ qs. AreChunks rules (map (move base) qs)) some h.opened in
+      (ap (λ qs. map (move base) qs ++ spread groups) some, (all.0.0, record { opened = all.1; others = h.others }))
+
+  -- one more chunk of a group at its place
+  pub open_more : (start : ℕ) (ps : List (Placed T)) (i : ℕ) (p : Placed T) → i < length ps → p ≡ get_or ps i p
+      → map (shift start) (flat (take (i + 1) ps)) ≡ map (shift start) (flat (take i ps)) ++ map (shift (start + p.start)) p.chunk.value.ranges.items
+  open_more start ps i p l e =
+      let n : p.start + start ≡ start + p.start = omega arith in
+      ap (λ qs. map (shift start) (flat qs)) (take_more ps i p l ∙ ap (λ x. take i ps ++ x ∷ []) (sym e))
+      ∙ (ap (map (shift start)) (flat-push (take i ps) p)
+      ∙ (map-append (shift start) (flat (take i ps)) (map (shift p.start) p.chunk.value.ranges.items)
+      ∙ ap (λ rs. map (shift start) (flat (take i ps)) ++ rs) (shift-twice start p.start p.chunk.value.ranges.items ∙ ap (λ k. map (shift k) p.chunk.value.ranges.items) n)))
+
+  pub open_fits : (start : ℕ) (group : Group T) (i : ℕ) (p : Placed T) → IsGroup rules start group → i < length group.chunks.items → p ≡ get_or group.chunks.items i p
+      → (start + p.start + p.chunk.value.reach < 2 ^ 32) × (IsChunk rules (start + p.start) p.chunk.value × (1 ≤ length p.chunk.value.ranges.items))
+  open_fits start group i p h l e =
+      let chunk = chunk-at rules group.chunks.items i p l e h.chunks in
+      let a = hull_at group.chunks.items i p l e h.chunks in
+      let b = h.reach in
+      let c = h.fits in
+      let d : start + p.start + p.chunk.value.reach < 2 ^ 32 = omega (arith, a, b, c) in
+      (d, (chunk_placed p.start (start + p.start) p.chunk.value chunk.0 d, chunk.1))

@@ -1,0 +1,19 @@
+use Rattle.std.proofs.Common.{◌≡◌, ◌++◌, List, map, ap, subst, sym, ◌∙◌}
+use Rattle.range_set.specs.PrivateChunks.{AreLeft, move, spread}
+use Rattle.range_set.specs.declared.chunk.Placed.{Placed}
+use Rattle.range_set.specs.declared.group.Group.{Group}
+use Rattle.range_set.proofs.Groups.{left_open}
+use Rattle.range_set.proofs.chunk_iter.ChunkIter.next_chunk.Goals as goal
+
+pub loop-next-preserved : goal.loop-next-preserved
+loop-next-preserved g c =
+    let rules = g.T.RangeValue.rules in
+    let at = c.loop-next.self-inside in
+    let next = c.in_ok-next-in-None.next.now in
+    let others = c.in_ok-next-in-None.others.now in
+    let list : c.as_slice-self-inside.result.now ≡ next.group.value.chunks.items = c.as_slice-self-inside.ensures.value ∙ ap (λ (x : Group g.row.T.Denot). x.chunks.items) c.deref-in-None.ensures in
+    let entered = left_open rules at.base at.chunks.now at.groups.now next others c.in-None.ensures.cases c.in_ok-next-in-None.ensures.cases.0 c.loop-next.invariant.left in
+    record {
+      same = ap (λ ps. map (move next.start) ps ++ spread others) list ∙ (sym entered.0 ∙ c.loop-next.invariant.same);
+      left = subst (λ (ps : List (Placed g.row.T.Denot)). AreLeft rules next.start ps others) (sym list) entered.1.1;
+    }

@@ -1,0 +1,42 @@
+use Rattle.std.proofs.Common.{◌≡◌, ◌+◌, ◌≤◌, List, ap, subst, sym, ◌∙◌, arith}
+use Rattle.std.proofs.lemmas.List.{take_all}
+use Rattle.range_set.specs.PrivateChunks.{flat, spread}
+use Rattle.range_set.specs.declared.group.Group.{Group}
+use Rattle.range_set.specs.declared.group.PlacedGroup.{PlacedGroup}
+use Rattle.range_set.proofs.Groups.{group-at}
+use Rattle.range_set.proofs.Each.{Within, end_within, within}
+use Rattle.range_set.proofs.Sets.{hull_of, within_push}
+use Rattle.range_set.proofs.range_set.groups_end_within.Goals as goal
+
+pub loop-placed-init : goal.loop-placed-init
+loop-placed-init g c = tt
+
+pub loop-placed-preserved : goal.loop-placed-preserved
+loop-placed-preserved g c =
+    let reach = ap (λ (x : Group g.row.T.Denot). x.reach) c.deref.ensures in
+    let inside = c.if-placed-deref.false in
+    within_push g.T.RangeValue.rules c.args.len c.args.groups.now c.loop-placed.placed-index c.placed-item.result c.loop-placed-test.true c.placed-item.is c.requires (omega (arith, reach, inside)) c.loop-placed.invariant
+
+pub returns-then-placed-deref : goal.returns-then-placed-deref
+returns-then-placed-deref g c =
+    let reach = ap (λ (x : Group g.row.T.Denot). x.reach) c.deref.ensures in
+    let past = c.if-placed-deref.true in (
+      λ h. search Rattle.std.proofs.Common.rules,
+      λ h.
+          let l = hull_of g.T.RangeValue.rules c.args.len c.args.groups.now c.loop-placed.placed-index c.placed-item.result c.loop-placed-test.true c.placed-item.is c.requires (within c.args.len (flat (spread c.args.groups.now)) h) in
+          absurd (omega (arith, l, reach, past)),
+    )
+
+pub returns : goal.returns
+returns g c = (
+  λ h. end_within c.args.len (flat (spread c.args.groups.now))
+      (subst (λ (ps : List (PlacedGroup g.row.T.Denot)). Within c.args.len (flat (spread ps))) (take_all c.loop-placed.placed-index c.args.groups.now (omega arith)) c.loop-placed.invariant),
+  λ h. search Rattle.std.proofs.Common.rules,
+)
+
+pub overflow_add-placed : goal.overflow_add-placed
+overflow_add-placed g c =
+    let here = group-at g.T.RangeValue.rules c.args.groups.now c.loop-placed.placed-index c.placed-item.result c.loop-placed-test.true c.placed-item.is c.requires in
+    let fits = here.0.fits in
+    let reach = ap (λ (x : Group g.row.T.Denot). x.reach) c.deref.ensures in
+    omega (arith, fits, reach)

@@ -1,0 +1,125 @@
+ghost use Rattle.std.specs.Prelude.{◌≡◌, ◌≤◌, IfSome, [], None, ℕ, filter, length};
+ghost use Rattle.range_set.specs.Points.{points_of};
+ghost use Rattle.range_set.specs.PrivateChunks.{AreGroups, Ascend, Fit, IsNextChunk, flat, spread};
+ghost use Rattle.range_set.specs.Updating.{overlaps};
+
+use crate::chunk::{Chunk, Placed};
+use crate::group::PlacedGroup;
+use crate::range_value::RangeValue;
+use std::marker::Model;
+
+/// The chunks of groups in order. Contracts see it as those that are left, at their places.
+#[derive(Drop)]
+pub(crate) struct ChunkIter<'a, T: RangeValue> {
+    /// The place from which the chunks of the group that was reached count.
+    base: u32,
+    chunks: &'a [Placed<T>],
+    groups: &'a [PlacedGroup<T>],
+}
+
+impl<'a, T: RangeValue> Model for ChunkIter<'a, T> {
+    ghost use Rattle.std.specs.Prelude.{List};
+    ghost use Rattle.range_set.specs.declared.chunk.Placed.{Placed};
+
+    ghost Value = { List (Placed T) };
+
+    ghost use Rattle.std.specs.Prelude.{◌++◌, map};
+    ghost use Rattle.range_set.specs.PrivateChunks.{AreLeft, move, spread};
+
+    ghost view = { λ s. map (move s.base) s.chunks.now ++ spread s.groups.now };
+
+    ghost invariant = { λ s. AreLeft T.rules s.base s.chunks.now s.groups.now };
+}
+
+impl<'a, T: RangeValue> ChunkIter<'a, T> {
+    /// The chunks of these groups.
+    pub(crate) fn over(groups: &'a [PlacedGroup<T>]) -> ChunkIter<'a, T>
+        requires { AreGroups T.rules groups.now }
+        ensures { result ≡ spread groups.now }
+    {
+        ChunkIter {
+            base: 0,
+            chunks: &[],
+            groups,
+        }
+    }
+
+    /// The next chunk and its place.
+    pub(crate) fn next_chunk(&mut self) -> Option<(u32, &'a Chunk<T>)>
+        ensures next { IfSome result (λ x. IsNextChunk self.old x.0 x.1.now self.new) }
+        ensures end { result ≡ None → self.old ≡ [] }
+        ensures none { result ≡ None → self.new ≡ [] }
+    {
+        loop {
+            match self.chunks.split_first() {
+                Some((next, others)) => {
+                    self.chunks = others;
+                    return Some((self.base + next.start, &*next.chunk));
+                }
+                None => {
+                    let (next, others) = self.groups.split_first()?;
+                    self.base = next.start;
+                    self.chunks = next.group.chunks.as_slice();
+                    self.groups = others;
+                }
+            }
+        }
+    }
+
+    /// Passes over chunks and groups that come next and whose hull ends before a place.
+    pub(crate) fn pass_hulls(&mut self, place: u32)
+        ensures kept { (to : ℕ) → filter (overlaps place to) (flat self.new) ≡ filter (overlaps place to) (flat self.old) }
+        ensures order { (n : ℕ) → Ascend n (flat self.old) → Ascend n (flat self.new) }
+        ensures fewer { length (flat self.new) ≤ length (flat self.old) }
+        ensures fit { Fit (flat self.old) → Fit (flat self.new) }
+    {
+        loop {
+            match self.chunks.split_first() {
+                Some((first, others)) => {
+                    if place <= self.base + first.start + first.chunk.reach {
+                        return;
+                    }
+                    self.chunks = others;
+                }
+                None => match self.groups.split_first() {
+                    Some((first, others)) => {
+                        if place <= first.start + first.group.reach {
+                            self.base = first.start;
+                            self.chunks = first.group.chunks.as_slice();
+                        }
+                        self.groups = others;
+                    }
+                    None => return,
+                },
+            }
+        }
+    }
+
+    /// Passes over chunks and groups that come next and have no range that stands for what it covers.
+    pub(crate) fn pass_without_point(&mut self)
+        ensures kept { points_of T.rules (flat self.new) ≡ points_of T.rules (flat self.old) }
+        ensures fewer { length (flat self.new) ≤ length (flat self.old) }
+        ensures fit { Fit (flat self.old) → Fit (flat self.new) }
+    {
+        loop {
+            match self.chunks.split_first() {
+                Some((first, others)) => {
+                    if first.chunk.has_point {
+                        return;
+                    }
+                    self.chunks = others;
+                }
+                None => match self.groups.split_first() {
+                    Some((first, others)) => {
+                        if first.group.has_point {
+                            self.base = first.start;
+                            self.chunks = first.group.chunks.as_slice();
+                        }
+                        self.groups = others;
+                    }
+                    None => return,
+                },
+            }
+        }
+    }
+}

@@ -1,0 +1,77 @@
+ghost use Rattle.std.specs.Prelude.{IfOk, [], map, ◌++◌, ◌∷◌, ◌+◌, ◌≡◌, ◌≤◌, ◌<◌, ◌^◌, length};
+ghost use Rattle.range_set.specs.PrivateChunks.{IsChunk, IsGroup, flat, move};
+
+use crate::chunk::Placed;
+use crate::range_value::RangeValue;
+use std::alloc::{AllocError, Global};
+use std::rc::Rc;
+
+/// The greatest number of chunks of a group.
+pub(crate) const MAX_CHUNKS: usize = 64;
+
+/// The greatest number of chunks of a small group. No run of more chunks is cut into small groups.
+pub(crate) const FEW_CHUNKS: usize = 16;
+
+/// Up to 64 chunks in order, whose places count from the start of the first range.
+#[derive(Drop)]
+pub(crate) struct Group<T> {
+    pub(crate) chunks: Vec<Placed<T>>,
+    /// How many ranges they have.
+    pub(crate) count: usize,
+    /// The greatest end of their ranges: the hull of the group runs from its place to its place and this.
+    pub(crate) reach: u32,
+    /// Whether one of their ranges is empty with an end side less than its start side.
+    pub(crate) is_turned: bool,
+    /// Whether one of their ranges stands for what it covers.
+    pub(crate) has_point: bool,
+}
+
+/// A group, which sets share, at its place: the start of its first range, in characters.
+#[derive(Drop)]
+pub(crate) struct PlacedGroup<T> {
+    pub(crate) start: u32,
+    pub(crate) group: Rc<Group<T>>,
+}
+
+impl<T: RangeValue> Group<T> {
+    /// The group without ranges.
+    pub(crate) fn empty(alloc: Global) -> Group<T>
+        ensures chunks { result.chunks.items ≡ [] }
+        ensures group { IsGroup T.rules 0 result }
+    {
+        Group {
+            chunks: Vec::new(alloc),
+            count: 0,
+            reach: 0,
+            is_turned: false,
+            has_point: false,
+        }
+    }
+
+    /// Puts a chunk after the others of a group at the place `start`. `Err`: out of memory.
+    pub(crate) fn put(&mut self, start: u32, placed: Placed<T>) -> Result<(), AllocError>
+        requires group { IsGroup T.rules start self.old }
+        requires chunk { IsChunk T.rules placed.start placed.chunk.value }
+        requires some { 1 ≤ length placed.chunk.value.ranges.items }
+        requires room { length (flat self.old.chunks.items) + length placed.chunk.value.ranges.items < 2 ^ 64 }
+        requires after { start ≤ placed.start }
+        requires first { self.old.chunks.items ≡ [] → placed.start ≡ start }
+        ensures group { IfOk result (λ _. IsGroup T.rules start self.new) }
+        ensures chunks { IfOk result (λ _. map (move start) self.new.chunks.items ≡ map (move start) self.old.chunks.items ++ placed ∷ []) }
+    {
+        let from = placed.start - start;
+        let count = placed.chunk.ranges.len();
+        let reach = from + placed.chunk.reach;
+        let is_turned = placed.chunk.is_turned;
+        let has_point = placed.chunk.has_point;
+        self.chunks.push(Placed {
+            start: from,
+            chunk: placed.chunk,
+        })?;
+        self.count += count;
+        self.reach = self.reach.max(reach);
+        self.is_turned = self.is_turned || is_turned;
+        self.has_point = self.has_point || has_point;
+        Ok(())
+    }
+}

@@ -1,0 +1,163 @@
+ghost use Rattle.std.specs.Prelude.{IfOk, [], ◌++◌, ◌∷◌, ◌+◌, ◌≡◌, ◌≤◌, ◌<◌, ◌^◌, length, map};
+ghost use Rattle.range_set.specs.PrivateChunks.{AreChunks, AreGroups, AreGroupsOf, Ascend, BeginBy, IsChunk, IsGroup, IsGroupBuilder, flat, grouped, move, spread};
+
+use crate::chunk::Placed;
+use crate::group::{FEW_CHUNKS, Group, MAX_CHUNKS, PlacedGroup};
+use crate::range_value::RangeValue;
+use std::alloc::{AllocError, Global};
+use std::mem;
+use std::rc::Rc;
+
+/// Cuts chunks that come in order into groups: those that are done, and one that is growing, at the place `start`.
+#[derive(Drop)]
+pub(crate) struct GroupBuilder<T> {
+    pub(crate) done: Vec<PlacedGroup<T>>,
+    pub(crate) start: u32,
+    pub(crate) growing: Group<T>,
+    pub(crate) len: usize,
+}
+
+impl<T: RangeValue> GroupBuilder<T> {
+    /// A builder without ranges.
+    pub(crate) fn new(alloc: Global) -> GroupBuilder<T>
+        ensures builder { IsGroupBuilder T.rules result }
+        ensures ranges { grouped result ≡ [] }
+    {
+        GroupBuilder {
+            done: Vec::new(alloc),
+            start: 0,
+            growing: Group::empty(alloc),
+            len: 0,
+        }
+    }
+
+    /// Puts chunks in order after the others. `Err`: out of memory.
+    pub(crate) fn put_all(&mut self, chunks: Vec<Placed<T>>) -> Result<(), AllocError>
+        requires builder { IsGroupBuilder T.rules self.old }
+        requires chunks { AreChunks T.rules chunks.items }
+        requires room { length (flat (grouped self.old)) + length (flat chunks.items) < 2 ^ 64 }
+        requires order { Ascend 0 (flat (grouped self.old ++ chunks.items)) }
+        ensures builder { IfOk result (λ _. IsGroupBuilder T.rules self.new) }
+        ensures ranges { IfOk result (λ _. grouped self.new ≡ grouped self.old ++ chunks.items) }
+    {
+        let mut left = chunks.len();
+        for placed in chunks {
+            self.push(placed, left)?;
+            left -= 1;
+        }
+        Ok(())
+    }
+
+    /// Puts a chunk after the others, the first of `left` that are still to come of a run. `Err`: out of memory.
+    fn push(&mut self, placed: Placed<T>, left: usize) -> Result<(), AllocError>
+        requires builder { IsGroupBuilder T.rules self.old }
+        requires chunk { IsChunk T.rules placed.start placed.chunk.value }
+        requires some { 1 ≤ length placed.chunk.value.ranges.items }
+        requires room { length (flat (grouped self.old)) + length placed.chunk.value.ranges.items < 2 ^ 64 }
+        requires after { BeginBy placed.start (flat (grouped self.old)) }
+        ensures builder { IfOk result (λ _. IsGroupBuilder T.rules self.new) }
+        ensures ranges { IfOk result (λ _. grouped self.new ≡ grouped self.old ++ placed ∷ []) }
+    {
+        self.make_room(placed.start, left)?;
+        let count = placed.chunk.ranges.len();
+        self.growing.put(self.start, placed)?;
+        self.len += count;
+        Ok(())
+    }
+
+    /// Makes the growing group one that a chunk can be put into that begins at `from`, the first of `left` that are still to
+    /// come of a run. `Err`: out of memory.
+    fn make_room(&mut self, from: u32, left: usize) -> Result<(), AllocError>
+        requires builder { IsGroupBuilder T.rules self.old }
+        requires after { BeginBy from (flat (grouped self.old)) }
+        ensures builder { IfOk result (λ _. IsGroupBuilder T.rules self.new) }
+        ensures ranges { IfOk result (λ _. grouped self.new ≡ grouped self.old) }
+        ensures after { IfOk result (λ _. self.new.start ≤ from) }
+        ensures first { IfOk result (λ _. self.new.growing.chunks.items ≡ [] → from ≡ self.new.start) }
+    {
+        if is_full(self.growing.chunks.len(), left) {
+            seal(&mut self.done, self.start, &mut self.growing)?;
+            self.start = from;
+        } else if self.growing.chunks.is_empty() {
+            self.start = from;
+        }
+        Ok(())
+    }
+
+    /// Puts a group after the ranges, at a place of its own, and shares it. `Err`: out of memory.
+    pub(crate) fn share(&mut self, start: u32, group: &Rc<Group<T>>) -> Result<(), AllocError>
+        requires builder { IsGroupBuilder T.rules self.old }
+        requires group { IsGroup T.rules start group.now.value }
+        requires some { 1 ≤ length (flat group.now.value.chunks.items) }
+        requires room { length (flat (grouped self.old)) + length (flat group.now.value.chunks.items) < 2 ^ 64 }
+        ensures builder { IfOk result (λ _. IsGroupBuilder T.rules self.new) }
+        ensures ranges { IfOk result (λ _. grouped self.new ≡ grouped self.old ++ map (move start) group.now.value.chunks.items) }
+    {
+        seal(&mut self.done, self.start, &mut self.growing)?;
+        let count = group.count;
+        self.done.push(PlacedGroup {
+            start,
+            group: group.clone()?,
+        })?;
+        self.len += count;
+        Ok(())
+    }
+
+    /// Puts groups after the ranges, each at its place, and shares them. `Err`: out of memory.
+    pub(crate) fn share_all(&mut self, groups: &[PlacedGroup<T>]) -> Result<(), AllocError>
+        requires builder { IsGroupBuilder T.rules self.old }
+        requires groups { AreGroups T.rules groups.now }
+        requires room { length (flat (grouped self.old)) + length (flat (spread groups.now)) < 2 ^ 64 }
+        ensures builder { IfOk result (λ _. IsGroupBuilder T.rules self.new) }
+        ensures ranges { IfOk result (λ _. grouped self.new ≡ grouped self.old ++ spread groups.now) }
+    {
+        for placed in groups {
+            self.share(placed.start, &placed.group)?;
+        }
+        Ok(())
+    }
+
+    /// The groups of all ranges, and how many ranges there are. `Err`: out of memory.
+    pub(crate) fn finish(mut self) -> Result<(Vec<PlacedGroup<T>>, usize), AllocError>
+        requires { IsGroupBuilder T.rules self }
+        ensures groups { IfOk result (λ made. AreGroupsOf T.rules made.0.items made.1) }
+        ensures ranges { IfOk result (λ made. spread made.0.items ≡ grouped self) }
+    {
+        seal(&mut self.done, self.start, &mut self.growing)?;
+        Ok((self.done, self.len))
+    }
+}
+
+/// Whether a group of `len` chunks grows no more, where `left` are still to come of its run: it has the most that a group may
+/// have, or half of those that would make one such group and a small one. No contract speaks of this.
+fn is_full(len: usize, left: usize) -> bool {
+    len >= MAX_CHUNKS
+        || (left <= len
+            && len.saturating_add(left) > MAX_CHUNKS
+            && len.saturating_add(left) <= MAX_CHUNKS + FEW_CHUNKS)
+}
+
+/// Ends the growing group, if it has chunks, and begins one without chunks. `Err`: out of memory.
+fn seal<T: RangeValue>(
+    done: &mut Vec<PlacedGroup<T>>,
+    start: u32,
+    growing: &mut Group<T>,
+) -> Result<(), AllocError>
+    requires groups { AreGroups T.rules done.old.items }
+    requires group { IsGroup T.rules start growing.old }
+    ensures groups { IfOk result (λ _. AreGroups T.rules done.new.items) }
+    ensures ranges { IfOk result (λ _. spread done.new.items ≡ spread done.old.items ++ map (move start) growing.old.chunks.items) }
+    ensures opened { IfOk result (λ _. IsGroup T.rules start growing.new) }
+    ensures empty { IfOk result (λ _. growing.new.chunks.items ≡ []) }
+{
+    if growing.chunks.is_empty() {
+        return Ok(());
+    }
+    let alloc = *done.allocator();
+    let group = mem::replace(growing, Group::empty(alloc));
+    done.push(PlacedGroup {
+        start,
+        group: Rc::new(alloc, group)?,
+    })?;
+    Ok(())
+}
