@@ -16,8 +16,8 @@ abbrev pub coded : List ℕ → Members → Data
 coded code ms = object (member (codes "code") (string code) ms)
 
 -- a member that is a text
-abbrev pub written : List ℕ → List ℕ → Members → Members
-written name text ms = member name (string (encode_utf8_all text)) ms
+abbrev pub text_member : List ℕ → List ℕ → Members → Members
+text_member name text ms = member name (string (encode_utf8_all text)) ms
 
 -- a list of texts
 abbrev pub texts_data : List (List ℕ) → Data

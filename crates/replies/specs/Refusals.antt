@@ -12,7 +12,7 @@ use Rattle.script.specs.declared.window_refusal.WindowRefusal.{WindowRefusal}
 use Rattle.script.specs.declared.window_refusal.WindowRefusal.TheVariants.{BadRows, BadCols}
 use Rattle.script.specs.declared.refusal.Refusal.{Refusal}
 use Rattle.script.specs.declared.refusal.Refusal.TheVariants.{LineTooLong, NotUtf8, NotJson, NotCommand, BadValue, UnknownName, NameTaken, NoSession, BadRange, LengthMismatch, TooLong, NoRanges, BadMain, SelectionOutside, UnknownEffect, UnknownCompartment, Declaration, Extensions, File, Window, Stale, Ahead}
-use Rattle.replies.specs.Objects.{coded, texts_data, whole, written}
+use Rattle.replies.specs.Objects.{coded, text_member, texts_data, whole}
 
 -- a refusal of a declaration
 abbrev pub declaration_data : DeclarationRefusal → Data
@@ -23,24 +23,24 @@ declaration_data NotEmpty = coded (codes "NotEmpty") no_members
 declaration_data BadReplace = coded (codes "BadReplace") no_members
 declaration_data (BadSide side) = coded (codes "BadSide") (member (codes "side") (number (of_integer side)) no_members)
 declaration_data (NotLineStart place) = coded (codes "NotLineStart") (member (codes "pos") (whole place) no_members)
-declaration_data (UnknownRule sort n) = coded (codes "UnknownRule") (member (codes "number") (whole n) (written (codes "sort") sort no_members))
-declaration_data (StaticFacet facet) = coded (codes "StaticFacet") (written (codes "facet") facet no_members)
-declaration_data (WrongShape id) = coded (codes "WrongShape") (written (codes "id") id no_members)
-declaration_data (BadInverse effect back) = object (written (codes "back") back (member (codes "code") (string (codes "BadInverse")) (written (codes "effect") effect no_members)))
-declaration_data (InverseTaken effect) = coded (codes "InverseTaken") (written (codes "effect") effect no_members)
-declaration_data (TooMany kind) = coded (codes "TooMany") (written (codes "kind") kind no_members)
+declaration_data (UnknownRule sort n) = coded (codes "UnknownRule") (member (codes "number") (whole n) (text_member (codes "sort") sort no_members))
+declaration_data (StaticFacet facet) = coded (codes "StaticFacet") (text_member (codes "facet") facet no_members)
+declaration_data (WrongShape id) = coded (codes "WrongShape") (text_member (codes "id") id no_members)
+declaration_data (BadInverse effect back) = object (text_member (codes "back") back (member (codes "code") (string (codes "BadInverse")) (text_member (codes "effect") effect no_members)))
+declaration_data (InverseTaken effect) = coded (codes "InverseTaken") (text_member (codes "effect") effect no_members)
+declaration_data (TooMany kind) = coded (codes "TooMany") (text_member (codes "kind") kind no_members)
 
 -- a refusal of extensions
 abbrev pub extension_data : ExtensionRefusal → Data
 extension_data (DuplicateCompartment compartment first second) =
-    coded (codes "DuplicateCompartment") (written (codes "compartment") compartment (written (codes "first") first (written (codes "second") second no_members)))
+    coded (codes "DuplicateCompartment") (text_member (codes "compartment") compartment (text_member (codes "first") first (text_member (codes "second") second no_members)))
 extension_data (CompartmentLoop path) = coded (codes "CompartmentLoop") (member (codes "path") (texts_data path) no_members)
 extension_data (Cycle members) = coded (codes "Cycle") (member (codes "members") (texts_data members) no_members)
 
 -- a refusal of a file
 abbrev pub file_data : FileRefusal → Data
-file_data (FileMissing name) = coded (codes "FileMissing") (written (codes "name") name no_members)
-file_data (FileNotUtf8 name) = coded (codes "FileNotUtf8") (written (codes "name") name no_members)
+file_data (FileMissing name) = coded (codes "FileMissing") (text_member (codes "name") name no_members)
+file_data (FileNotUtf8 name) = coded (codes "FileNotUtf8") (text_member (codes "name") name no_members)
 
 -- a refusal of a window's size
 abbrev pub window_data : WindowRefusal → Data

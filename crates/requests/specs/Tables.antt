@@ -16,7 +16,7 @@ use Rattle.requests.specs.Effects.{content_of, named_effect_of}
 
 -- ---- values
 
--- how a mark looks: two colours and three flags
+-- how cells are drawn: two colours and three flags
 abbrev pub style_fields : List Field
 style_fields = may_have (codes "fg") color_at ∷ may_have (codes "bg") color_at ∷ may_have (codes "bold") flag_at
     ∷ may_have (codes "underline") flag_at ∷ may_have (codes "reverse") flag_at ∷ []
