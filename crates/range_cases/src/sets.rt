@@ -92,13 +92,13 @@ fn ranges_are_kept_and_added(rt: HostRuntime) -> Result<(), Fail> {
 fn added(alloc: Global) -> Result<RangeSet<Numbered>, Fail> {
     let set = RangeSet::of(ranges_of(alloc, &[(1, 2, 0, 0, 1), (3, 3, 0, 0, 2)])?)?;
     let add = ranges_of(alloc, &[(0, 9, 0, 0, 3), (3, 3, -1, 0, 4), (3, 5, 0, 0, 5)])?;
-    Ok(set.with_ranges(add)?)
+    Ok(set.with_added(add)?)
 }
 
 /// Why ranges are not added to a set of one.
 fn added_refusal_of(alloc: Global, rows: &[Row]) -> Result<Option<RangeError>, Fail> {
     let set = RangeSet::of(ranges_of(alloc, &[(1, 2, 0, 0, 1)])?)?;
-    Ok(set.with_ranges(ranges_of(alloc, rows)?).err())
+    Ok(set.with_added(ranges_of(alloc, rows)?).err())
 }
 
 #[test]

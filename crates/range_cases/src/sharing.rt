@@ -176,16 +176,42 @@ fn has_update(
     Ok(Some(found_at(&set, at)))
 }
 
-/// The same of points with one more that is added without a filter.
-fn has_more(alloc: Global, count: u32, most: u32, at: u32) -> Result<Option<(usize, bool)>, Fail> {
+/// Points, and first a span from 0 to the last of them where `is_spanned`: the same span over a whole text.
+fn spanned(
+    alloc: Global,
+    count: u32,
+    most: u32,
+    is_spanned: bool,
+) -> Result<RangeSet<Numbered>, Fail> {
     let set = points(alloc, count, most)?;
+    if !is_spanned {
+        return Ok(set);
+    }
+    let mut span = Vec::new(alloc);
+    span.push(Ranged {
+        from: 0,
+        to: count.wrapping_mul(10),
+        value: numbered(0, u32::MAX),
+    })?;
+    Ok(set.with_added(span)?)
+}
+
+/// The same of points, under a span where `is_spanned`, with one more that is added without a filter.
+fn has_more(
+    alloc: Global,
+    count: u32,
+    most: u32,
+    at: u32,
+    is_spanned: bool,
+) -> Result<Option<(usize, bool)>, Fail> {
+    let set = spanned(alloc, count, most, is_spanned)?;
     let mut add = Vec::new(alloc);
     add.push(Ranged {
         from: at,
         to: at,
         value: numbered(at, most),
     })?;
-    let Some(more) = set.with_ranges(add).ok() else {
+    let Some(more) = set.with_added(add).ok() else {
         return Ok(None);
     };
     Ok(Some(found_at(&more, at)))
@@ -205,11 +231,83 @@ fn chunks_that_an_update_leaves_are_shared(rt: HostRuntime) -> Result<(), Fail> 
 #[test]
 fn chunks_without_an_added_range_are_shared(rt: HostRuntime) -> Result<(), Fail> {
     // 20,000 points stand in three groups, the first chunk of which has points 1 to 128
-    assert!(rt; has_more(rt.alloc(), 20_000, 0, 300_000)? == Some((20_001, true)));
-    assert!(rt; has_more(rt.alloc(), 20_000, 0, 5)? == Some((20_001, true)));
-    assert!(rt; has_more(rt.alloc(), 20_000, 128, 505)? == Some((20_001, true)));
-    assert!(rt; has_more(rt.alloc(), 20_000, 127, 505)? == None);
-    assert!(rt; has_more(rt.alloc(), 20_000, u32::MAX, 100_005)? == Some((20_001, true)));
-    assert!(rt; has_more(rt.alloc(), 0, 0, 5)? == Some((1, true)));
+    assert!(rt; has_more(rt.alloc(), 20_000, 0, 300_000, false)? == Some((20_001, true)));
+    assert!(rt; has_more(rt.alloc(), 20_000, 0, 5, false)? == Some((20_001, true)));
+    assert!(rt; has_more(rt.alloc(), 20_000, 128, 505, false)? == Some((20_001, true)));
+    assert!(rt; has_more(rt.alloc(), 20_000, 127, 505, false)? == None);
+    assert!(rt; has_more(rt.alloc(), 20_000, 0, 300_000, true)? == Some((20_002, true)));
+    assert!(rt; has_more(rt.alloc(), 0, 0, 5, false)? == Some((1, true)));
+    Ok(())
+}
+
+/// A set of so many points with one more before all and one after all, and one with none: how many ranges they have.
+fn widened(alloc: Global, count: u32) -> Result<(usize, usize), Fail> {
+    let set = points(alloc, count, u32::MAX)?;
+    let last = count.wrapping_mul(10);
+    let mut add = Vec::new(alloc);
+    for at in [3, last.wrapping_add(3)] {
+        add.push(Ranged {
+            from: at,
+            to: at,
+            value: numbered(at, u32::MAX),
+        })?;
+    }
+    let more = set.with_added(add)?;
+    let same = set.with_added(Vec::new(alloc))?;
+    if !same.same(&set) {
+        return Ok((0, 0));
+    }
+    Ok((more.len(), same.len()))
+}
+
+#[test]
+fn ranges_are_added_around_groups(rt: HostRuntime) -> Result<(), Fail> {
+    assert!(rt; widened(rt.alloc(), 20_000)? == (20_002, 20_000));
+    assert!(rt; widened(rt.alloc(), 0)? == (2, 0));
+    Ok(())
+}
+
+/// Whether points that change places with none are those of a deletion near the first and an insertion of as much near the last.
+fn stand_shifted(alloc: Global, count: u32) -> Result<bool, Fail> {
+    let set = points(alloc, count, u32::MAX)?;
+    let last = count.wrapping_mul(10);
+    let changes = described(
+        alloc,
+        &[
+            Section::Keep(11),
+            Section::Replace(3, 0),
+            Section::Keep(last.wrapping_sub(19)),
+            Section::Replace(0, 3),
+            Section::Keep(5),
+        ],
+    )?;
+    if !set.ends_within(changes.len()) {
+        return Ok(false);
+    }
+    let moved = set.map(&changes)?;
+    let mut ranges = moved.iter();
+    let mut place = 0u32;
+    for _index in 0..count {
+        place = place.wrapping_add(10);
+        let want = if place == 10 || place == last {
+            place
+        } else {
+            place.wrapping_sub(3)
+        };
+        match ranges.next() {
+            None => return Ok(false),
+            Some(range) => {
+                if range.from != want {
+                    return Ok(false);
+                }
+            }
+        }
+    }
+    Ok(ranges.next().is_none())
+}
+
+#[test]
+fn changes_far_apart_meet_two_groups(rt: HostRuntime) -> Result<(), Fail> {
+    assert!(rt; stand_shifted(rt.alloc(), 20_000)?);
     Ok(())
 }

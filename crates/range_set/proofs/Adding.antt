@@ -1,4 +1,4 @@
--- Groups that end before added ranges or begin after them, and an update without a filter.
+-- Groups whose ranges begin before added ones or after them, and an update without a filter.
 use Rattle.std.proofs.Common.{◌≡◌, ℕ, zero, suc, ◌+◌, ◌-◌, ◌<◌, ◌≤◌, Bool, true, false, ◌||◌, ◌&&◌, List, [], ◌∷◌, ◌++◌, length, get_or, take, drop, map, filter, Some, None, refl, sym, ap, subst, ◌∙◌, append_assoc, arith}
 use Rattle.std.proofs.lemmas.Bool.Decides.{nat_tests}
 use Rattle.std.proofs.lemmas.List.{append-nil, length-append}
@@ -6,15 +6,15 @@ use Rattle.std.specs.Prelude.{nat_lt, ◌==◌, slice_get}
 use Rattle.stable_order.specs.StableSort.{stable_sort}
 use Rattle.stable_order.proofs.StableSort.{NoneBelow, Rises, Rises-stable_sort, length-stable_sort, stable_sort-append, stable_sort-risen}
 use Rattle.range_set.specs.Rules.{RangeRules}
-use Rattle.range_set.specs.Order.{AllForward, before, first_fault}
+use Rattle.range_set.specs.Order.{before, first_fault}
 use Rattle.range_set.specs.Ranking.{before-order}
 use Rattle.range_set.specs.Updating.{updated}
-use Rattle.range_set.specs.PrivateChunks.{AreGroups, Ascend, BeginBy, EndBy, first_start, flat, shift, spread}
-use Rattle.range_set.specs.PrivateUpdates.{BeginPast, EndUnder, last_start}
+use Rattle.range_set.specs.PrivateChunks.{AreGroups, Ascend, BeginBy, first_start, flat, shift, spread}
+use Rattle.range_set.specs.PrivateUpdates.{BeginPast, BeginUnder, last_start}
 use Rattle.range_set.specs.declared.ranged.Ranged.{Ranged}
 use Rattle.range_set.specs.declared.group.PlacedGroup.{PlacedGroup}
-use Rattle.range_set.proofs.Chunks.{ascend-prefix, ascend-rest, not_less}
-use Rattle.range_set.proofs.Groups.{are_spread, flat-spread, flat-spread_push, flat_forward, group-at, group_ends, spread_take}
+use Rattle.range_set.proofs.Chunks.{ascend-prefix, ascend-rest, begin_by-next}
+use Rattle.range_set.proofs.Groups.{are_spread, flat-spread, flat_forward, spread_take}
 use Rattle.range_set.proofs.RangeOrder.{forward-append, forward-no_fault, no_fault_from, rises-no_fault}
 use Rattle.range_set.proofs.Sharing.{HaveParts}
 use Rattle.range_set.proofs.Under.{any_both, rises_across, rises_ascend, rises_left, rises_right}
@@ -27,21 +27,21 @@ is_before : (a b : ℕ) (c : Bool) → a < b → (nat_lt a b || (a == b && c)) �
 is_before a b c l = grind (arith, nat_tests)
 
 module _ {T : Type 0} where
-  under_append : (place : ℕ) (xs ys : List (Ranged T)) → EndUnder place xs → EndUnder place ys → EndUnder place (xs ++ ys)
+  under_append : (place : ℕ) (xs ys : List (Ranged T)) → BeginUnder place xs → BeginUnder place ys → BeginUnder place (xs ++ ys)
   under_append place [] ys h k = k
   under_append place (x ∷ xs) ys h k = (h.0, under_append place xs ys h.1 k)
 
-  under_left : (place : ℕ) (xs ys : List (Ranged T)) → EndUnder place (xs ++ ys) → EndUnder place xs
+  under_left : (place : ℕ) (xs ys : List (Ranged T)) → BeginUnder place (xs ++ ys) → BeginUnder place xs
   under_left place [] ys h = tt
   under_left place (x ∷ xs) ys h = (h.0, under_left place xs ys h.1)
 
-  under_right : (place : ℕ) (xs ys : List (Ranged T)) → EndUnder place (xs ++ ys) → EndUnder place ys
+  under_right : (place : ℕ) (xs ys : List (Ranged T)) → BeginUnder place (xs ++ ys) → BeginUnder place ys
   under_right place [] ys h = h
   under_right place (x ∷ xs) ys h = under_right place xs ys h.1
 
-  under_hull : (start reach place : ℕ) (rs : List (Ranged T)) → EndBy reach rs → start + reach < place → EndUnder place (map (shift start) rs)
-  under_hull start reach place [] h l = tt
-  under_hull start reach place (r ∷ rs) h l = (omega (arith, h.0, l), under_hull start reach place rs h.1 l)
+  under_less : (n place : ℕ) (rs : List (Ranged T)) → BeginBy n rs → n < place → BeginUnder place rs
+  under_less n place [] h l = tt
+  under_less n place (r ∷ rs) h l = (omega (arith, h.0, l), under_less n place rs h.1 l)
 
   past_right : (place : ℕ) (xs ys : List (Ranged T)) → BeginPast place (xs ++ ys) → BeginPast place ys
   past_right place [] ys h = h
@@ -57,14 +57,14 @@ module _ {T : Type 0} where
       let k : place < r.from + start = omega (arith, l) in
       (k, past_from (r.from + start) place (map (shift start) rs ++ later) k h.1)
 
-  pub under_taken : (place m n : ℕ) (gs : List (PlacedGroup T)) → m ≤ n → EndUnder place (flat (spread (take n gs))) → EndUnder place (flat (spread (take m gs)))
+  pub under_taken : (place m n : ℕ) (gs : List (PlacedGroup T)) → m ≤ n → BeginUnder place (flat (spread (take n gs))) → BeginUnder place (flat (spread (take m gs)))
   under_taken place zero n gs l h = tt
   under_taken place (suc m) zero gs l h = absurd (omega arith)
   under_taken place (suc m) (suc n) [] l h = tt
   under_taken place (suc m) (suc n) (g ∷ gs) l h =
       let here = map (shift g.start) (flat g.group.value.chunks.items) in
-      let parts = subst (EndUnder place) (flat-spread g (take n gs)) h in
-      subst (EndUnder place) (sym (flat-spread g (take m gs)))
+      let parts = subst (BeginUnder place) (flat-spread g (take n gs)) h in
+      subst (BeginUnder place) (sym (flat-spread g (take m gs)))
       (under_append place here (flat (spread (take m gs))) (under_left place here (flat (spread (take n gs))) parts)
       (under_taken place m n gs (omega (arith, l)) (under_right place here (flat (spread (take n gs))) parts)))
 
@@ -88,9 +88,17 @@ module _ {T : Type 0} where
       let n : length (q ∷ p ∷ rs) - 1 ≡ suc (length (p ∷ rs) - 1) = omega arith in
       last_of (p ∷ rs) r (ap (slice_get (q ∷ p ∷ rs)) (sym n) ∙ h)
 
-  pub past_list : (xs : List (Ranged T)) → length xs ≡ 0 → xs ≡ []
-  past_list [] h = refl
-  past_list (x ∷ xs) h = absurd (omega (arith, h))
+  -- each group begins before a place
+  abbrev pub StartUnder : ℕ → List (PlacedGroup T) → Type 0
+  StartUnder place [] = Unit {0}
+  StartUnder place (g ∷ gs) = (g.start < place) × StartUnder place gs
+
+  start_append : (place : ℕ) (gs : List (PlacedGroup T)) (g : PlacedGroup T) → StartUnder place gs → g.start < place → StartUnder place (gs ++ g ∷ [])
+  start_append place [] g h l = (l, tt)
+  start_append place (q ∷ gs) g h l = (h.0, start_append place gs g h.1 l)
+
+  pub start-push : (place : ℕ) (gs : List (PlacedGroup T)) (i : ℕ) (g : PlacedGroup T) → i < length gs → g ≡ get_or gs i g → g.start < place → StartUnder place (take i gs) → StartUnder place (take (i + 1) gs)
+  start-push place gs i g l e k h = subst (StartUnder place) (sym (spread_take gs i g l e)) (start_append place (take i gs) g h k)
 
   filter_all : (xs : List (Ranged T)) → filter (λ _. true) xs ≡ xs
   filter_all [] = refl
@@ -109,12 +117,32 @@ module _ {T : Type 0} where
       (omega (arith, h.1.0, k.0), k)
 
 module _ {T : Type 0} (rules : RangeRules T) where
-  pub under_push : (place : ℕ) (gs : List (PlacedGroup T)) (i : ℕ) (g : PlacedGroup T) → i < length gs → g ≡ get_or gs i g → AreGroups rules gs → g.start + g.group.value.reach < place
-      → EndUnder place (flat (spread (take i gs))) → EndUnder place (flat (spread (take (i + 1) gs)))
-  under_push place gs i g l e h k u =
-      let group = (group-at rules gs i g l e h).0 in
-      let is = ap (λ hs. flat (spread hs)) (spread_take gs i g l e) ∙ flat-spread_push (take i gs) g in
-      subst (EndUnder place) (sym is) (under_append place (flat (spread (take i gs))) _ u (under_hull g.start g.group.value.reach place (flat g.group.value.chunks.items) (group_ends rules g.start g.group.value group) k))
+  -- ranges that stand before a group begin no later than it
+  begin_by_group : (n : ℕ) (xs : List (Ranged T)) (g : PlacedGroup T) (gs : List (PlacedGroup T)) → 1 ≤ length (flat g.group.value.chunks.items) → first_start (flat g.group.value.chunks.items) ≡ 0
+      → Ascend n (xs ++ flat (spread (g ∷ gs))) → BeginBy g.start xs
+  begin_by_group n xs g gs some f asc = at (flat g.group.value.chunks.items) some f (subst (λ rs. Ascend n (xs ++ rs)) (flat-spread g gs) asc)
+    where
+      at : (rs : List (Ranged T)) → 1 ≤ length rs → first_start rs ≡ 0 → Ascend n (xs ++ (map (shift g.start) rs ++ flat (spread gs))) → BeginBy g.start xs
+      at [] some f a = absurd (omega arith)
+      at (r ∷ rs) some f a =
+          let e : r.from + g.start ≡ g.start = omega (arith, f) in
+          subst (λ k. BeginBy k xs) e (begin_by-next n xs (shift g.start r) (map (shift g.start) rs ++ flat (spread gs)) a)
+
+  -- all but the last of groups that begin before a place have ranges that do
+  pub begin_under : (place n : ℕ) (gs : List (PlacedGroup T)) (i : ℕ) → i ≤ length gs → AreGroups rules gs → Ascend n (flat (spread gs)) → StartUnder place (take i gs) → BeginUnder place (flat (spread (take (i - 1) gs)))
+  begin_under place n gs zero l h a s = tt
+  begin_under place n [] (suc i) l h a s = absurd (omega arith)
+  begin_under place n (g ∷ gs) (suc zero) l h a s = tt
+  begin_under place n (g ∷ []) (suc (suc i)) l h a s = absurd (omega arith)
+  begin_under place n (g ∷ q ∷ gs) (suc (suc i)) l h a s =
+      let here = map (shift g.start) (flat g.group.value.chunks.items) in
+      let all = subst (Ascend n) (flat-spread g (q ∷ gs)) a in
+      let e : suc i - 1 ≡ i = omega arith in
+      let rest = subst (λ k. BeginUnder place (flat (spread (take k (q ∷ gs))))) e (begin_under place n (q ∷ gs) (suc i) (omega arith) h.1 (ascend-rest n here (flat (spread (q ∷ gs))) all) s.1) in
+      let f : suc (suc i) - 1 ≡ suc i = omega arith in
+      subst (λ k. BeginUnder place (flat (spread (take k (g ∷ q ∷ gs))))) (sym f)
+      (subst (BeginUnder place) (sym (flat-spread g (take i (q ∷ gs))))
+      (under_append place here (flat (spread (take i (q ∷ gs)))) (under_less q.start place here (begin_by_group n here q gs h.1.0.1 h.1.0.0.first all) s.1.0) rest))
 
   pub begun : (place n : ℕ) (gs : List (PlacedGroup T)) (i : ℕ) (g : PlacedGroup T) → i < length gs → g ≡ get_or gs i g → AreGroups rules gs → Ascend n (flat (spread gs)) → place < g.start → BeginPast place (flat (spread (drop i gs)))
   begun place n [] i g l e h a k = absurd (omega arith)
@@ -130,11 +158,9 @@ module _ {T : Type 0} (rules : RangeRules T) where
   none_under r n [] l a = tt
   none_under r n (x ∷ add) l a = (not_before x.from r.from _ (omega (arith, l, a.0)), none_under r x.from add (omega (arith, l, a.0)) a.1)
 
-  all_under : (rs add : List (Ranged T)) (n : ℕ) → AllForward rs → EndUnder n rs → Ascend n add → Below rules rs add
-  all_under [] add n f u a = tt
-  all_under (r ∷ rs) add n f u a =
-      let k = not_less r.to r.from f.0 in
-      (none_under r n add (omega (arith, k, u.0)) a, all_under rs add n f.1 u.1 a)
+  all_under : (rs add : List (Ranged T)) (n : ℕ) → BeginUnder n rs → Ascend n add → Below rules rs add
+  all_under [] add n u a = tt
+  all_under (r ∷ rs) add n u a = (none_under r n add u.0 a, all_under rs add n u.1 a)
 
   -- they belong before one that begins after they do
   before_each : (x : Ranged T) (place : ℕ) (rs : List (Ranged T)) → x.from ≤ place → BeginPast place rs → BeforeEach rules x rs
@@ -146,15 +172,15 @@ module _ {T : Type 0} (rules : RangeRules T) where
   each_before (x ∷ add) rs place b h = (before_each x place rs b.0 h, each_before add rs place b.1 h)
 
   -- an update without a filter, of which the first ranges and the last keep their places
-  pub updated_between : (xs ms ys add : List (Ranged T)) → Rises (before rules) (xs ++ (ms ++ ys)) → AllForward xs → Rises (before rules) add → EndUnder (first_start add) xs → BeginPast (last_start add) ys
+  pub updated_between : (xs ms ys add : List (Ranged T)) → Rises (before rules) (xs ++ (ms ++ ys)) → Rises (before rules) add → BeginUnder (first_start add) xs → BeginPast (last_start add) ys
       → updated rules (λ _. true) (xs ++ (ms ++ ys)) add ≡ xs ++ (updated rules (λ _. true) ms add ++ ys)
-  updated_between xs ms ys add h f k u p =
+  updated_between xs ms ys add h k u p =
       let less = before rules in
       let order = before-order rules in
       let asc = rises_ascend rules add k in
       let others = rises_right rules xs (ms ++ ys) h in
       let rest = (ms ++ ys) ++ add in
-      let xs_below : Below rules xs rest = any_both rules xs (ms ++ ys) add (rises_across rules xs (ms ++ ys) h) (all_under xs add (first_start add) f u (begin_from 0 add asc)) in
+      let xs_below : Below rules xs rest = any_both rules xs (ms ++ ys) add (rises_across rules xs (ms ++ ys) h) (all_under xs add (first_start add) u (begin_from 0 add asc)) in
       let each = each_before add ys (last_start add) (begin_upto 0 add asc) p in
       let both : Below rules (ms ++ add) ys = below_append rules ms add ys (rises_across rules ms ys others) (none_after rules add ys each) in
       let swapped = sort-swapped rules ms add ys [] each in
@@ -181,7 +207,7 @@ module _ {T : Type 0} (rules : RangeRules T) where
     pub count : length (updated rules (λ _. true) (flat (spread ys)) add) ≡ length (flat (spread ys)) + length add
 
   pub add_parts : (gs xs ys zs : List (PlacedGroup T)) (add : List (Ranged T)) → HaveParts rules gs xs ys zs → first_fault rules add ≡ None → first_fault rules (updated rules (λ _. true) (flat (spread ys)) add) ≡ None
-      → EndUnder (first_start add) (flat (spread xs)) → BeginPast (last_start add) (flat (spread zs)) → AddParts gs xs ys zs add
+      → BeginUnder (first_start add) (flat (spread xs)) → BeginPast (last_start add) (flat (spread zs)) → AddParts gs xs ys zs add
   add_parts gs xs ys zs add h k n u p =
       let x = flat (spread xs) in
       let y = flat (spread ys) in
@@ -191,7 +217,7 @@ module _ {T : Type 0} (rules : RangeRules T) where
       let m = updated rules (λ _. true) y add in
       let first = flat_forward rules (spread xs) (are_spread rules xs h.first) in
       let last = flat_forward rules (spread zs) (are_spread rules zs h.third) in
-      let goes = ap (λ rs. updated rules (λ _. true) rs add) h.is ∙ updated_between x y z add h.rises first (rises-no_fault rules add k) u p in
+      let goes = ap (λ rs. updated rules (λ _. true) rs add) h.is ∙ updated_between x y z add h.rises (rises-no_fault rules add k) u p in
       let rises = subst (Rises less) goes (Rises-stable_sort less (before-order rules) (filter (λ _. true) (flat (spread gs)) ++ add)) in
       record {
         goes = goes;
@@ -199,3 +225,15 @@ module _ {T : Type 0} (rules : RangeRules T) where
         none = no_fault_from rules 0 None (x ++ (m ++ z)) rises tt (forward-append x (m ++ z) first (forward-append m z (forward-no_fault rules 0 None m n) last));
         count = length_updated y add;
       }
+
+  -- a list in order to which nothing is added
+  pub updated_none : (rs : List (Ranged T)) → first_fault rules rs ≡ None → updated rules (λ _. true) rs [] ≡ rs
+  updated_none rs h =
+      ap (stable_sort (before rules)) (append-nil (filter (λ _. true) rs) ∙ filter_all rs) ∙ stable_sort-risen (before rules) (before-order rules) rs (rises-no_fault rules rs h)
+
+pub no_ranges : {T : Type 0} (rs : List (Ranged T)) (n : ℕ) → (n == 0) ≡ true → n ≡ length rs → rs ≡ []
+no_ranges [] n h e = refl
+no_ranges (r ∷ rs) n h e = absurd (zero_only (length rs) n h e)
+  where
+    zero_only : (k n : ℕ) → (n == 0) ≡ true → n ≡ suc k → ⊥
+    zero_only k n h e = grind (arith, nat_tests)

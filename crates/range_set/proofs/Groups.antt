@@ -111,6 +111,7 @@ module _ {T : Type 0} (rules : RangeRules T) where
   -- a group at another place
   pub group_placed : (start at : ℕ) (group : Group T) → IsGroup rules start group → at + group.reach < 2 ^ 32 → IsGroup rules at group
   group_placed start at group h l = record {
+    few = h.few;
     chunks = h.chunks;
     first = h.first;
     count = h.count;
@@ -201,10 +202,10 @@ module _ {T : Type 0} (rules : RangeRules T) where
   abbrev pub counted_chunk : ℕ → Placed T → Placed T
   counted_chunk start p = record { start = p.start - start; chunk = p.chunk }
 
-  pub put_group : (start : ℕ) (before after : Group T) (p : Placed T) → IsGroup rules start before → IsChunk rules p.start p.chunk.value → 1 ≤ length p.chunk.value.ranges.items → start ≤ p.start
+  pub put_group : (start : ℕ) (before after : Group T) (p : Placed T) → IsGroup rules start before → IsChunk rules p.start p.chunk.value → 1 ≤ length p.chunk.value.ranges.items → length before.chunks.items < 64 → start ≤ p.start
       → (before.chunks.items ≡ [] → p.start ≡ start) → after.chunks.items ≡ before.chunks.items ++ counted_chunk start p ∷ [] → after.count ≡ before.count + length p.chunk.value.ranges.items
       → after.reach ≡ max before.reach (p.start - start + p.chunk.value.reach) → after.is_turned ≡ (before.is_turned || p.chunk.value.is_turned) → after.has_point ≡ (before.has_point || p.chunk.value.has_point) → IsGroup rules start after
-  put_group start before after p h chunk some l first items count reach turned points =
+  put_group start before after p h chunk some room l first items count reach turned points =
       let q : Placed T = counted_chunk start p in
       let old = flat before.chunks.items in
       let new = map (shift q.start) p.chunk.value.ranges.items in
@@ -214,6 +215,7 @@ module _ {T : Type 0} (rules : RangeRules T) where
       let long = ap length is ∙ length-append old new in
       let len = length_shifted rules q.start p.chunk.value.ranges.items in
       record {
+        few = rw items (let n = length-append before.chunks.items (q ∷ []) in omega (arith, n, room));
         chunks = rw items (AreChunks-push rules before.chunks.items q h.chunks (chunk_placed p.start q.start p.chunk.value chunk (let f = chunk.fits in omega (arith, f))) some);
         first = ap first_start is ∙ first-append old new (λ e.
             let k = first (flat_none before.chunks.items h.chunks e) in

@@ -92,8 +92,9 @@ module _ {T : Type 0} (rules : RangeRules T) where
   AreChunks [] = Unit {0}
   AreChunks (p ∷ ps) = (IsChunk p.start p.chunk.value × (1 ≤ length p.chunk.value.ranges.items)) × AreChunks ps
 
-  -- Chunks that count from the start of the first of their ranges, with what a group keeps of these.
+  -- Up to 64 chunks that count from the start of the first of their ranges, with what a group keeps of these.
   pub record IsGroup (start : ℕ) (group : Group T) : Type 0 where
+    pub few : length group.chunks.items ≤ 64
     pub chunks : AreChunks group.chunks.items
     pub first : first_start (flat group.chunks.items) ≡ 0
     pub count : group.count ≡ length (flat group.chunks.items)
@@ -112,19 +113,17 @@ module _ {T : Type 0} (rules : RangeRules T) where
     pub opened : AreChunks (map (move base) chunks)
     pub others : AreGroups groups
 
-  pub record AreSound (ps : List (Placed T)) (len : ℕ) : Type 0 where
-    pub chunks : AreChunks ps
-    pub count : len ≡ length (flat ps)
-
+  -- groups, and how many ranges they have
   pub record AreGroupsOf (gs : List (PlacedGroup T)) (len : ℕ) : Type 0 where
     pub groups : AreGroups gs
     pub count : len ≡ length (flat (spread gs))
 
+  -- what a builder of chunks keeps
   pub record IsBuilder (b : ChunkBuilder T) : Type 0 where
     pub chunks : AreChunks b.done.items
     pub growing : IsChunk b.start b.growing
-    pub len : b.len ≡ length (built b)
 
+  -- what a builder of groups keeps
   pub record IsGroupBuilder (b : GroupBuilder T) : Type 0 where
     pub groups : AreGroups b.done.items
     pub growing : IsGroup b.start b.growing
@@ -139,6 +138,7 @@ module _ {T : Type 0} (rules : RangeRules T) where
 abbrev pub group_affected : {T : Type 0} → Changes → PlacedGroup T → Bool
 group_affected d g = g.group.value.is_turned || list_any (meets g.start (g.start + g.group.value.reach)) (replaced d)
 
+-- groups that no change affects
 abbrev pub AreClear : {T : Type 0} → Changes → List (PlacedGroup T) → Type 0
 AreClear d [] = Unit {0}
 AreClear d (g ∷ gs) = (group_affected d g ≡ false) × AreClear d gs

@@ -6,10 +6,10 @@ use Rattle.range_set.specs.Order.{before}
 use Rattle.range_set.specs.declared.ranged.Ranged.{Ranged}
 
 module _ {T : Type 0} where
-  -- each range ends before a place
-  abbrev pub EndUnder : ℕ → List (Ranged T) → Type 0
-  EndUnder place [] = Unit {0}
-  EndUnder place (r ∷ rs) = (r.to < place) × EndUnder place rs
+  -- each range begins before a place
+  abbrev pub BeginUnder : ℕ → List (Ranged T) → Type 0
+  BeginUnder place [] = Unit {0}
+  BeginUnder place (r ∷ rs) = (r.from < place) × BeginUnder place rs
 
   -- each range begins after a place
   abbrev pub BeginPast : ℕ → List (Ranged T) → Type 0

@@ -9,8 +9,8 @@ use crate::range_ref::RangeRef;
 use crate::range_value::RangeValue;
 use std::marker::Model;
 
-/// The ranges of a set that overlap or touch a span, in order. Contracts see it as those that are left. Chunks whose hull ends
-/// before the span are passed over whole, and the first range that begins past the span is the end.
+/// The ranges of a set that overlap or touch a span, in order. Contracts see it as those that are left. Groups and chunks whose
+/// hull ends before the span are passed over whole, and the first range that begins past the span is the end.
 #[derive(Drop)]
 pub struct Between<'a, T: RangeValue> {
     ranges: Iter<'a, T>,

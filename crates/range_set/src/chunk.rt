@@ -9,9 +9,9 @@ use std::rc::Rc;
 /// The greatest number of ranges of a chunk.
 pub(crate) const MAX_RANGES: usize = 128;
 
-/// The greatest number of ranges of a small chunk. No run of more ranges is cut into small chunks, and an update joins a small one
-/// with what it touches beside it.
-pub(crate) const FEW: usize = 32;
+/// The greatest number of ranges of a small chunk. No run of more ranges is cut into small chunks, and an update copies a small one
+/// where a run that isn't done stands before it, or an added range follows by the end of the next chunk.
+pub(crate) const FEW_RANGES: usize = 32;
 
 /// Up to 128 ranges in order, whose places count from the start of the first.
 #[derive(Drop)]

@@ -1,7 +1,7 @@
 ghost use Rattle.std.specs.Prelude.{IfOk, false, [], ◌++◌, ◌+◌, ◌∷◌, ◌≡◌, ◌≤◌, ◌<◌, ◌^◌, length, map};
-ghost use Rattle.range_set.specs.PrivateChunks.{AreChunks, AreSound, BeginBy, IsBuilder, IsChunk, built, flat, shift};
+ghost use Rattle.range_set.specs.PrivateChunks.{AreChunks, BeginBy, IsBuilder, IsChunk, built, flat, shift};
 
-use crate::chunk::{Chunk, FEW, MAX_RANGES, Placed};
+use crate::chunk::{Chunk, FEW_RANGES, MAX_RANGES, Placed};
 use crate::range_value::RangeValue;
 use crate::ranged::Ranged;
 use std::alloc::{AllocError, Global};
@@ -14,7 +14,6 @@ pub(crate) struct ChunkBuilder<T> {
     pub(crate) done: Vec<Placed<T>>,
     pub(crate) start: u32,
     pub(crate) growing: Chunk<T>,
-    pub(crate) len: usize,
 }
 
 impl<T: RangeValue> ChunkBuilder<T> {
@@ -27,23 +26,19 @@ impl<T: RangeValue> ChunkBuilder<T> {
             done: Vec::new(alloc),
             start: 0,
             growing: Chunk::empty(alloc),
-            len: 0,
         }
     }
 
     /// Puts a range after the others, the first of `left` that are still to come of a run. `Err`: out of memory.
     pub(crate) fn push(&mut self, range: Ranged<T>, left: usize) -> Result<(), AllocError>
         requires builder { IsBuilder T.rules self.old }
-        requires room { length (built self.old) + 1 < 2 ^ 64 }
         requires after { BeginBy range.from (built self.old) }
         requires forward { range.from ≤ range.to }
         ensures builder { IfOk result (λ _. IsBuilder T.rules self.new) }
         ensures ranges { IfOk result (λ _. built self.new ≡ built self.old ++ range ∷ []) }
     {
         self.make_room(range.from, left)?;
-        self.growing.put(self.start, range)?;
-        self.len += 1;
-        Ok(())
+        self.growing.put(self.start, range)
     }
 
     /// Makes the growing chunk one that a range can be put into that begins at `from`, the first of `left` that are still to
@@ -71,28 +66,25 @@ impl<T: RangeValue> ChunkBuilder<T> {
         requires builder { IsBuilder T.rules self.old }
         requires chunk { IsChunk T.rules start chunk.now.value }
         requires some { 1 ≤ length chunk.now.value.ranges.items }
-        requires room { length (built self.old) + length chunk.now.value.ranges.items < 2 ^ 64 }
         ensures builder { IfOk result (λ _. IsBuilder T.rules self.new) }
         ensures ranges { IfOk result (λ _. built self.new ≡ built self.old ++ map (shift start) chunk.now.value.ranges.items) }
     {
         seal(&mut self.done, self.start, &mut self.growing)?;
-        let count = chunk.ranges.len();
         self.done.push(Placed {
             start,
             chunk: chunk.clone()?,
         })?;
-        self.len += count;
         Ok(())
     }
 
-    /// The chunks of all ranges, and how many ranges there are. `Err`: out of memory.
-    pub(crate) fn finish(mut self) -> Result<(Vec<Placed<T>>, usize), AllocError>
+    /// The chunks of all ranges. `Err`: out of memory.
+    pub(crate) fn finish(mut self) -> Result<Vec<Placed<T>>, AllocError>
         requires { IsBuilder T.rules self }
-        ensures chunks { IfOk result (λ made. AreSound T.rules made.0.items made.1) }
-        ensures ranges { IfOk result (λ made. flat made.0.items ≡ built self) }
+        ensures chunks { IfOk result (λ made. AreChunks T.rules made.items) }
+        ensures ranges { IfOk result (λ made. flat made.items ≡ built self) }
     {
         seal(&mut self.done, self.start, &mut self.growing)?;
-        Ok((self.done, self.len))
+        Ok(self.done)
     }
 }
 
@@ -102,7 +94,8 @@ fn is_full(len: usize, left: usize) -> bool
     requires { len ≤ 128 }
     ensures { result ≡ false → len < 128 }
 {
-    len == MAX_RANGES || (left <= len && len + left > MAX_RANGES && len + left <= MAX_RANGES + FEW)
+    len == MAX_RANGES
+        || (left <= len && len + left > MAX_RANGES && len + left <= MAX_RANGES + FEW_RANGES)
 }
 
 /// Ends the growing chunk, if it has ranges, and begins one without ranges. `Err`: out of memory.

@@ -67,7 +67,7 @@ impl<'a, T: RangeValue> ChunkIter<'a, T> {
     }
 
     /// Passes over chunks and groups that come next and whose hull ends before a place.
-    pub(crate) fn pass_hulls(&mut self, place: u32)
+    pub(crate) fn pass_chunks(&mut self, place: u32)
         ensures kept { (to : ℕ) → filter (overlaps place to) (flat self.new) ≡ filter (overlaps place to) (flat self.old) }
         ensures order { (n : ℕ) → Ascend n (flat self.old) → Ascend n (flat self.new) }
         ensures fewer { length (flat self.new) ≤ length (flat self.old) }

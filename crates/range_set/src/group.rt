@@ -1,4 +1,4 @@
-ghost use Rattle.std.specs.Prelude.{IfOk, [], map, ◌++◌, ◌∷◌, ◌+◌, ◌≡◌, ◌≤◌, ◌<◌, ◌^◌, length};
+ghost use Rattle.std.specs.Prelude.{IfOk, [], drop, map, take, ◌++◌, ◌∷◌, ◌+◌, ◌≡◌, ◌≤◌, ◌<◌, ◌^◌, length};
 ghost use Rattle.range_set.specs.PrivateChunks.{IsChunk, IsGroup, flat, move};
 
 use crate::chunk::Placed;
@@ -54,6 +54,7 @@ impl<T: RangeValue> Group<T> {
         requires chunk { IsChunk T.rules placed.start placed.chunk.value }
         requires some { 1 ≤ length placed.chunk.value.ranges.items }
         requires room { length (flat self.old.chunks.items) + length placed.chunk.value.ranges.items < 2 ^ 64 }
+        requires few { length self.old.chunks.items < 64 }
         requires after { start ≤ placed.start }
         requires first { self.old.chunks.items ≡ [] → placed.start ≡ start }
         ensures group { IfOk result (λ _. IsGroup T.rules start self.new) }
@@ -74,4 +75,21 @@ impl<T: RangeValue> Group<T> {
         self.has_point = self.has_point || has_point;
         Ok(())
     }
+}
+
+/// Groups in three parts: those before the place `first` of the list, those before `last`, and the others.
+pub(crate) fn in_three<T: RangeValue>(
+    groups: &[PlacedGroup<T>],
+    first: usize,
+    last: usize,
+) -> (&[PlacedGroup<T>], &[PlacedGroup<T>], &[PlacedGroup<T>])
+    requires order { first ≤ last }
+    requires inside { last ≤ length groups.now }
+    ensures parts { groups.now ≡ result.0.now ++ (result.1.now ++ result.2.now) }
+    ensures before { result.0.now ≡ take first groups.now }
+    ensures after { result.2.now ≡ drop last groups.now }
+{
+    let (before, rest) = groups.split_at(first);
+    let (middle, after) = rest.split_at(last - first);
+    (before, middle, after)
 }

@@ -1,4 +1,4 @@
-ghost use Rattle.std.specs.Prelude.{IfOk, [], ◌++◌, ◌∷◌, ◌+◌, ◌≡◌, ◌≤◌, ◌<◌, ◌^◌, length, map};
+ghost use Rattle.std.specs.Prelude.{IfOk, false, [], ◌++◌, ◌∷◌, ◌+◌, ◌≡◌, ◌≤◌, ◌<◌, ◌^◌, length, map};
 ghost use Rattle.range_set.specs.PrivateChunks.{AreChunks, AreGroups, AreGroupsOf, Ascend, BeginBy, IsChunk, IsGroup, IsGroupBuilder, flat, grouped, move, spread};
 
 use crate::chunk::Placed;
@@ -72,6 +72,7 @@ impl<T: RangeValue> GroupBuilder<T> {
         requires after { BeginBy from (flat (grouped self.old)) }
         ensures builder { IfOk result (λ _. IsGroupBuilder T.rules self.new) }
         ensures ranges { IfOk result (λ _. grouped self.new ≡ grouped self.old) }
+        ensures few { IfOk result (λ _. length self.new.growing.chunks.items < 64) }
         ensures after { IfOk result (λ _. self.new.start ≤ from) }
         ensures first { IfOk result (λ _. self.new.growing.chunks.items ≡ [] → from ≡ self.new.start) }
     {
@@ -129,12 +130,13 @@ impl<T: RangeValue> GroupBuilder<T> {
 }
 
 /// Whether a group of `len` chunks grows no more, where `left` are still to come of its run: it has the most that a group may
-/// have, or half of those that would make one such group and a small one. No contract speaks of this.
-fn is_full(len: usize, left: usize) -> bool {
-    len >= MAX_CHUNKS
-        || (left <= len
-            && len.saturating_add(left) > MAX_CHUNKS
-            && len.saturating_add(left) <= MAX_CHUNKS + FEW_CHUNKS)
+/// have, or half of those that would make one such group and a small one.
+fn is_full(len: usize, left: usize) -> bool
+    requires { len ≤ 64 }
+    ensures { result ≡ false → len < 64 }
+{
+    len == MAX_CHUNKS
+        || (left <= len && len + left > MAX_CHUNKS && len + left <= MAX_CHUNKS + FEW_CHUNKS)
 }
 
 /// Ends the growing group, if it has chunks, and begins one without chunks. `Err`: out of memory.

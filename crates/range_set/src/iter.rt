@@ -54,7 +54,7 @@ impl<'a, T: RangeValue> Iter<'a, T> {
         ensures fewer { length self.new ≤ length self.old }
     {
         if self.rest.is_empty() {
-            self.others.pass_hulls(place);
+            self.others.pass_chunks(place);
         }
     }
 

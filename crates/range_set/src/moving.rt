@@ -7,12 +7,12 @@ ghost use Rattle.change_desc.specs.Sections.{new_size, counted, old_size};
 ghost use Rattle.range_set.specs.declared.ranged.Ranged.{Ranged};
 ghost use Rattle.range_set.specs.Mapping.{EndWithin, map_ranges, moved, most_mapped};
 ghost use Rattle.range_set.specs.Order.{AllForward, before, first_fault};
-ghost use Rattle.range_set.specs.PrivateChunks.{AreChunks, AreClear, AreGroups, AreGroupsOf, AreSound, Ascend, Fit, IsBuilder, IsChunk, IsGroup, IsGroupBuilder, built, flat, grouped, shift, spread};
+ghost use Rattle.range_set.specs.PrivateChunks.{AreChunks, AreClear, AreGroups, AreGroupsOf, Ascend, Fit, IsBuilder, IsChunk, IsGroup, IsGroupBuilder, built, flat, grouped, shift, spread};
 ghost use Rattle.stable_order.specs.StableSort.{stable_sort};
 
 use crate::chunk::{Chunk, Placed};
 use crate::chunk_builder::ChunkBuilder;
-use crate::group::PlacedGroup;
+use crate::group::{PlacedGroup, in_three};
 use crate::group_builder::GroupBuilder;
 use crate::opening::opened;
 use crate::range_ref::RangeRef;
@@ -25,8 +25,8 @@ use std::mem;
 use std::sync::ledger::Ledger;
 use steps::Steps;
 
-/// The groups of a set after changes, and how many ranges they have. Those before the first and after the last that a change meets
-/// are moved and shared; the chunks of the others are mapped. `Err`: out of memory.
+/// The groups of a set after changes, and how many ranges they have. Those before the first and after the last that the changes
+/// affect are moved and shared; the chunks of the others are mapped. `Err`: out of memory.
 pub(crate) fn mapped_groups<T: RangeValue, L: Ledger>(
     alloc: Global,
     groups: &[PlacedGroup<T>],
@@ -45,11 +45,11 @@ pub(crate) fn mapped_groups<T: RangeValue, L: Ledger>(
     let index = PositionIndex::new(alloc, changes)?;
     let (before, middle, after) = parted(groups, changes, &ranges);
     let chunks = opened(alloc, middle)?;
-    let (chunks, _) = map_chunks(alloc, &chunks, changes, &ranges, &index, mapped)?;
+    let chunks = map_chunks(alloc, &chunks, changes, &ranges, &index, mapped)?;
     joined(alloc, before, chunks, after, changes)
 }
 
-/// Groups that no change meets, moved and shared, with chunks between them, and how many ranges there are. `Err`: out of memory.
+/// Groups that changes don't affect, moved and shared, with chunks between them, and how many ranges there are. `Err`: out of memory.
 fn joined<T: RangeValue>(
     alloc: Global,
     before: &[PlacedGroup<T>],
@@ -78,7 +78,7 @@ fn joined<T: RangeValue>(
     builder.finish()
 }
 
-/// Puts groups that no change meets, moved and shared, after those of a builder. `Err`: out of memory.
+/// Puts groups that changes don't affect, moved and shared, after those of a builder. `Err`: out of memory.
 fn share_moved<T: RangeValue>(
     groups: &[PlacedGroup<T>],
     changes: &Desc,
@@ -106,7 +106,7 @@ fn share_moved<T: RangeValue>(
     Ok(())
 }
 
-/// Groups in three parts, of which those before and after the second are met by no change.
+/// Groups in three parts, of which changes affect none before and after the second.
 fn parted<'a, T: RangeValue>(
     groups: &'a [PlacedGroup<T>],
     changes: &Desc,
@@ -123,14 +123,12 @@ fn parted<'a, T: RangeValue>(
     ensures before { AreClear changes.now result.0.now }
     ensures after { AreClear changes.now result.2.now }
 {
-    let (first, last) = met(groups, changes, ranges);
-    let (before, rest) = groups.split_at(first);
-    let (middle, after) = rest.split_at(last - first);
-    (before, middle, after)
+    let (first, last) = affected(groups, changes, ranges);
+    in_three(groups, first, last)
 }
 
-/// How many groups stand before the first that a change meets, and up to the last one; as many as there are, where none is met.
-fn met<T: RangeValue>(
+/// How many groups stand before the first that changes affect, and up to the last one; both 0 where none is affected.
+fn affected<T: RangeValue>(
     groups: &[PlacedGroup<T>],
     changes: &Desc,
     ranges: &[ChangedRange],
@@ -169,7 +167,7 @@ fn is_group_affected<T: RangeValue>(placed: &PlacedGroup<T>, replaced: &[Changed
     placed.group.is_turned || first_meets(replaced, placed.start, placed.start + placed.group.reach)
 }
 
-/// The chunks of a set after changes, and how many ranges they have, where the replaced ranges and an index of the changes are given. A
+/// The chunks of a set after changes, where the replaced ranges and an index of the changes are given. A
 /// chunk whose hull meets no Replace, and in which no empty range has an end side less than its start side, is shared; the ranges
 /// of the others are mapped each by itself, which raises `mapped` by one. The ranges between two chunks that are shared are sorted
 /// by themselves, since a shared chunk parts those before it from those after it. `Err`: out of memory.
@@ -180,15 +178,14 @@ fn map_chunks<T: RangeValue, L: Ledger>(
     ranges: &[ChangedRange],
     index: &PositionIndex,
     mapped: &mut Steps<L>,
-) -> Result<(Vec<Placed<T>>, usize), AllocError>
+) -> Result<Vec<Placed<T>>, AllocError>
     requires replaced { ranges.now ≡ replaced changes.now }
     requires index { index.now ≡ changes.now }
     requires chunks { AreChunks T.rules chunks.now }
     requires order { first_fault T.rules (flat chunks.now) ≡ None }
-    requires room { length (flat chunks.now) < 2 ^ 64 }
     requires inside { EndWithin (old_size changes.now) (flat chunks.now) }
-    ensures chunks { IfOk result (λ made. AreSound T.rules made.0.items made.1) }
-    ensures ranges { IfOk result (λ made. flat made.0.items ≡ map_ranges T.rules changes.now (flat chunks.now)) }
+    ensures chunks { IfOk result (λ made. AreChunks T.rules made.items) }
+    ensures ranges { IfOk result (λ made. flat made.items ≡ map_ranges T.rules changes.now (flat chunks.now)) }
     ensures cost { mapped.new ≤ mapped.old + most_mapped T.rules changes.now (flat chunks.now) }
 {
     // The proof takes from this line that lengths of the new document fit u32.
@@ -261,7 +258,6 @@ pub(crate) fn put_sorted<T: RangeValue>(
     builder: &mut ChunkBuilder<T>,
 ) -> Result<(), AllocError>
     requires builder { IsBuilder T.rules builder.old }
-    requires room { length (built builder.old) + length run.old.items < 2 ^ 64 }
     requires order { Ascend 0 (built builder.old ++ stable_sort (before T.rules) run.old.items) }
     requires forward { AllForward run.old.items }
     ensures builder { IfOk result (λ _. IsBuilder T.rules builder.new) }
@@ -283,7 +279,6 @@ pub(crate) fn put_all<T: RangeValue>(
     builder: &mut ChunkBuilder<T>,
 ) -> Result<(), AllocError>
     requires builder { IsBuilder T.rules builder.old }
-    requires room { length (built builder.old) + length ranges.items < 2 ^ 64 }
     requires order { Ascend 0 (built builder.old ++ ranges.items) }
     requires forward { AllForward ranges.items }
     ensures builder { IfOk result (λ _. IsBuilder T.rules builder.new) }

@@ -1,6 +1,5 @@
-ghost use Rattle.std.specs.Prelude.{IfOk, ◌≡◌, ◌++◌};
+ghost use Rattle.std.specs.Prelude.{IfOk, map, ◌≡◌, ◌++◌};
 ghost use Rattle.range_set.specs.PrivateChunks.{AreChunks, AreGroups, IsGroup, flat, shift, spread};
-ghost use Rattle.std.specs.Prelude.{map};
 
 use crate::chunk::Placed;
 use crate::group::PlacedGroup;

@@ -147,42 +147,46 @@ impl<T: RangeValue> RangeSet<T> {
         ensures in_order { IfOk result (λ s. first_fault T.rules add.items ≡ None) }
         ensures refused { IfErr result (λ e. e ≢ RangeError.NoMemory → first_fault T.rules add.items ≡ Some e) }
     {
-        match fault_in(add.as_slice()) {
-            Some(fault) => return Err(fault),
-            None => {}
-        }
-        // As many ranges as this can't be counted, so they find no room.
-        match self.len.checked_add(add.len()) {
-            Some(_) => {}
-            None => return Err(RangeError::NoMemory),
-        }
+        self.check_added(add.as_slice())?;
         let alloc = *self.groups.allocator();
         let chunks = opened(alloc, self.groups.as_slice())?;
-        let (chunks, _) = updated_chunks(alloc, chunks.as_slice(), add, &keep)?;
-        let (groups, len) = grouped(alloc, chunks)?;
+        let chunks = updated_chunks(alloc, chunks.as_slice(), add, &keep)?;
+        let (groups, len) = in_groups(alloc, chunks)?;
         Ok(RangeSet { groups, len })
     }
 
-    /// The ranges and those of `add`, the old ones first where they tie (RangeSet.update without a filter). Groups whose hull
-    /// ends before the first range of `add` begins, or begins after the last one does, are shared, and not looked at further.
-    /// `Err`: the first range of `add` that ends before it starts or belongs before the one before it; or out of memory.
-    pub fn with_ranges(&self, add: Vec<Ranged<T>>) -> Result<RangeSet<T>, RangeError>
+    /// The ranges and those of `add`, the old ones first where they tie (RangeSet.update without a filter). Groups of which each
+    /// range begins before the first of `add`, or after the last one, are shared and not looked at further, but for one that
+    /// what is added joins. `Err`: the first range of `add` that ends before it starts or belongs before the one before it; or out of memory.
+    pub fn with_added(&self, add: Vec<Ranged<T>>) -> Result<RangeSet<T>, RangeError>
         ensures set { IfOk result (λ s. s ≡ updated T.rules (λ _. true) self.now add.items) }
         ensures in_order { IfOk result (λ s. first_fault T.rules add.items ≡ None) }
         ensures refused { IfErr result (λ e. e ≢ RangeError.NoMemory → first_fault T.rules add.items ≡ Some e) }
     {
-        match fault_in(add.as_slice()) {
-            Some(fault) => return Err(fault),
-            None => {}
-        }
-        // As many ranges as this can't be counted, so they find no room.
-        match self.len.checked_add(add.len()) {
-            Some(_) => {}
-            None => return Err(RangeError::NoMemory),
+        self.check_added(add.as_slice())?;
+        if add.is_empty() {
+            // The proof takes from this line that the ranges stand in order.
+            self.known();
+            return Ok(self.try_copy()?);
         }
         let alloc = *self.groups.allocator();
         let (groups, len) = added_groups(alloc, self.groups.as_slice(), add)?;
         Ok(RangeSet { groups, len })
+    }
+
+    /// Whether ranges can be added: `Err` with their first fault, or where as many can't be counted, so that they find no room.
+    fn check_added(&self, add: &[Ranged<T>]) -> Result<(), RangeError>
+        ensures in_order { IfOk result (λ _. first_fault T.rules add.now ≡ None) }
+        ensures room { IfOk result (λ _. length self.now + length add.now < 2 ^ 64) }
+        ensures refused { IfErr result (λ e. e ≢ RangeError.NoMemory → first_fault T.rules add.now ≡ Some e) }
+    {
+        match fault_in(add) {
+            Some(fault) => Err(fault),
+            None => match self.len.checked_add(add.len()) {
+                Some(_) => Ok(()),
+                None => Err(RangeError::NoMemory),
+            },
+        }
     }
 
     /// Whether each range lies in a document of `len` characters.
@@ -203,8 +207,8 @@ impl<T: RangeValue> RangeSet<T> {
     }
 
     /// What `map` gives. A chunk whose hull meets no Replace, and in which no empty range has an end side less than its start
-    /// side, is only moved, and shared; so is a group, before the first group or after the last of which that does not hold.
-    /// Each other range is mapped by itself, which raises `mapped` by one; the values of these alone are copied. `Err`: out
+    /// side, is only moved, and shared. Groups before the first and after the last for which this fails are moved whole. Each
+    /// other range is mapped by itself, which raises `mapped` by one; the values of these alone are copied. `Err`: out
     /// of memory.
     pub fn map_steps<L: Ledger>(
         &self,
@@ -251,13 +255,13 @@ fn set_of<T: RangeValue>(ranges: Vec<Ranged<T>>) -> Result<RangeSet<T>, AllocErr
     let alloc = *ranges.allocator();
     let mut builder = ChunkBuilder::new(alloc);
     put_all(ranges, &mut builder)?;
-    let (chunks, _) = builder.finish()?;
-    let (groups, len) = grouped(alloc, chunks)?;
+    let chunks = builder.finish()?;
+    let (groups, len) = in_groups(alloc, chunks)?;
     Ok(RangeSet { groups, len })
 }
 
 /// Groups of chunks whose ranges stand in order, and how many ranges they have. `Err`: out of memory.
-fn grouped<T: RangeValue>(
+fn in_groups<T: RangeValue>(
     alloc: Global,
     chunks: Vec<Placed<T>>,
 ) -> Result<(Vec<PlacedGroup<T>>, usize), AllocError>

@@ -1,12 +1,12 @@
-ghost use Rattle.std.specs.Prelude.{IfOk, IsTrue, None, true, [], All, drop, filter, length, map, take, ◌++◌, ◌+◌, ◌<◌, ◌≤◌, ◌^◌, ◌≡◌};
+ghost use Rattle.std.specs.Prelude.{IfOk, IsTrue, None, true, [], All, drop, filter, length, map, take, ◌++◌, ◌+◌, ◌-◌, ◌<◌, ◌≤◌, ◌^◌, ◌≡◌};
 ghost use Rattle.range_set.specs.Order.{AllForward, before, first_fault};
-ghost use Rattle.range_set.specs.PrivateChunks.{AreChunks, AreGroups, AreGroupsOf, AreSound, Ascend, IsChunk, first_start, flat, shift, spread};
-ghost use Rattle.range_set.specs.PrivateUpdates.{BeginPast, EndUnder, IsBeyond, KeepsPart, TakesBefore, last_start};
+ghost use Rattle.range_set.specs.PrivateChunks.{AreChunks, AreGroups, AreGroupsOf, Ascend, IsChunk, first_start, flat, shift, spread};
+ghost use Rattle.range_set.specs.PrivateUpdates.{BeginPast, BeginUnder, IsBeyond, KeepsPart, TakesBefore, last_start};
 ghost use Rattle.range_set.specs.Updating.{AnswersAs, updated};
 
-use crate::chunk::{FEW, MAX_RANGES, Placed};
+use crate::chunk::{FEW_RANGES, MAX_RANGES, Placed};
 use crate::chunk_builder::ChunkBuilder;
-use crate::group::PlacedGroup;
+use crate::group::{PlacedGroup, in_three};
 use crate::group_builder::GroupBuilder;
 use crate::moving::put_sorted;
 use crate::opening::opened;
@@ -16,8 +16,9 @@ use crate::ranged::Ranged;
 use std::alloc::{AllocError, Global};
 use std::collections::VecDeque;
 
-/// The groups of the ranges of others and of added ones, which stand in order, and how many ranges they have. Groups whose hull
-/// ends before the first added range begins, or begins after the last one does, are shared. `Err`: out of memory.
+/// The groups of the ranges of others and of added ones, which stand in order, and how many ranges they have. Groups all of whose
+/// ranges begin before the first added one, or after the last one, are shared, but for one that what is added joins. `Err`: out of
+/// memory.
 pub(crate) fn added_groups<T: RangeValue>(
     alloc: Global,
     groups: &[PlacedGroup<T>],
@@ -26,12 +27,13 @@ pub(crate) fn added_groups<T: RangeValue>(
     requires groups { AreGroups T.rules groups.now }
     requires order { first_fault T.rules (flat (spread groups.now)) ≡ None }
     requires added { first_fault T.rules add.items ≡ None }
+    requires some { 1 ≤ length add.items }
     requires room { length (flat (spread groups.now)) + length add.items < 2 ^ 64 }
     ensures groups { IfOk result (λ made. AreGroupsOf T.rules made.0.items made.1) }
     ensures order { IfOk result (λ made. first_fault T.rules (flat (spread made.0.items)) ≡ None) }
     ensures ranges { IfOk result (λ made. flat (spread made.0.items) ≡ updated T.rules (λ _. true) (flat (spread groups.now)) add.items) }
 {
-    let (before, middle, after) = apart(groups, add.as_slice());
+    let (before, middle, after) = parted_around(groups, add.as_slice());
     let chunks = opened(alloc, middle)?;
     let chunks = with_all(alloc, chunks.as_slice(), add)?;
     let mut builder = GroupBuilder::new(alloc);
@@ -41,9 +43,9 @@ pub(crate) fn added_groups<T: RangeValue>(
     builder.finish()
 }
 
-/// Groups in three parts: the ranges of the first end before any of added ones, which stand in order, begins, and those of the last
-/// begin after each does. The second has a group where there is one.
-fn apart<'a, T: RangeValue>(
+/// Groups in three parts: the ranges of the first begin before any of added ones, which stand in order, and those of the last begin
+/// after each does. The second has a group where there is one, so that what is added joins it.
+fn parted_around<'a, T: RangeValue>(
     groups: &'a [PlacedGroup<T>],
     add: &[Ranged<T>],
 ) -> (
@@ -53,28 +55,31 @@ fn apart<'a, T: RangeValue>(
 )
     requires groups { AreGroups T.rules groups.now }
     requires ascend { Ascend 0 (flat (spread groups.now)) }
+    requires some { 1 ≤ length add.now }
     ensures parts { groups.now ≡ result.0.now ++ (result.1.now ++ result.2.now) }
-    ensures before { EndUnder (first_start add.now) (flat (spread result.0.now)) }
+    ensures before { BeginUnder (first_start add.now) (flat (spread result.0.now)) }
     ensures after { BeginPast (last_start add.now) (flat (spread result.2.now)) }
 {
     let (Some(first), Some(last)) = (add.first(), add.last()) else {
-        return (&[], groups, &[]);
+        unreachable!()
     };
     let begun = begun_by(groups, last.from).max(1).min(groups.len());
-    let ended = ended_before(groups, first.from).min(begun.saturating_sub(1));
-    let (before, rest) = groups.split_at(ended);
-    let (middle, after) = rest.split_at(begun - ended);
-    (before, middle, after)
+    let passed = begun_before(groups, first.from)
+        .min(begun)
+        .saturating_sub(1);
+    in_three(groups, passed, begun)
 }
 
-/// How many groups there are before the first whose hull doesn't end before a place.
-fn ended_before<T: RangeValue>(groups: &[PlacedGroup<T>], place: u32) -> usize
+/// How many groups there are before the first that doesn't begin before a place. The ranges of all but the last of them begin before
+/// it too.
+fn begun_before<T: RangeValue>(groups: &[PlacedGroup<T>], place: u32) -> usize
     requires groups { AreGroups T.rules groups.now }
+    requires ascend { Ascend 0 (flat (spread groups.now)) }
     ensures inside { result ≤ length groups.now }
-    ensures before { EndUnder place (flat (spread (take result groups.now))) }
+    ensures before { BeginUnder place (flat (spread (take (result - 1) groups.now))) }
 {
     for (index, placed) in groups.iter().enumerate() {
-        if place <= placed.start + placed.group.reach {
+        if place <= placed.start {
             return index;
         }
     }
@@ -105,16 +110,14 @@ fn with_all<T: RangeValue>(
     requires chunks { AreChunks T.rules chunks.now }
     requires order { first_fault T.rules (flat chunks.now) ≡ None }
     requires added { first_fault T.rules add.items ≡ None }
-    requires room { length (flat chunks.now) + length add.items < 2 ^ 64 }
     ensures chunks { IfOk result (λ made. AreChunks T.rules made.items) }
     ensures order { IfOk result (λ made. first_fault T.rules (flat made.items) ≡ None) }
     ensures ranges { IfOk result (λ made. flat made.items ≡ updated T.rules (λ _. true) (flat chunks.now) add.items) }
 {
-    let (made, _) = updated_chunks(alloc, chunks, add, &|_range: &RangeRef<'_, T>| true)?;
-    Ok(made)
+    updated_chunks(alloc, chunks, add, &|_range: &RangeRef<'_, T>| true)
 }
 
-/// The chunks of the ranges of others that a test allows and of added ones, which stand in order, and how many ranges they have.
+/// The chunks of the ranges of others that a test allows and of added ones, which stand in order.
 /// A chunk whose ranges all stay, and among which no added one belongs, is shared, unless it is a small one that `is_joined` names;
 /// of the others the ranges that stay are copied. `Err`: out of memory.
 pub(crate) fn updated_chunks<T: RangeValue, F: Fn(&RangeRef<'_, T>) -> bool>(
@@ -122,15 +125,15 @@ pub(crate) fn updated_chunks<T: RangeValue, F: Fn(&RangeRef<'_, T>) -> bool>(
     chunks: &[Placed<T>],
     add: Vec<Ranged<T>>,
     keep: &F,
-) -> Result<(Vec<Placed<T>>, usize), AllocError>
+) -> Result<Vec<Placed<T>>, AllocError>
     requires callable { F.IsAlwaysCallable keep.now }
     requires chunks { AreChunks T.rules chunks.now }
     requires order { first_fault T.rules (flat chunks.now) ≡ None }
     requires added { first_fault T.rules add.items ≡ None }
-    requires room { length (flat chunks.now) + length add.items < 2 ^ 64 }
-    ensures chunks { IfOk result (λ made. AreSound T.rules made.0.items made.1) }
-    ensures order { IfOk result (λ made. first_fault T.rules (flat made.0.items) ≡ None) }
-    ensures ranges { IfOk result (λ made. (p : _) → AnswersAs F.Fn keep.now p → flat made.0.items ≡ updated T.rules p (flat chunks.now) add.items) }
+    ensures chunks { IfOk result (λ made. AreChunks T.rules made.items) }
+    ensures order { IfOk result (λ made. first_fault T.rules (flat made.items) ≡ None) }
+    ensures few { IfOk result (λ made. length (flat made.items) ≤ length (flat chunks.now) + length add.items) }
+    ensures ranges { IfOk result (λ made. (p : _) → AnswersAs F.Fn keep.now p → flat made.items ≡ updated T.rules p (flat chunks.now) add.items) }
 {
     let mut added = VecDeque::from_vec(add);
     let mut builder = ChunkBuilder::new(alloc);
@@ -207,7 +210,7 @@ fn is_joined<T: RangeValue>(
     next: Option<&Placed<T>>,
 ) -> bool {
     let is_open = !run.is_empty() && run.len() < MAX_RANGES;
-    placed.chunk.ranges.len() <= FEW && (is_open || is_within_next(added, next))
+    placed.chunk.ranges.len() <= FEW_RANGES && (is_open || is_within_next(added, next))
 }
 
 /// Whether there is an added range, and it begins by the end of the next chunk or there is none.

@@ -139,7 +139,7 @@ fn with_range(alloc: Global, set: &DecoSet, range: Ranged<Deco>) -> Result<DecoS
 {
     let mut ranges = Vec::new(alloc);
     ranges.push(range)?;
-    match set.with_ranges(ranges) {
+    match set.with_added(ranges) {
         Ok(more) => Ok(more),
         Err(RangeError::NoMemory) => Err(AllocError),
         Err(_) => unreachable!(),

@@ -1,5 +1,4 @@
-use Rattle.std.proofs.Common.{◌≡◌, ◌+◌, [], ◌∷◌, ◌++◌, length, drop, map, filter_map, true, false, ap, subst, sym, ◌∙◌, arith}
-use Rattle.std.proofs.lemmas.List.{length-append}
+use Rattle.std.proofs.Common.{◌≡◌, ◌+◌, [], ◌∷◌, ◌++◌, drop, map, filter_map, true, false, ap, subst, sym, ◌∙◌, arith}
 use Rattle.std.proofs.lemmas.Result.{IfOk-weaker}
 use Rattle.std.specs.Prelude.{unwrap_or}
 use Rattle.change_desc.specs.Meeting.{BeginAfter}
@@ -9,11 +8,10 @@ use Rattle.change_desc.specs.Walker.{Walk}
 use Rattle.change_desc.specs.declared.map_mode.MapMode.TheVariants.{Simple}
 use Rattle.change_desc.proofs.RangesMet.{replaced-begin}
 use Rattle.stable_order.specs.StableSort.{stable_sort}
-use Rattle.stable_order.proofs.StableSort.{length-stable_sort}
 use Rattle.range_set.specs.Order.{before}
 use Rattle.range_set.specs.Mapping.{map_ranges, moved}
 use Rattle.range_set.specs.PrivateChunks.{built, flat, shift}
-use Rattle.range_set.proofs.Chunks.{ascend-prefix, length_shifted}
+use Rattle.range_set.proofs.Chunks.{ascend-prefix}
 use Rattle.range_set.proofs.Clear.{Sections, clear_place, map_pos-clear}
 use Rattle.range_set.proofs.Cost.{allowed}
 use Rattle.range_set.proofs.Each.{Within, end_within, within}
@@ -219,30 +217,6 @@ share-requires-clause-chunk g c =
       fits = omega (arith, start, fits, bound, size);
     }
 
-pub share-requires-clause-room : goal.share-requires-clause-room
-share-requires-clause-room g c =
-    let rules = g.T.RangeValue.rules in
-    let d = c.args.changes.now in
-    let ps = c.args.chunks.now in
-    let p = c.placed-item.result in
-    let i = c.loop-placed.placed-index in
-    let rest = drop (i + 1) ps in
-    let done = built c.loop-placed.builder in
-    let run = c.loop-placed.run.items in
-    let reached = c.loop-placed.walker.reached in
-    let reps = c.loop-placed.replaced.now in
-    let ranges = map (shift p.start) p.chunk.value.ranges.items in
-    let kept = c.loop-placed.invariant in
-    let here = at_chunk rules d (flat ps) ps i p done run reached reps c.loop-placed-test.true c.placed-item.is kept.walked in
-    let order = before rules in
-    let all = here.under.room in
-    let n = ap length c.in_ok-put_sorted.ensures.ranges ∙ length-append done (stable_sort order run) in
-    let m = length-stable_sort order run in
-    let k = length-append ranges (flat rest) in
-    let l = length_shifted rules p.start p.chunk.value.ranges.items in
-    let most = c.requires.room in
-    omega (arith, all, n, m, k, l, most)
-
 pub returns-in_err-share-clause-cost : goal.returns-in_err-share-clause-cost
 returns-in_err-share-clause-cost g c =
     let rules = g.T.RangeValue.rules in
@@ -341,7 +315,7 @@ returns-clause-ranges g c =
     let run = c.loop-placed.run.items in
     let under = at_end rules d (flat ps) ps c.loop-placed.placed-index done run c.loop-placed.walker.reached c.loop-placed.replaced.now c.loop-placed-test.false c.loop-placed.invariant.walked in
     let sorted = c.in_ok-put_sorted-2.ensures.ranges ∙ sym (under_end rules d (flat ps) done run under) in
-    IfOk-weaker c.finish.result (λ made. flat made.0.items ≡ built c.put_sorted-2.new.builder) (λ made. flat made.0.items ≡ map_ranges rules d (flat ps)) (λ made e. e ∙ sorted) c.finish.ensures.ranges
+    IfOk-weaker c.finish.result (λ made. flat made.items ≡ built c.put_sorted-2.new.builder) (λ made. flat made.items ≡ map_ranges rules d (flat ps)) (λ made e. e ∙ sorted) c.finish.ensures.ranges
 
 pub returns-clause-cost : goal.returns-clause-cost
 returns-clause-cost g c =

@@ -27,16 +27,6 @@ map_chunks-requires-clause-order g c =
     let same = ap (λ (ps : List (Placed g.row.T.Denot)). flat ps) c.deref-2.ensures.value ∙ c.in_ok-chunks.ensures.ranges in
     ap (first_fault rules) same ∙ parts.order
 
-pub map_chunks-requires-clause-room : goal.map_chunks-requires-clause-room
-map_chunks-requires-clause-room g c =
-    let rules = g.T.RangeValue.rules in
-    let parts = have_parts rules c.args.groups.now c.parted.result.0.now c.parted.result.1.now c.parted.result.2.now c.parted.ensures.parts c.requires.groups c.requires.order in
-    let same = ap (λ (ps : List (Placed g.row.T.Denot)). flat ps) c.deref-2.ensures.value ∙ c.in_ok-chunks.ensures.ranges in
-    let n = ap length same in
-    let m = parts.room in
-    let l = c.requires.room in
-    omega (arith, n, m, l)
-
 pub map_chunks-requires-clause-inside : goal.map_chunks-requires-clause-inside
 map_chunks-requires-clause-inside g c =
     let rules = g.T.RangeValue.rules in

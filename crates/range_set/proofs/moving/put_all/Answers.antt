@@ -1,5 +1,5 @@
 use Rattle.std.proofs.Common.{◌++◌, ◌∷◌, [], length, ap, subst, sym, ◌∙◌, arith, append_assoc}
-use Rattle.std.proofs.lemmas.List.{append-nil, length-append}
+use Rattle.std.proofs.lemmas.List.{append-nil}
 use Rattle.range_set.specs.Order.{AllForward}
 use Rattle.range_set.specs.PrivateChunks.{Ascend, built}
 use Rattle.range_set.proofs.Chunks.{begin_by-next, not_less}
@@ -14,12 +14,6 @@ push-requires g c =
     let forward = subst AllForward c.in-Some.ensures.steps.0 before.forward in
     record {
       builder = before.builder;
-      room =
-          let n = ap length whole in
-          let m = length-append here (c.in-Some.range ∷ rest) in
-          let k = length-append (built c.args.builder.now) c.args.ranges.items in
-          let l = c.requires.room in
-          omega (arith, n, m, k, l);
       after = begin_by-next 0 here c.in-Some.range rest (subst (Ascend 0) (sym whole) c.requires.order);
       forward = not_less c.in-Some.range.to c.in-Some.range.from forward.0;
     }

@@ -1,6 +1,5 @@
-use Rattle.std.proofs.Common.{◌++◌, length, ap, subst, sym, ◌∙◌, arith}
+use Rattle.std.proofs.Common.{◌++◌, ap, subst, sym, ◌∙◌}
 use Rattle.stable_order.specs.StableSort.{stable_sort}
-use Rattle.stable_order.proofs.StableSort.{length-stable_sort}
 use Rattle.range_set.specs.Order.{AllForward, before}
 use Rattle.range_set.specs.PrivateChunks.{Ascend, built}
 use Rattle.range_set.proofs.RangeOrder.{forward_sort}
@@ -14,7 +13,6 @@ put_all-requires g c =
     let sorted = c.in_ok-sort_stably.ensures.ok ∙ ap (stable_sort order) same in
     record {
       builder = c.requires.builder;
-      room = let n = ap length sorted in let m = length-stable_sort order run in let l = c.requires.room in omega (arith, n, m, l);
       order = subst (λ rs. Ascend 0 (built c.args.builder.now ++ rs)) (sym sorted) c.requires.order;
       forward = subst AllForward (sym sorted) (forward_sort g.T.RangeValue.rules run c.requires.forward);
     }

@@ -1,4 +1,4 @@
-use Rattle.std.proofs.Common.{◌++◌, None, length, ap, subst, sym, ◌∙◌, arith}
+use Rattle.std.proofs.Common.{◌++◌, None, subst, sym}
 use Rattle.range_set.specs.PrivateChunks.{Ascend}
 use Rattle.range_set.proofs.RangeOrder.{forward-no_fault, rises-no_fault}
 use Rattle.range_set.proofs.Under.{rises_ascend}
@@ -8,12 +8,8 @@ pub put_all-requires : goal.put_all-requires
 put_all-requires g c =
     let rules = g.T.RangeValue.rules in
     let none = c.new-builder.ensures.ranges in
-    let count = ap length none in
-    let len = c.len-len.ensures ∙ c.args.ranges.ok.0 in
-    let fits = c.len-len.type_inv in
     record {
       builder = c.new-builder.ensures.builder;
-      room = omega (arith, count, len, fits);
       order = subst (λ xs. Ascend 0 (xs ++ c.args.ranges.items)) (sym none) (rises_ascend rules c.args.ranges.items (rises-no_fault rules c.args.ranges.items c.requires));
       forward = forward-no_fault rules 0 None c.args.ranges.items c.requires;
     }

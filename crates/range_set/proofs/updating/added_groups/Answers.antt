@@ -3,7 +3,7 @@ use Rattle.std.proofs.lemmas.List.{length-append}
 use Rattle.std.proofs.lemmas.Result.{IfOk-weaker}
 use Rattle.range_set.specs.Order.{first_fault}
 use Rattle.range_set.specs.PrivateChunks.{Ascend, first_start, flat, grouped, spread}
-use Rattle.range_set.specs.PrivateUpdates.{BeginPast, EndUnder, last_start}
+use Rattle.range_set.specs.PrivateUpdates.{BeginPast, BeginUnder, last_start}
 use Rattle.range_set.specs.Updating.{updated}
 use Rattle.range_set.specs.declared.chunk.Placed.{Placed}
 use Rattle.range_set.specs.declared.ranged.Ranged.{Ranged}
@@ -14,20 +14,23 @@ use Rattle.range_set.proofs.Sharing.{have_parts}
 use Rattle.range_set.proofs.Under.{rises_ascend}
 use Rattle.range_set.proofs.updating.added_groups.Goals as goal
 
-pub apart-requires-clause-ascend : goal.apart-requires-clause-ascend
-apart-requires-clause-ascend g c =
+pub parted_around-requires-clause-ascend : goal.parted_around-requires-clause-ascend
+parted_around-requires-clause-ascend g c =
     let rules = g.T.RangeValue.rules in
     rises_ascend rules (flat (spread c.args.groups.now)) (rises-no_fault rules (flat (spread c.args.groups.now)) c.requires.order)
+
+pub parted_around-requires-clause-some : goal.parted_around-requires-clause-some
+parted_around-requires-clause-some g c = let n = ap length c.as_slice.ensures.value in let l = c.requires.some in omega (arith, n, l)
 
 pub opened-requires : goal.opened-requires
 opened-requires g c =
     let rules = g.T.RangeValue.rules in
     let gs = c.args.groups.now in
     let add = c.args.add.items in
-    let x = c.apart.result.0.now in
-    let y = c.apart.result.1.now in
-    let z = c.apart.result.2.now in
-    let parts = have_parts rules gs x y z c.apart.ensures.parts c.requires.groups c.requires.order in
+    let x = c.parted_around.result.0.now in
+    let y = c.parted_around.result.1.now in
+    let z = c.parted_around.result.2.now in
+    let parts = have_parts rules gs x y z c.parted_around.ensures.parts c.requires.groups c.requires.order in
     parts.second
 
 pub with_all-requires-clause-order : goal.with_all-requires-clause-order
@@ -35,37 +38,22 @@ with_all-requires-clause-order g c =
     let rules = g.T.RangeValue.rules in
     let gs = c.args.groups.now in
     let add = c.args.add.items in
-    let x = c.apart.result.0.now in
-    let y = c.apart.result.1.now in
-    let z = c.apart.result.2.now in
-    let parts = have_parts rules gs x y z c.apart.ensures.parts c.requires.groups c.requires.order in
+    let x = c.parted_around.result.0.now in
+    let y = c.parted_around.result.1.now in
+    let z = c.parted_around.result.2.now in
+    let parts = have_parts rules gs x y z c.parted_around.ensures.parts c.requires.groups c.requires.order in
     let same = ap (λ (ps : List (Placed g.row.T.Denot)). flat ps) c.as_slice-2.ensures.value ∙ c.in_ok-chunks.ensures.ranges in
     ap (first_fault rules) same ∙ parts.order
-
-pub with_all-requires-clause-room : goal.with_all-requires-clause-room
-with_all-requires-clause-room g c =
-    let rules = g.T.RangeValue.rules in
-    let gs = c.args.groups.now in
-    let add = c.args.add.items in
-    let x = c.apart.result.0.now in
-    let y = c.apart.result.1.now in
-    let z = c.apart.result.2.now in
-    let parts = have_parts rules gs x y z c.apart.ensures.parts c.requires.groups c.requires.order in
-    let same = ap (λ (ps : List (Placed g.row.T.Denot)). flat ps) c.as_slice-2.ensures.value ∙ c.in_ok-chunks.ensures.ranges in
-    let n = ap length same in
-    let k = parts.room in
-    let l = c.requires.room in
-    omega (arith, n, k, l)
 
 pub share_all-requires-clause-groups : goal.share_all-requires-clause-groups
 share_all-requires-clause-groups g c =
     let rules = g.T.RangeValue.rules in
     let gs = c.args.groups.now in
     let add = c.args.add.items in
-    let x = c.apart.result.0.now in
-    let y = c.apart.result.1.now in
-    let z = c.apart.result.2.now in
-    let parts = have_parts rules gs x y z c.apart.ensures.parts c.requires.groups c.requires.order in
+    let x = c.parted_around.result.0.now in
+    let y = c.parted_around.result.1.now in
+    let z = c.parted_around.result.2.now in
+    let parts = have_parts rules gs x y z c.parted_around.ensures.parts c.requires.groups c.requires.order in
     parts.first
 
 pub share_all-requires-clause-room : goal.share_all-requires-clause-room
@@ -73,10 +61,10 @@ share_all-requires-clause-room g c =
     let rules = g.T.RangeValue.rules in
     let gs = c.args.groups.now in
     let add = c.args.add.items in
-    let x = c.apart.result.0.now in
-    let y = c.apart.result.1.now in
-    let z = c.apart.result.2.now in
-    let parts = have_parts rules gs x y z c.apart.ensures.parts c.requires.groups c.requires.order in
+    let x = c.parted_around.result.0.now in
+    let y = c.parted_around.result.1.now in
+    let z = c.parted_around.result.2.now in
+    let parts = have_parts rules gs x y z c.parted_around.ensures.parts c.requires.groups c.requires.order in
     let none = ap (λ ps. length (flat ps)) c.new-builder.ensures.ranges in
     let k = parts.room in
     let l = c.requires.room in
@@ -87,16 +75,16 @@ put_all-requires-clause-room g c =
     let rules = g.T.RangeValue.rules in
     let gs = c.args.groups.now in
     let add = c.args.add.items in
-    let x = c.apart.result.0.now in
-    let y = c.apart.result.1.now in
-    let z = c.apart.result.2.now in
-    let parts = have_parts rules gs x y z c.apart.ensures.parts c.requires.groups c.requires.order in
+    let x = c.parted_around.result.0.now in
+    let y = c.parted_around.result.1.now in
+    let z = c.parted_around.result.2.now in
+    let parts = have_parts rules gs x y z c.parted_around.ensures.parts c.requires.groups c.requires.order in
     let same = ap (λ (ps : List (Placed g.row.T.Denot)). flat ps) c.as_slice-2.ensures.value ∙ c.in_ok-chunks.ensures.ranges in
     let made = c.in_ok-chunks-2.ensures.ranges ∙ ap (λ rs. updated rules (λ _. true) rs add) same in
     let slice = c.as_slice.ensures.value in
     let added = add_parts rules gs x y z add parts c.requires.added (ap (first_fault rules) (sym made) ∙ c.in_ok-chunks-2.ensures.order)
-    (subst (λ (xs : List (Ranged g.row.T.Denot)). EndUnder (first_start xs) (flat (spread x))) slice c.apart.ensures.before)
-    (subst (λ (xs : List (Ranged g.row.T.Denot)). BeginPast (last_start xs) (flat (spread z))) slice c.apart.ensures.after) in
+    (subst (λ (xs : List (Ranged g.row.T.Denot)). BeginUnder (first_start xs) (flat (spread x))) slice c.parted_around.ensures.before)
+    (subst (λ (xs : List (Ranged g.row.T.Denot)). BeginPast (last_start xs) (flat (spread z))) slice c.parted_around.ensures.after) in
     let none = ap (λ ps. length (flat ps)) c.new-builder.ensures.ranges in
     let n = ap (λ ps. length (flat ps)) c.in_ok-share_all.ensures.ranges ∙ (ap length (flat-append (grouped c.new-builder.result) (spread x)) ∙ length-append (flat (grouped c.new-builder.result)) (flat (spread x))) in
     let m = ap length made ∙ added.count in
@@ -109,16 +97,16 @@ put_all-requires-clause-order g c =
     let rules = g.T.RangeValue.rules in
     let gs = c.args.groups.now in
     let add = c.args.add.items in
-    let x = c.apart.result.0.now in
-    let y = c.apart.result.1.now in
-    let z = c.apart.result.2.now in
-    let parts = have_parts rules gs x y z c.apart.ensures.parts c.requires.groups c.requires.order in
+    let x = c.parted_around.result.0.now in
+    let y = c.parted_around.result.1.now in
+    let z = c.parted_around.result.2.now in
+    let parts = have_parts rules gs x y z c.parted_around.ensures.parts c.requires.groups c.requires.order in
     let same = ap (λ (ps : List (Placed g.row.T.Denot)). flat ps) c.as_slice-2.ensures.value ∙ c.in_ok-chunks.ensures.ranges in
     let made = c.in_ok-chunks-2.ensures.ranges ∙ ap (λ rs. updated rules (λ _. true) rs add) same in
     let slice = c.as_slice.ensures.value in
     let added = add_parts rules gs x y z add parts c.requires.added (ap (first_fault rules) (sym made) ∙ c.in_ok-chunks-2.ensures.order)
-    (subst (λ (xs : List (Ranged g.row.T.Denot)). EndUnder (first_start xs) (flat (spread x))) slice c.apart.ensures.before)
-    (subst (λ (xs : List (Ranged g.row.T.Denot)). BeginPast (last_start xs) (flat (spread z))) slice c.apart.ensures.after) in
+    (subst (λ (xs : List (Ranged g.row.T.Denot)). BeginUnder (first_start xs) (flat (spread x))) slice c.parted_around.ensures.before)
+    (subst (λ (xs : List (Ranged g.row.T.Denot)). BeginPast (last_start xs) (flat (spread z))) slice c.parted_around.ensures.after) in
     let first = c.in_ok-share_all.ensures.ranges ∙ ap (λ ps. ps ++ spread x) c.new-builder.ensures.ranges in
     subst (Ascend 0) (sym (ap (λ ps. flat (ps ++ c.in_ok-chunks-2.chunks.items)) first ∙ (flat-append (spread x) c.in_ok-chunks-2.chunks.items ∙ ap (λ rs. flat (spread x) ++ rs) made))) added.order
 
@@ -127,10 +115,10 @@ share_all-requires-2-clause-groups g c =
     let rules = g.T.RangeValue.rules in
     let gs = c.args.groups.now in
     let add = c.args.add.items in
-    let x = c.apart.result.0.now in
-    let y = c.apart.result.1.now in
-    let z = c.apart.result.2.now in
-    let parts = have_parts rules gs x y z c.apart.ensures.parts c.requires.groups c.requires.order in
+    let x = c.parted_around.result.0.now in
+    let y = c.parted_around.result.1.now in
+    let z = c.parted_around.result.2.now in
+    let parts = have_parts rules gs x y z c.parted_around.ensures.parts c.requires.groups c.requires.order in
     parts.third
 
 pub share_all-requires-2-clause-room : goal.share_all-requires-2-clause-room
@@ -138,16 +126,16 @@ share_all-requires-2-clause-room g c =
     let rules = g.T.RangeValue.rules in
     let gs = c.args.groups.now in
     let add = c.args.add.items in
-    let x = c.apart.result.0.now in
-    let y = c.apart.result.1.now in
-    let z = c.apart.result.2.now in
-    let parts = have_parts rules gs x y z c.apart.ensures.parts c.requires.groups c.requires.order in
+    let x = c.parted_around.result.0.now in
+    let y = c.parted_around.result.1.now in
+    let z = c.parted_around.result.2.now in
+    let parts = have_parts rules gs x y z c.parted_around.ensures.parts c.requires.groups c.requires.order in
     let same = ap (λ (ps : List (Placed g.row.T.Denot)). flat ps) c.as_slice-2.ensures.value ∙ c.in_ok-chunks.ensures.ranges in
     let made = c.in_ok-chunks-2.ensures.ranges ∙ ap (λ rs. updated rules (λ _. true) rs add) same in
     let slice = c.as_slice.ensures.value in
     let added = add_parts rules gs x y z add parts c.requires.added (ap (first_fault rules) (sym made) ∙ c.in_ok-chunks-2.ensures.order)
-    (subst (λ (xs : List (Ranged g.row.T.Denot)). EndUnder (first_start xs) (flat (spread x))) slice c.apart.ensures.before)
-    (subst (λ (xs : List (Ranged g.row.T.Denot)). BeginPast (last_start xs) (flat (spread z))) slice c.apart.ensures.after) in
+    (subst (λ (xs : List (Ranged g.row.T.Denot)). BeginUnder (first_start xs) (flat (spread x))) slice c.parted_around.ensures.before)
+    (subst (λ (xs : List (Ranged g.row.T.Denot)). BeginPast (last_start xs) (flat (spread z))) slice c.parted_around.ensures.after) in
     let none = ap (λ ps. length (flat ps)) c.new-builder.ensures.ranges in
     let n = ap (λ ps. length (flat ps)) c.in_ok-share_all.ensures.ranges ∙ (ap length (flat-append (grouped c.new-builder.result) (spread x)) ∙ length-append (flat (grouped c.new-builder.result)) (flat (spread x))) in
     let m = ap length made ∙ added.count in
@@ -161,16 +149,16 @@ returns-clause-order g c =
     let rules = g.T.RangeValue.rules in
     let gs = c.args.groups.now in
     let add = c.args.add.items in
-    let x = c.apart.result.0.now in
-    let y = c.apart.result.1.now in
-    let z = c.apart.result.2.now in
-    let parts = have_parts rules gs x y z c.apart.ensures.parts c.requires.groups c.requires.order in
+    let x = c.parted_around.result.0.now in
+    let y = c.parted_around.result.1.now in
+    let z = c.parted_around.result.2.now in
+    let parts = have_parts rules gs x y z c.parted_around.ensures.parts c.requires.groups c.requires.order in
     let same = ap (λ (ps : List (Placed g.row.T.Denot)). flat ps) c.as_slice-2.ensures.value ∙ c.in_ok-chunks.ensures.ranges in
     let made = c.in_ok-chunks-2.ensures.ranges ∙ ap (λ rs. updated rules (λ _. true) rs add) same in
     let slice = c.as_slice.ensures.value in
     let added = add_parts rules gs x y z add parts c.requires.added (ap (first_fault rules) (sym made) ∙ c.in_ok-chunks-2.ensures.order)
-    (subst (λ (xs : List (Ranged g.row.T.Denot)). EndUnder (first_start xs) (flat (spread x))) slice c.apart.ensures.before)
-    (subst (λ (xs : List (Ranged g.row.T.Denot)). BeginPast (last_start xs) (flat (spread z))) slice c.apart.ensures.after) in
+    (subst (λ (xs : List (Ranged g.row.T.Denot)). BeginUnder (first_start xs) (flat (spread x))) slice c.parted_around.ensures.before)
+    (subst (λ (xs : List (Ranged g.row.T.Denot)). BeginPast (last_start xs) (flat (spread z))) slice c.parted_around.ensures.after) in
     let first = c.in_ok-share_all.ensures.ranges ∙ ap (λ ps. ps ++ spread x) c.new-builder.ensures.ranges in
     let all = ap flat (c.in_ok-share_all-2.ensures.ranges ∙ ap (λ ps. ps ++ spread z) (c.in_ok-put_all.ensures.ranges ∙ ap (λ ps. ps ++ c.in_ok-chunks-2.chunks.items) first))
     ∙ (flat-append (spread x ++ c.in_ok-chunks-2.chunks.items) (spread z)
@@ -184,16 +172,16 @@ returns-clause-ranges g c =
     let rules = g.T.RangeValue.rules in
     let gs = c.args.groups.now in
     let add = c.args.add.items in
-    let x = c.apart.result.0.now in
-    let y = c.apart.result.1.now in
-    let z = c.apart.result.2.now in
-    let parts = have_parts rules gs x y z c.apart.ensures.parts c.requires.groups c.requires.order in
+    let x = c.parted_around.result.0.now in
+    let y = c.parted_around.result.1.now in
+    let z = c.parted_around.result.2.now in
+    let parts = have_parts rules gs x y z c.parted_around.ensures.parts c.requires.groups c.requires.order in
     let same = ap (λ (ps : List (Placed g.row.T.Denot)). flat ps) c.as_slice-2.ensures.value ∙ c.in_ok-chunks.ensures.ranges in
     let made = c.in_ok-chunks-2.ensures.ranges ∙ ap (λ rs. updated rules (λ _. true) rs add) same in
     let slice = c.as_slice.ensures.value in
     let added = add_parts rules gs x y z add parts c.requires.added (ap (first_fault rules) (sym made) ∙ c.in_ok-chunks-2.ensures.order)
-    (subst (λ (xs : List (Ranged g.row.T.Denot)). EndUnder (first_start xs) (flat (spread x))) slice c.apart.ensures.before)
-    (subst (λ (xs : List (Ranged g.row.T.Denot)). BeginPast (last_start xs) (flat (spread z))) slice c.apart.ensures.after) in
+    (subst (λ (xs : List (Ranged g.row.T.Denot)). BeginUnder (first_start xs) (flat (spread x))) slice c.parted_around.ensures.before)
+    (subst (λ (xs : List (Ranged g.row.T.Denot)). BeginPast (last_start xs) (flat (spread z))) slice c.parted_around.ensures.after) in
     let first = c.in_ok-share_all.ensures.ranges ∙ ap (λ ps. ps ++ spread x) c.new-builder.ensures.ranges in
     let all = ap flat (c.in_ok-share_all-2.ensures.ranges ∙ ap (λ ps. ps ++ spread z) (c.in_ok-put_all.ensures.ranges ∙ ap (λ ps. ps ++ c.in_ok-chunks-2.chunks.items) first))
     ∙ (flat-append (spread x ++ c.in_ok-chunks-2.chunks.items) (spread z)

@@ -1,4 +1,4 @@
-use Rattle.std.proofs.Common.{◌≡◌, ◌+◌, ◌++◌, Bool, List, [], None, drop, filter, length, map, ap, subst, sym, refl, ◌∙◌, arith}
+use Rattle.std.proofs.Common.{◌≡◌, ◌+◌, ◌++◌, ◌≤◌, Bool, List, [], None, drop, filter, length, map, ap, subst, sym, refl, ◌∙◌, arith}
 use Rattle.std.proofs.lemmas.List.{length-append}
 use Rattle.std.proofs.lemmas.Result.{IfOk-weaker}
 use Rattle.stable_order.specs.StableSort.{stable_sort}
@@ -82,31 +82,6 @@ put_sorted-requires-clause-forward g c =
     let here = subst (λ (qs : List (Placed g.row.T.Denot)). IsUpdating rules most done run (flat qs) added) is c.loop-placed.invariant.updating in
     let up = after_take rules most done run chunk rest added new_run new_added here c.in_ok-take_before.ensures in
     up.run_forward
-
-pub share-requires-clause-room : goal.share-requires-clause-room
-share-requires-clause-room g c =
-    let rules = g.T.RangeValue.rules in
-    let ps = c.args.chunks.now in
-    let p = c.placed-item.result in
-    let i = c.loop-placed.placed-index in
-    let rest = flat (drop (i + 1) ps) in
-    let done = built c.loop-placed.builder in
-    let run = c.loop-placed.run.items in
-    let added = c.loop-placed.added.items in
-    let chunk = map (shift p.start) p.chunk.value.ranges.items in
-    let most = length (flat ps) + length c.args.add.items in
-    let new_run = c.take_before.new.run.items in
-    let new_added = c.take_before.new.added.items in
-    let is = rest_at ps i p c.loop-placed-test.true c.placed-item.is in
-    let here = subst (λ (qs : List (Placed g.row.T.Denot)). IsUpdating rules most done run (flat qs) added) is c.loop-placed.invariant.updating in
-    let up = after_take rules most done run chunk rest added new_run new_added here c.in_ok-take_before.ensures in
-    let n = ap length c.in_ok-put_sorted.ensures.ranges ∙ length-append done (stable_sort (before rules) new_run) in
-    let m = length-stable_sort (before rules) new_run in
-    let k = length-append chunk rest in
-    let l = length_shifted rules p.start p.chunk.value.ranges.items in
-    let all = up.room in
-    let few = c.requires.room in
-    omega (arith, n, m, k, l, all, few)
 
 pub loop-placed-preserved : goal.loop-placed-preserved
 loop-placed-preserved g c =
@@ -193,8 +168,27 @@ returns-clause-order g c =
     let up = updating_end rules most done run added (subst (λ (qs : List (Placed g.row.T.Denot)). IsUpdating rules most done run (flat qs) added) none c.loop-placed.invariant.updating) in
     let all = c.in_ok-append.ensures.items ∙ ap (λ xs. run ++ xs) c.from-others.ensures.0 in
     let sorted = c.in_ok-put_sorted-2.ensures.ranges ∙ ap (λ xs. done ++ stable_sort (before rules) xs) all in
-    IfOk-weaker c.finish.result (λ made. flat made.0.items ≡ built c.put_sorted-2.new.builder) (λ made. first_fault rules (flat made.0.items) ≡ None)
+    IfOk-weaker c.finish.result (λ made. flat made.items ≡ built c.put_sorted-2.new.builder) (λ made. first_fault rules (flat made.items) ≡ None)
     (λ made e. ap (first_fault rules) (e ∙ sorted) ∙ no_fault_done rules most done (run ++ added) [] [] up) c.finish.ensures.ranges
+
+pub returns-clause-few : goal.returns-clause-few
+returns-clause-few g c =
+    let rules = g.T.RangeValue.rules in
+    let ps = c.args.chunks.now in
+    let i = c.loop-placed.placed-index in
+    let done = built c.loop-placed.builder in
+    let run = c.loop-placed.run.items in
+    let added = c.loop-placed.added.items in
+    let most = length (flat ps) + length c.args.add.items in
+    let none = nothing_left ps i c.loop-placed-test.false in
+    let up = updating_end rules most done run added (subst (λ (qs : List (Placed g.row.T.Denot)). IsUpdating rules most done run (flat qs) added) none c.loop-placed.invariant.updating) in
+    let all = c.in_ok-append.ensures.items ∙ ap (λ xs. run ++ xs) c.from-others.ensures.0 in
+    let sorted = c.in_ok-put_sorted-2.ensures.ranges ∙ ap (λ xs. done ++ stable_sort (before rules) xs) all in
+    let m = length-append done (stable_sort (before rules) (run ++ added)) in
+    let k = length-stable_sort (before rules) (run ++ added) in
+    let room = up.room in
+    IfOk-weaker c.finish.result (λ made. flat made.items ≡ built c.put_sorted-2.new.builder) (λ made. length (flat made.items) ≤ most)
+    (λ made e. let n = ap length (e ∙ sorted) in omega (arith, n, m, k, room)) c.finish.ensures.ranges
 
 pub returns-clause-ranges : goal.returns-clause-ranges
 returns-clause-ranges g c =
@@ -209,5 +203,5 @@ returns-clause-ranges g c =
     let up = updating_end rules most done run added (subst (λ (qs : List (Placed g.row.T.Denot)). IsUpdating rules most done run (flat qs) added) none c.loop-placed.invariant.updating) in
     let all = c.in_ok-append.ensures.items ∙ ap (λ xs. run ++ xs) c.from-others.ensures.0 in
     let sorted = c.in_ok-put_sorted-2.ensures.ranges ∙ ap (λ xs. done ++ stable_sort (before rules) xs) all in
-    IfOk-weaker c.finish.result (λ made. flat made.0.items ≡ built c.put_sorted-2.new.builder) (λ made. (q : _) → AnswersAs g.F.Fn c.args.keep.now q → flat made.0.items ≡ updated rules q (flat ps) c.args.add.items)
+    IfOk-weaker c.finish.result (λ made. flat made.items ≡ built c.put_sorted-2.new.builder) (λ made. (q : _) → AnswersAs g.F.Fn c.args.keep.now q → flat made.items ≡ updated rules q (flat ps) c.args.add.items)
     (λ made e q a. e ∙ (sorted ∙ sym (subst (λ (qs : List (Placed g.row.T.Denot)). updated rules q (flat ps) c.args.add.items ≡ done ++ stable_sort (before rules) (run ++ (filter q (flat qs) ++ added))) none (c.loop-placed.invariant.goes q a)))) c.finish.ensures.ranges

@@ -1,8 +1,7 @@
-use Rattle.std.proofs.Common.{◌≡◌, ◌++◌, ◌≤◌, map, length, sym, ap, subst, ◌∙◌, arith}
-use Rattle.std.proofs.lemmas.List.{length-append}
+use Rattle.std.proofs.Common.{◌++◌, ◌≤◌, map, length, sym, ap, subst, ◌∙◌}
 use Rattle.range_set.specs.PrivateChunks.{IsChunk, built, shift}
 use Rattle.range_set.specs.declared.chunk.Chunk.{Chunk}
-use Rattle.range_set.proofs.Chunks.{AreChunks-push, length_shifted, share_built}
+use Rattle.range_set.proofs.Chunks.{AreChunks-push, share_built}
 use Rattle.range_set.proofs.chunk_builder.ChunkBuilder.share.Goals as goal
 
 shared_ranges : goal.returns-clause-ranges
@@ -23,11 +22,4 @@ returns-clause-builder g c =
       chunks = rw c.in_ok-push.ensures.items (AreChunks-push rules c.seal.new.done.items _ c.in_ok-seal.ensures.chunks
           (subst (IsChunk rules c.args.start) (sym e) c.requires.chunk) (subst (λ (ch : Chunk g.row.T.Denot). 1 ≤ length ch.ranges.items) (sym e) c.requires.some));
       growing = c.in_ok-seal.ensures.opened;
-      len =
-          let n = ap length (shared_ranges g c) in
-          let m = length-append (built c.args.self.now) (map (shift c.args.start) c.args.chunk.now.value.ranges.items) in
-          let k = length_shifted rules c.args.start c.args.chunk.now.value.ranges.items in
-          let l = c.requires.builder.len in
-          let q : c.len-count.result ≡ length c.args.chunk.now.value.ranges.items = c.len-count.ensures ∙ (c.deref.result.now.ranges.ok.0 ∙ ap (λ (ch : Chunk g.row.T.Denot). length ch.ranges.items) c.deref.ensures) in
-          omega (arith, n, m, k, l, q);
     }

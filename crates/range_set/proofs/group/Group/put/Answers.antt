@@ -25,4 +25,4 @@ returns-clause-group g c =
       | then-self-2 w ↦ or_first _ _ _ w.self-is w.if-self-2.true
       | else-self-2 w ↦ or_second _ _ _ (w.self-is ∙ ap (λ (ch : Chunk g.row.T.Denot). ch.has_point) c.deref-4.ensures) w.if-self-2.false
     ] in
-    put_group rules start old _ p c.requires.group c.requires.chunk c.requires.some c.requires.after c.requires.first c.in_ok-push.ensures.items (ap (λ n. old.count + n) count) reach turned points
+    put_group rules start old _ p c.requires.group c.requires.chunk c.requires.some c.requires.few c.requires.after c.requires.first c.in_ok-push.ensures.items (ap (λ n. old.count + n) count) reach turned points

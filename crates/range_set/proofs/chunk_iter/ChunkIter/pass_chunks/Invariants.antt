@@ -1,7 +1,7 @@
 use Rattle.std.proofs.Common.{◌++◌, ◌+◌, map, length}
 use Rattle.range_set.specs.PrivateChunks.{AreLeft, move, spread}
 use Rattle.range_set.proofs.Passing.{ArePassed}
-use Rattle.range_set.proofs.chunk_iter.ChunkIter.pass_hulls.Given as goal
+use Rattle.range_set.proofs.chunk_iter.ChunkIter.pass_chunks.Given as goal
 
 abbrev pub invariant-loop-first : goal.invariant-loop-first
 invariant-loop-first g l = record {

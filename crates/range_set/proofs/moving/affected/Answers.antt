@@ -5,8 +5,8 @@ use Rattle.change_desc.specs.Ranges.{meets}
 use Rattle.change_desc.proofs.RangesMet.{replaced-begin}
 use Rattle.range_set.proofs.Groups.{group-at}
 use Rattle.range_set.proofs.Sharing.{met_affected, met_clear, next_met}
-use Rattle.range_set.proofs.moving.met.Goals as goal
-use Rattle.range_set.proofs.moving.met.Goals.{then-is_group_affected, then-last-eq0, else-last-eq0, else-is_group_affected}
+use Rattle.range_set.proofs.moving.affected.Goals as goal
+use Rattle.range_set.proofs.moving.affected.Goals.{then-is_group_affected, then-last-eq0, else-last-eq0, else-is_group_affected}
 
 pub loop-index-init : goal.loop-index-init
 loop-index-init g c =

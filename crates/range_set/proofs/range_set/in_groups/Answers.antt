@@ -2,7 +2,7 @@ use Rattle.std.proofs.Common.{◌++◌, length, ap, subst, sym, arith}
 use Rattle.range_set.specs.PrivateChunks.{Ascend, flat}
 use Rattle.range_set.proofs.RangeOrder.{rises-no_fault}
 use Rattle.range_set.proofs.Under.{rises_ascend}
-use Rattle.range_set.proofs.range_set.grouped.Goals as goal
+use Rattle.range_set.proofs.range_set.in_groups.Goals as goal
 
 pub put_all-requires : goal.put_all-requires
 put_all-requires g c =

@@ -5,8 +5,8 @@ use Rattle.range_set.specs.declared.chunk.Placed.{Placed}
 use Rattle.range_set.specs.declared.group.Group.{Group}
 use Rattle.range_set.proofs.Groups.{left_next, left_open, left_passed}
 use Rattle.range_set.proofs.Passing.{ArePassed, passed_chunk, passed_group}
-use Rattle.range_set.proofs.chunk_iter.ChunkIter.pass_hulls.Goals as goal
-use Rattle.range_set.proofs.chunk_iter.ChunkIter.pass_hulls.Goals.{then-place-first, else-place-first}
+use Rattle.range_set.proofs.chunk_iter.ChunkIter.pass_chunks.Goals as goal
+use Rattle.range_set.proofs.chunk_iter.ChunkIter.pass_chunks.Goals.{then-place-first, else-place-first}
 
 pub loop-first-preserved-in-Some : goal.loop-first-preserved-in-Some
 loop-first-preserved-in-Some g c =

@@ -4,7 +4,7 @@ use Rattle.change_desc.specs.Meeting.{BeginAfter}
 use Rattle.change_desc.specs.Ranges.{meets, replaced}
 use Rattle.range_set.specs.PrivateChunks.{AreClear, Ascend, flat, spread}
 use Rattle.range_set.proofs.Sharing.{FirstBy}
-use Rattle.range_set.proofs.moving.met.Given as goal
+use Rattle.range_set.proofs.moving.affected.Given as goal
 
 abbrev pub invariant-loop-index : goal.invariant-loop-index
 invariant-loop-index g l = record {
