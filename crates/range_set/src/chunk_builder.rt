@@ -94,7 +94,7 @@ fn is_full(len: usize, left: usize) -> bool
     requires { len ≤ 128 }
     ensures { result ≡ false → len < 128 }
 {
-    len == MAX_RANGES
+    len >= MAX_RANGES
         || (left <= len && len + left > MAX_RANGES && len + left <= MAX_RANGES + FEW_RANGES)
 }
 

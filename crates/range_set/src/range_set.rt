@@ -28,7 +28,7 @@ use std::sync::ledger::{Blank, Ledger};
 use steps::Steps;
 
 /// A set of ranges in order (Reference Manual: RangeSet): by their starts, then by their start sides, then as they were
-/// given. It is a list of groups of chunks of 1 to 128 ranges; sets share both.
+/// given. It is a list of groups of chunks of 1 to 64 ranges; sets share both.
 #[derive(Drop)]
 pub struct RangeSet<T: RangeValue> {
     groups: Vec<PlacedGroup<T>>,
