@@ -123,6 +123,19 @@ fn a_new_file_is_typed_and_saved(rt: HostRuntime) -> Result<(), Fail> {
     Ok(())
 }
 
+/// Twice the frame of an empty document.
+const TWO_EMPTY: &str = "\x1b[H\x1b[1;1H\x1b[K\x1b[1;1H\x1b[H\x1b[1;1H\x1b[K\x1b[1;1H";
+
+#[test]
+fn a_refused_key_gives_its_frame(rt: HostRuntime) -> Result<(), Fail> {
+    let nothing_to_undo = Case {
+        keys: b"\x1a\x11",
+        ..PLAIN
+    };
+    assert!(rt; ends(rt.alloc(), &nothing_to_undo, (Status::Ok, TWO_EMPTY), None)?);
+    Ok(())
+}
+
 /// Twice the frame of two lines, of which the window shows `x`.
 const TWO_OF_X: &str = "\x1b[H\x1b[1;1Hx\x1b[K\x1b[1;1H\x1b[H\x1b[1;1Hx\x1b[K\x1b[1;1H";
 

@@ -90,6 +90,11 @@ fn a_replacement_joins_lines(rt: HostRuntime) -> Result<(), Fail> {
             r#"{"summary":{}}"#,
             r#"{"ok":{"length":8,"lines":3,"rows":2,"transactions":2}}"#,
         ),
+        (r#"{"start":{}}"#, r#"{"ok":{"length":0}}"#),
+        (
+            r#"{"summary":{}}"#,
+            r#"{"ok":{"length":0,"lines":1,"rows":1,"transactions":0}}"#,
+        ),
     ];
     assert!(rt; talks(rt.alloc(), &declared, &lines)?);
     Ok(())
