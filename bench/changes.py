@@ -1,18 +1,14 @@
 #!/usr/bin/env python3
 """Measures `ccm replay` on updates of one spec with many changes at ascending places.
 
-Usage: bench/changes.py
+Usage: bench/changes.py      needs the built program (./build)
 
 The document has 100,000 characters. An update inserts one character at each of n places, for n of 1,000, 2,000 and so on to
 16,000. The script prints the processor time of each (a run with the update ten times, each from a new start, less a run of
 the starts alone, over ten; the least of three) and its ratio to that of half as many.
 """
-import os
-import subprocess
-import sys
-import tempfile
+from program import end, least
 
-ROOT = os.path.dirname(os.path.dirname(os.path.abspath(__file__)))
 LENGTH = 100_000
 TIMES = 10
 
@@ -28,30 +24,17 @@ def update(count):
 
 
 def seconds(lines):
-    """Processor seconds of a run over some lines."""
-    with tempfile.TemporaryFile("w+", encoding="utf-8") as script:
-        script.writelines(lines)
-        script.seek(0)
-        child = subprocess.Popen([f"{ROOT}/ccm", "replay"], stdin=script, stdout=subprocess.DEVNULL)
-        _, status, usage = os.wait4(child.pid, 0)
-        child.returncode = os.waitstatus_to_exitcode(status)
-        if child.returncode != 0:
-            sys.exit(f"bench/changes.py: ccm ended with status {child.returncode}")
-    return usage.ru_utime + usage.ru_stime
-
-
-def least(lines):
-    return min(seconds(lines) for _ in range(3))
+    return least(["replay"], lines)[0]
 
 
 def main():
-    base = least([start()] * TIMES)
+    base = seconds([start()] * TIMES)
     last = None
     for count in (1_000, 2_000, 4_000, 8_000, 16_000):
         line = update(count)
         if len(line) > 1_048_576:
-            sys.exit(f"bench/changes.py: the line of {count} changes is too long")
-        spent = max(0.0, least([start(), line] * TIMES) - base) / TIMES
+            end(f"the line of {count} changes is too long")
+        spent = max(0.0, seconds([start(), line] * TIMES) - base) / TIMES
         ratio = "" if not last else f", {spent / last:.2f} times that of half as many"
         print(f"{count} insertions in one update: {spent * 1000:.1f} ms{ratio}")
         last = spent

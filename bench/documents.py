@@ -1,7 +1,7 @@
 #!/usr/bin/env python3
 """Measures `ccm replay` on edits of large documents, and what such a document takes of memory.
 
-Usage: bench/documents.py [EDITS]     20,000 edits where no number is given
+Usage: bench/documents.py [EDITS]     20,000 edits where no number is given; needs the built program (./build)
 
 Each document is made by lines of at most 1 MiB, and then so many lines each replace one character at places far apart.
 The script prints the processor time of these edits (the run with them less the run without) in a document of 400 lines,
@@ -9,13 +9,12 @@ in one of 400,000 lines of 20 characters, and in one of a single line of 8,000,0
 first; and for a document of 400,000 lines of 40 characters the greatest memory of the run, all of it, for each character. A
 time is the least of three runs.
 """
-import os
-import subprocess
 import sys
-import tempfile
 
-ROOT = os.path.dirname(os.path.dirname(os.path.abspath(__file__)))
-PIECE = 1_000_000
+from program import least
+
+# The characters of one line of the script: with an LF written as two characters they keep to 1 MiB.
+PIECE = 900_000
 
 
 def document(unit, count):
@@ -39,23 +38,10 @@ def edits(length, count):
         yield '{"update":[{"changes":[{"from":%d,"to":%d,"insert":"%s"}]}]}\n' % (place, place + 1, chr(ord("a") + i % 26))
 
 
-def run(lines):
-    """Processor seconds and greatest memory, in bytes, of a run over some lines."""
-    with tempfile.TemporaryFile("w+", encoding="utf-8") as script:
-        script.writelines(lines)
-        script.seek(0)
-        child = subprocess.Popen([f"{ROOT}/ccm", "replay"], stdin=script, stdout=subprocess.DEVNULL)
-        _, status, usage = os.wait4(child.pid, 0)
-        child.returncode = os.waitstatus_to_exitcode(status)
-        if child.returncode != 0:
-            sys.exit(f"bench/documents.py: ccm ended with status {child.returncode}")
-    return usage.ru_utime + usage.ru_stime, usage.ru_maxrss * 1024
-
-
 def seconds_of_edits(unit, count, number):
     made = list(document(unit, count))
     changed = made + list(edits(count * len(unit), number))
-    return max(0.0, min(run(changed)[0] for _ in range(3)) - min(run(made)[0] for _ in range(3)))
+    return max(0.0, least(["replay"], changed)[0] - least(["replay"], made)[0])
 
 
 def main():
@@ -64,8 +50,9 @@ def main():
     print(f"{number} edits in 400 lines: {small:.2f} s")
     for name, unit, count in (("400,000 lines", "x" * 19 + "\n", 400_000), ("one line of 8,000,000 characters", "x" * 20, 400_000)):
         large = seconds_of_edits(unit, count, number)
-        print(f"{number} edits in {name}: {large:.2f} s, {large / small:.1f} times")
-    memory = run(document("x" * 40 + "\n", 400_000))[1]
+        ratio = f", {large / small:.1f} times" if small else ""
+        print(f"{number} edits in {name}: {large:.2f} s{ratio}")
+    memory = least(["replay"], document("x" * 40 + "\n", 400_000), times=1)[1]
     print(f"400,000 lines of 40 characters: {memory / 16_400_000:.1f} bytes a character")
 
 

@@ -1,35 +1,19 @@
 #!/usr/bin/env python3
 """Measures `ccm replay` on sessions with many extensions, and on many declarations.
 
-Usage: bench/extensions.py [UPDATES]     100,000 updates where no number is given
+Usage: bench/extensions.py [UPDATES]     100,000 updates where no number is given; needs the built program (./build)
 
 The script prints the processor time of so many updates that each insert a character (the run with them less the run
 without) in a session without extensions, and in one with 40 fields and 40 facets, of which each update makes one facet due,
 with the ratio of the two; and the time of 25,000, 50,000 and 100,000 declarations of facets. A time is the least of three runs.
 """
-import os
-import subprocess
 import sys
-import tempfile
 
-ROOT = os.path.dirname(os.path.dirname(os.path.abspath(__file__)))
-
-
-def run(lines):
-    """Processor seconds of a run over some lines."""
-    with tempfile.TemporaryFile("w+", encoding="utf-8") as script:
-        script.writelines(line + "\n" for line in lines)
-        script.seek(0)
-        child = subprocess.Popen([f"{ROOT}/ccm", "replay"], stdin=script, stdout=subprocess.DEVNULL)
-        _, status, usage = os.wait4(child.pid, 0)
-        child.returncode = os.waitstatus_to_exitcode(status)
-        if child.returncode != 0:
-            sys.exit(f"bench/extensions.py: ccm ended with status {child.returncode}")
-    return usage.ru_utime + usage.ru_stime
+from program import least
 
 
-def least(lines):
-    return min(run(lines) for _ in range(3))
+def seconds(lines):
+    return least(["replay"], [line + "\n" for line in lines])[0]
 
 
 def updates(number):
@@ -58,13 +42,13 @@ def declarations(number):
 def main():
     number = int(sys.argv[1]) if len(sys.argv) > 1 else 100_000
     bare = ['{"start":{}}']
-    without = least(bare + updates(number)) - least(bare)
+    without = seconds(bare + updates(number)) - seconds(bare)
     made = list(extended())
-    with_all = least(made + updates(number)) - least(made)
+    with_all = seconds(made + updates(number)) - seconds(made)
     print(f"{number} updates without extensions: {without:.2f} s")
     print(f"{number} updates with 40 fields and 40 facets: {with_all:.2f} s, {with_all / without:.1f} times")
     for count in (25_000, 50_000, 100_000):
-        print(f"{count} declarations: {least(declarations(count)):.2f} s")
+        print(f"{count} declarations: {seconds(declarations(count)):.2f} s")
 
 
 main()

@@ -11,11 +11,11 @@ each is undone by itself.
 import os
 import shutil
 import subprocess
-import sys
 import tempfile
 import time
 
-ROOT = os.path.dirname(os.path.dirname(os.path.abspath(__file__)))
+from program import ROOT, end, program
+
 NAME = f"ccm-edit-{os.getpid()}"
 
 # keys as tmux names them, the rows that are shown then, and the cursor's column and row
@@ -43,8 +43,8 @@ def shown():
 
 def waited(want):
     """What the terminal shows once it is as wanted, or after five seconds."""
-    end = time.time() + 5
-    while shown() != want and time.time() < end:
+    last = time.time() + 5
+    while shown() != want and time.time() < last:
         time.sleep(0.05)
     return shown()
 
@@ -53,12 +53,13 @@ def compare(step, want):
     found = waited(want)
     print(f"{step}: {found}")
     if found != want:
-        sys.exit(f"bench/terminal.py: {want} was wanted")
+        end(f"{want} was wanted")
 
 
 def main():
     if not shutil.which("tmux"):
-        sys.exit("bench/terminal.py: tmux isn't installed: Debian has it as `tmux`")
+        end("tmux isn't installed: Debian has it as `tmux`")
+    program()
     with tempfile.TemporaryDirectory() as folder:
         path = os.path.join(folder, "text")
         with open(path, "w", encoding="utf-8") as file:
@@ -67,7 +68,7 @@ def main():
         try:
             tmux("set-option", "-g", "status", "off")
             tmux("resize-window", "-t", NAME, "-x", "40", "-y", "5")
-            tmux("send-keys", "-t", NAME, f"PS1=; clear; {ROOT}/ccm-edit text; clear; echo ended $?", "Enter")
+            tmux("send-keys", "-t", NAME, f"PS1=; clear; '{ROOT}/ccm-edit' text; ended=$?; clear; echo ended $ended", "Enter")
             compare("opened", (["one", "two"], (0, 0)))
             for keys, rows, cursor in STEPS:
                 time.sleep(0.6)
@@ -76,11 +77,11 @@ def main():
             with open(path, "rb") as file:
                 found = file.read()
             if found != "i one\ntwo\n漢".encode():
-                sys.exit(f"bench/terminal.py: the file has {found!r}")
+                end(f"the file has {found!r}")
             tmux("send-keys", "-t", NAME, "C-q")
             compare("C-q", (["ended 0"], (0, 1)))
         finally:
-            tmux("kill-server")
+            subprocess.run(["tmux", "-L", NAME, "kill-server"], check=False, capture_output=True)
     print("bench/terminal.py: each step shows what it should")
 
 

@@ -5,7 +5,7 @@ Usage: bench/texts.py
 
 It writes a small program over the crate line_tree to a temporary folder, and has the toolchain's `rt` prove and build it
 there, which takes some minutes. The program makes 16,000,000 characters, in lines of 40, and then does one thing ten times: it
-copies the characters, makes a text of them (`Text::of`), or reads the characters of such a text (`Text::chars`). The script
+copies the characters, makes a text of them (`Text::of`, after its length was found by `cut_len`), or reads the characters of such a text (`Text::chars`). The script
 prints the processor time of one of each, and the ratios to a plain copy. A time is the least of three runs.
 """
 import os
@@ -122,7 +122,7 @@ def main():
         none, copies, texts, readings, one = (seconds(program, words) for words in range(5))
     copy = (copies - none) / TIMES
     print(f"a copy of 16,000,000 characters: {copy * 1000:.1f} ms")
-    for name, spent in (("Text::of", (texts - none) / TIMES), ("Text::chars", (readings - one) / TIMES)):
+    for name, spent in (("cut_len and Text::of", (texts - none) / TIMES), ("Text::chars", (readings - one) / TIMES)):
         print(f"{name}: {spent * 1000:.1f} ms, {spent / copy:.1f} times")
 
 

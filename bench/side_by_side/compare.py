@@ -19,8 +19,10 @@ import tempfile
 import time
 
 HERE = os.path.dirname(os.path.abspath(__file__))
-ROOT = os.path.dirname(os.path.dirname(HERE))
-PROGRAM = os.path.join(ROOT, "crates", "ccm", "out", "ccm")
+sys.path.append(os.path.dirname(HERE))
+
+from program import PROGRAM, is_built  # noqa: E402  (it stands in the folder above)
+
 CODEMIRRORS = (
     "/usr/share/javascript/codemirror/lib/codemirror.js",
     "/usr/share/nodejs/codemirror/lib/codemirror.js",
@@ -41,15 +43,15 @@ Neovim        is called by a script in its own process, and finds a place in its
 
 
 class Peer:
-    """A program: how it is run for so many transactions, and what is to be installed where it isn't there."""
+    """A program: how it is run for so many transactions, and what is missing where it can't be."""
 
     def __init__(self, name, command, install):
         self.name, self.command, self.install = name, command, install
 
 
 def ccm():
-    built = os.access(PROGRAM, os.X_OK)
-    return Peer("ccm", (lambda n: [PROGRAM, "make", str(n)]) if built else None, "./build proves and builds the program")
+    command = (lambda n: [PROGRAM, "make", str(n)]) if is_built() else None
+    return Peer("ccm", command, "it isn't built, or a source is newer than it; ./build proves and builds it")
 
 
 def codemirror():
@@ -58,14 +60,14 @@ def codemirror():
     path = next((p for p in ((given,) if given else CODEMIRRORS) if os.path.exists(p)), None)
     there = node and path
     command = (lambda n: [node, os.path.join(HERE, "codemirror5.js"), path, str(n)]) if there else None
-    return Peer("CodeMirror 5", command, "apt-get install nodejs libjs-codemirror")
+    return Peer("CodeMirror 5", command, "it isn't installed; apt-get install nodejs libjs-codemirror")
 
 
 def neovim():
     nvim = os.environ.get("NVIM") or shutil.which("nvim")
     script = os.path.join(HERE, "neovim.lua")
     command = (lambda n: [nvim, "--clean", "--headless", "-n", "-c", f"let g:count = {n}", "-c", f"luafile {script}"]) if nvim else None
-    return Peer("Neovim", command, "apt-get install neovim")
+    return Peer("Neovim", command, "it isn't installed; apt-get install neovim")
 
 
 def run(command):
@@ -109,7 +111,7 @@ def main():
     peers = [ccm(), codemirror(), neovim()]
     for peer in peers:
         if not peer.command:
-            print(f"{peer.name} isn't there: {peer.install}", file=sys.stderr)
+            print(f"{peer.name} is left out: {peer.install}", file=sys.stderr)
     there = [peer for peer in peers if peer.command]
     if not there:
         raise SystemExit(1)
