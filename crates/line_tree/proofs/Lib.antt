@@ -4,6 +4,7 @@ pub mod Concats
 pub mod Joins
 pub mod Seams
 pub mod PartPlaces
+pub mod PartEdits
 pub mod Nodes
 pub mod LineCounts
 pub mod Breaking

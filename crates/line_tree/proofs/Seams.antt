@@ -35,7 +35,7 @@ two_joined a b = ap (λ r. a.characters ++ 10 ∷ r) (append-nil b.characters)
 pub one_joined : (a : TextView) → joined (a ∷ []) ≡ a.characters
 one_joined a = append-nil a.characters
 
-regroup : (l b f a : List ℕ) → (l ++ (b ++ f)) ++ a ≡ l ++ (b ++ (f ++ a))
+pub regroup : (l b f a : List ℕ) → (l ++ (b ++ f)) ++ a ≡ l ++ (b ++ (f ++ a))
 regroup l b f a = append_assoc l (b ++ f) a ∙ ap (λ r. l ++ r) (append_assoc b f a)
 
 -- what stands between two lists of parts takes the place of the last part of one and the first of the other

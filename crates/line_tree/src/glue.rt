@@ -2,13 +2,13 @@ ghost use Rattle.std.specs.Prelude.{◌≡◌, ◌++◌, ◌∷◌, [], ◌+◌,
 ghost use Rattle.line_tree.specs.Text.{line_feed, replaced};
 ghost use Rattle.line_tree.specs.Breaks.{count_breaks};
 ghost use Rattle.line_tree.specs.Parts.{after_break, HaveHeight};
-ghost use Rattle.line_tree.specs.Places.{AddsBoth, IsLevel, before_break};
+ghost use Rattle.line_tree.specs.Places.{AddsBoth, AddsTexts, IsLevel, before_break};
 
 use crate::leaf::Leaf;
 use crate::leaf_builder::LeafBuilder;
 use crate::text::{Node, Text};
 use crate::tree::{add_copies, add_level, add_lines, join_copies, one_text};
-use std::alloc::{AllocError, Global};
+use std::alloc::AllocError;
 use std::slice;
 
 /// The parts of a text of this height, or else the text alone.
@@ -144,35 +144,26 @@ pub(crate) fn before_parts(
     append_lines(&text, &suffix)
 }
 
-/// The lines of a leaf with those of another in place of the characters from `from` to `to`.
+/// Adds one or two leaves that have the lines of a leaf with those of another in place of the characters from `from` to `to`.
 pub(crate) fn replace_lines(
     leaf: &Leaf,
     from: u32,
     to: u32,
     inserted: &Leaf,
-) -> Result<Text, AllocError>
+    out: &mut Vec<Text>,
+) -> Result<(), AllocError>
     requires order { from ≤ to }
     requires within { to ≤ length leaf.now }
     requires few { count_breaks leaf.now < 64 }
     requires few_inserted { count_breaks inserted.now < 64 }
     requires fits { length leaf.now - (to - from) + length inserted.now < 2 ^ 32 }
-    ensures { IfOk result (λ t. t.characters ≡ replaced from to inserted.now leaf.now) }
+    ensures { OnOk result (AddsTexts 0 (replaced from to inserted.now leaf.now) out.old.items out.new.items) }
 {
     let alloc = leaf.alloc();
-    let mut builder = LeafBuilder::new(alloc);
+    let len = leaf.len() - (to - from) + inserted.len();
+    let mut builder = LeafBuilder::with_room(alloc, len)?;
     builder.push_leaf_slice(leaf, 0, from)?;
     builder.push_leaf(inserted)?;
     builder.push_leaf_slice(leaf, to, leaf.len() - to)?;
-    lines_of_leaf(alloc, builder.finish()?)
-}
-
-/// The text of some lines, of which there are at most 127.
-fn lines_of_leaf(alloc: Global, leaf: Leaf) -> Result<Text, AllocError>
-    requires few { count_breaks leaf < 127 }
-    requires fits { length leaf < 2 ^ 32 }
-    ensures { IfOk result (λ t. t.characters ≡ leaf) }
-{
-    let mut texts = Vec::new(alloc);
-    add_lines(alloc, leaf, &mut texts)?;
-    one_text(alloc, texts, 0)
+    add_lines(alloc, builder.finish()?, out)
 }

@@ -117,6 +117,20 @@ impl LeafBuilder {
         }
     }
 
+    /// A builder with room for so many characters, as far as they aren't put into pieces.
+    pub(crate) fn with_room(alloc: Global, len: u32) -> Result<LeafBuilder, AllocError>
+        ensures { IfOk result (λ b. b ≡ []) }
+    {
+        let last = Vec::with_capacity(alloc, (len as usize).min(PIECE_LEN))?;
+        Ok(LeafBuilder {
+            chunks: Vec::new(alloc),
+            pieces: Vec::new(alloc),
+            last,
+            len: 0,
+            breaks: 0,
+        })
+    }
+
     pub(crate) fn len(&self) -> u32
         ensures { result ≡ length self.now }
     {
@@ -385,7 +399,7 @@ impl Leaf {
         requires { from + count ≤ length self.now }
         ensures { IfOk result (λ l. l ≡ take count (drop from self.now)) }
     {
-        let mut builder = LeafBuilder::new(self.alloc());
+        let mut builder = LeafBuilder::with_room(self.alloc(), count)?;
         builder.push_leaf_slice(self, from, count)?;
         builder.finish()
     }

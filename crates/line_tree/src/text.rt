@@ -1,8 +1,9 @@
-ghost use Rattle.std.specs.Prelude.{◌≡◌, ◌++◌, ◌+◌, ◌-◌, ◌^◌, ◌≤◌, ◌<◌, ◌↔◌, [], length, take, drop, IfOk, OnOk, IsTrue, true, false, string_bytes, encode_utf8_all};
+ghost use Rattle.std.specs.Prelude.{◌≡◌, ◌++◌, ◌+◌, ◌-◌, ◌^◌, ◌≤◌, ◌<◌, ◌↔◌, [], length, take, drop, IfOk, IfSome, OnOk, IsTrue, true, false, string_bytes, encode_utf8_all};
 ghost use Rattle.line_tree.specs.Text.{cut, cut_after, slice, replaced, HasNoReturn, BeginsWithReturn};
 ghost use Rattle.line_tree.specs.Lines.{lines_of, IsLineOf};
 ghost use Rattle.line_tree.specs.Parts.{ArePartsOf};
 ghost use Rattle.line_tree.specs.Breaks.{count_breaks, IsBreakAt};
+ghost use Rattle.line_tree.specs.Places.{AddsTexts};
 ghost use Rattle.line_tree.specs.LineEnds.{StartsLine, EndsLine};
 
 use crate::builder::TextBuilder;
@@ -10,7 +11,7 @@ use crate::glue::{after_parts, append_glued, before_parts, replace_lines};
 use crate::leaf::Leaf;
 use crate::line::Line;
 use crate::parts::{part_at, part_of_break};
-use crate::tree::make_leaf;
+use crate::tree::{add_copies, add_level, make_leaf, one_text};
 use std::alloc::{AllocError, Global};
 use std::marker::Model;
 use std::rc::Rc;
@@ -424,13 +425,72 @@ impl Text {
         requires fits { length self.now.characters - (to - from) + length inserted.now.characters < 2 ^ 32 }
         ensures { IfOk result (λ t. t.characters ≡ replaced from to inserted.now.characters self.now.characters) }
     {
-        match (&*self.node, &*inserted.node) {
-            (Node::Leaf(leaf), Node::Leaf(inserted)) => replace_lines(leaf, from, to, inserted),
-            _ => self.replace_parts(from, to, inserted),
+        let Node::Leaf(lines) = &*inserted.node else {
+            return self.replace_parts(from, to, inserted);
+        };
+        match self.replace_in_leaf(from, to, lines)? {
+            Some(text) => Ok(text),
+            None => self.replace_parts(from, to, inserted),
         }
     }
 
-    /// The same of a text or an inserted text that has parts.
+    /// The same of inserted lines, if the characters that they replace stand in one leaf.
+    fn replace_in_leaf(&self, from: u32, to: u32, lines: &Leaf) -> Result<Option<Text>, AllocError>
+        requires order { from ≤ to }
+        requires within { to ≤ length self.now.characters }
+        requires few { count_breaks lines.now < 64 }
+        requires fits { length self.now.characters - (to - from) + length lines.now < 2 ^ 32 }
+        ensures { IfOk result (λ r. IfSome r (λ t. t.characters ≡ replaced from to lines.now self.now.characters)) }
+    {
+        let alloc = self.alloc();
+        let mut texts = Vec::new(alloc);
+        if self.add_replaced(from, to, lines, &mut texts)? {
+            Ok(Some(one_text(alloc, texts, self.levels())?))
+        } else {
+            Ok(None)
+        }
+    }
+
+    /// Adds one or two texts, as high as this one, that are this text with some lines in place of the characters from
+    /// `from` to `to`, if these stand in one leaf. Only the nodes above that leaf are made anew. Whether they do.
+    fn add_replaced(
+        &self,
+        from: u32,
+        to: u32,
+        lines: &Leaf,
+        out: &mut Vec<Text>,
+    ) -> Result<bool, AllocError>
+        requires order { from ≤ to }
+        requires within { to ≤ length self.now.characters }
+        requires few { count_breaks lines.now < 64 }
+        requires fits { length self.now.characters - (to - from) + length lines.now < 2 ^ 32 }
+        ensures { IfOk result (λ done. IsTrue done → AddsTexts self.now.height (replaced from to lines.now self.now.characters) out.old.items out.new.items) }
+    {
+        match &*self.node {
+            Node::Leaf(leaf) => {
+                replace_lines(leaf, from, to, lines, out)?;
+                Ok(true)
+            }
+            Node::Branch(branch) => {
+                let parts = branch.parts.as_slice();
+                let found = part_at(parts, from);
+                let part = &parts[found.index];
+                if to - found.from > part.len() {
+                    return Ok(false);
+                }
+                let mut texts = Vec::with_capacity(self.alloc(), parts.len() + 1)?;
+                add_copies(&parts[..found.index], &mut texts)?;
+                if !part.add_replaced(from - found.from, to - found.from, lines, &mut texts)? {
+                    return Ok(false);
+                }
+                add_copies(&parts[found.index + 1..], &mut texts)?;
+                add_level(self.alloc(), texts, branch.height - 1, out)?;
+                Ok(true)
+            }
+        }
+    }
+
+    /// The same of characters of several leaves, or of an inserted text that has parts.
     fn replace_parts(&self, from: u32, to: u32, inserted: &Text) -> Result<Text, AllocError>
         requires order { from ≤ to }
         requires within { to ≤ length self.now.characters }

@@ -77,22 +77,23 @@ fn has_leaves(alloc: Global, text: &Text, lines: u64) -> Result<bool, AllocError
     Ok(found.lines == lines && found.most <= 64)
 }
 
-/// The tree with ten breaks in its midst replaced by three characters.
-fn changed(alloc: Global) -> Result<Text, AllocError> {
+/// The tree with breaks in its midst, up to a place, replaced by three characters.
+fn changed(alloc: Global, to: u32) -> Result<Text, AllocError> {
     let inserted = text(alloc, &['a', '\n', 'b'])?;
-    replaced(&breaks(alloc)?, 1000, 1010, &inserted)
+    replaced(&breaks(alloc)?, 1000, to, &inserted)
 }
 
 #[test]
 fn leaves_are_found_through_the_parts(rt: HostRuntime) -> Result<(), Fail> {
     assert!(rt; has_leaves(rt.alloc(), &breaks(rt.alloc())?, 4097)?);
-    assert!(rt; has_leaves(rt.alloc(), &changed(rt.alloc())?, 4088)?);
+    assert!(rt; has_leaves(rt.alloc(), &changed(rt.alloc(), 1010)?, 4088)?);
+    assert!(rt; has_leaves(rt.alloc(), &changed(rt.alloc(), 1100)?, 3998)?);
     Ok(())
 }
 
 #[test]
 fn a_change_reaches_a_few_lines(rt: HostRuntime) -> Result<(), Fail> {
-    let text = changed(rt.alloc())?;
+    let text = changed(rt.alloc(), 1010)?;
     let want = Line {
         number: 1002,
         from: 1002,
