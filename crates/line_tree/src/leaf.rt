@@ -75,6 +75,18 @@ fn chunk_of_break(chunks: &[Chunk], before: u32) -> Found
     unreachable!()
 }
 
+/// How many breaks are among the characters of the chunks.
+fn breaks_of(chunks: &[Chunk]) -> u32
+    requires { length (concat chunks.now) < 2 ^ 32 }
+    ensures { result ≡ count_breaks (concat chunks.now) }
+{
+    let mut breaks = 0;
+    for chunk in chunks {
+        breaks += chunk.breaks();
+    }
+    breaks
+}
+
 /// How many breaks stand before a place.
 fn breaks_to(chunks: &[Chunk], pos: u32) -> u32
     requires within { pos < length (concat chunks.now) }
@@ -141,9 +153,10 @@ impl Leaf {
         requires { before < count_breaks self.now }
         ensures { IsBreakAt self.now before result }
     {
-        let first = self.breaks - breaks_in(self.last.as_slice());
+        let chunks = self.chunks.as_slice();
+        let first = breaks_of(chunks);
         if before < first {
-            return place_of_break(self.chunks.as_slice(), before);
+            return place_of_break(chunks, before);
         }
         let start = self.len - self.last.len() as u32;
         start + break_place_in(self.last.as_slice(), before - first) as u32
