@@ -6,7 +6,7 @@ use std::marker::Model;
 use std::rc::Rc;
 
 /// The greatest number of characters that are put into one piece.
-pub(crate) const PIECE_LEN: usize = 1024;
+pub(crate) const PIECE_LEN: usize = 2048;
 
 /// Some characters that leaves share. Their numbers stand beside them, so that looking for a place reads no characters.
 #[derive(Drop)]
