@@ -1,4 +1,4 @@
-ghost use Rattle.std.specs.Prelude.{◌≡◌, ◌++◌, ◌+◌, ◌^◌, ◌≤◌, ◌<◌, length, take, drop, OnOk};
+ghost use Rattle.std.specs.Prelude.{◌≡◌, ◌++◌, ◌+◌, ◌^◌, ◌≤◌, ◌<◌, length, take, drop, IfOk, OnOk};
 
 use crate::builder::TextBuilder;
 use crate::text::Text;
@@ -77,6 +77,22 @@ impl<'a> TextCursor<'a> {
         ensures { self.new ≡ drop count self.old }
     {
         self.pos += count;
+    }
+
+    /// The next characters as a text, which shares all where they are the whole text. `Err`: out of memory.
+    pub fn next_text(&mut self, count: u32) -> Result<Text, AllocError>
+        requires { count ≤ length self.old }
+        ensures text { IfOk result (λ t. t.characters ≡ take count self.old) }
+        ensures left { OnOk result (self.new ≡ drop count self.old) }
+    {
+        if count == self.len {
+            let text = self.text.try_copy()?;
+            self.pos += count;
+            return Ok(text);
+        }
+        let mut builder = TextBuilder::new(self.text.alloc());
+        self.copy_to(count, &mut builder)?;
+        builder.finish()
     }
 
     /// Puts the next characters into a text that is made. `Err`: out of memory.
