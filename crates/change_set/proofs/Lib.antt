@@ -8,6 +8,7 @@ pub mod Sizes
 pub mod RunningTotals
 pub mod Refused
 pub mod Later
+pub mod Still
 pub mod OneReplace
 pub mod Ascending
 pub mod Filtering

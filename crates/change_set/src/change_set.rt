@@ -143,6 +143,9 @@ impl ChangeSet {
         requires { old_size self.now ≡ length document.now.characters }
         ensures { IfOk result (λ text. text.characters ≡ apply self.now document.now.characters) }
     {
+        if self.is_empty() {
+            return document.try_copy();
+        }
         let sections = self.sections.as_slice();
         match only_replace(sections) {
             Some(replace) => document.replace(replace.from, replace.to, replace.text),
