@@ -18,6 +18,7 @@ only-all n t = record {
   order = omega arith;
   within = omega arith;
   size = omega arith;
+  texts = append-nil t;
   gives = λ doc h. let e : 0 + n ≡ n = omega arith in rw e (rest_none n t doc (omega arith));
 }
 
@@ -26,6 +27,7 @@ only-last a n t = record {
   order = omega arith;
   within = omega arith;
   size = omega arith;
+  texts = append-nil t;
   gives = λ doc h. ap (λ r. take a doc ++ r) (rest_none (a + n) t doc (omega arith));
 }
 
@@ -34,6 +36,7 @@ only-first n b t = record {
   order = omega arith;
   within = omega arith;
   size = omega arith;
+  texts = append-nil t;
   gives = λ doc h. let e : 0 + n ≡ n = omega arith in rw e (ap (λ r. t ++ r) (rest_kept n b t doc (omega arith)));
 }
 
@@ -42,6 +45,7 @@ only-between a n b t = record {
   order = omega arith;
   within = omega arith;
   size = omega arith;
+  texts = append-nil t;
   gives = λ doc h.
       ap (λ r. take a doc ++ (t ++ (take b r ++ []))) (drop-drop n a doc) ∙ ap (λ r. take a doc ++ (t ++ r)) (rest_kept (a + n) b t doc (omega arith));
 }

@@ -192,11 +192,10 @@ impl ChangeSet {
         ensures back { IfOk result (λ back. back ≡ invert self.now document.now.characters) }
         ensures leads_back { IfOk result (λ back. LeadsBack self.now back document.now.characters) }
     {
-        let alloc = *self.sections.allocator();
-        let mut sections = SmallVec::new(alloc);
+        let mut sections = SmallVec::new(*self.sections.allocator());
         let mut cursor = TextCursor::new(document);
         for section in self.sections.as_slice() {
-            let back = turned(alloc, section, &mut cursor)?;
+            let back = turned(section, &mut cursor)?;
             sections.push(back)?;
         }
         Ok(ChangeSet { sections })
@@ -307,7 +306,11 @@ impl ChangeSet {
     fn own_text(&self) -> Result<Text, AllocError>
         ensures { IfOk result (λ text. text.characters ≡ written self.now) }
     {
-        written(*self.sections.allocator(), self.sections.as_slice())
+        let sections = self.sections.as_slice();
+        match only_replace(sections) {
+            Some(replace) => replace.text.try_copy(),
+            None => written(*self.sections.allocator(), sections),
+        }
     }
 
     /// The lengths of this set and then the next.

@@ -25,18 +25,12 @@ pub(crate) fn written(alloc: Global, sections: &[Section<InsertedText>]) -> Resu
 }
 
 /// The text of the next characters.
-pub(crate) fn next_text(
-    alloc: Global,
-    cursor: &mut TextCursor<'_>,
-    len: u32,
-) -> Result<InsertedText, AllocError>
+pub(crate) fn next_text(cursor: &mut TextCursor<'_>, len: u32) -> Result<InsertedText, AllocError>
     requires { len ≤ length cursor.old }
     ensures text { IfOk result (λ text. text ≡ take len cursor.old) }
     ensures left { OnOk result (cursor.new ≡ drop len cursor.old) }
 {
-    let mut builder = TextBuilder::new(alloc);
-    cursor.copy_to(len, &mut builder)?;
-    let text = builder.finish()?;
+    let text = cursor.next_text(len)?;
     Ok(InsertedText::of(text))
 }
 
@@ -55,7 +49,7 @@ pub(crate) fn filled(
         match section {
             Section::Keep(count) => sections.push(Section::Keep(*count))?,
             Section::Replace(count, len) => {
-                let text = next_text(alloc, &mut cursor, *len)?;
+                let text = next_text(&mut cursor, *len)?;
                 sections.push(Section::Replace(*count, text))?;
             }
         }
@@ -153,7 +147,6 @@ pub(crate) fn applied(
 
 /// The section that leads back over the rest of an old document, which begins where the section does.
 pub(crate) fn turned(
-    alloc: Global,
     section: &Section<InsertedText>,
     cursor: &mut TextCursor<'_>,
 ) -> Result<Section<InsertedText>, AllocError>
@@ -167,7 +160,7 @@ pub(crate) fn turned(
             Ok(Section::Keep(*count))
         }
         Section::Replace(count, text) => {
-            let old = next_text(alloc, cursor, *count)?;
+            let old = next_text(cursor, *count)?;
             Ok(Section::Replace(text.len(), old))
         }
     }
