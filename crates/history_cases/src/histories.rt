@@ -316,8 +316,10 @@ fn counts_after(
 
 #[test]
 fn many_steps_are_undone(rt: HostRuntime) -> Result<(), Fail> {
-    let counts = counts_after(rt.alloc(), 2_000, 1_000_000)?;
-    assert!(rt; counts == ((0, 2_000), (0, 2_000)));
+    for (count, depth, undone) in &[(2_000, 1_000_000, 2_000), (30, 3, 3)] {
+        let counts = counts_after(rt.alloc(), *count, *depth)?;
+        assert!(rt; counts == ((0, *undone), (0, *undone)));
+    }
     Ok(())
 }
 
