@@ -159,7 +159,7 @@ pub(crate) fn items_over(
     ensures items { IfOk result (λ moved. moved.items ≡ items_over over.now items.now) }
     ensures stays { IfOk result (λ moved. moved.newest_stays ≡ newest_stays over.now items.now) }
 {
-    let mut all = Vec::new(alloc);
+    let mut all = Vec::with_capacity(alloc, items.len())?;
     let Some((newest, others)) = items.split_first() else {
         return Ok(MovedItems {
             items: Items::empty(),
