@@ -159,11 +159,6 @@ pub(crate) fn replace_lines(
     requires fits { length leaf.now - (to - from) + length inserted.now < 2 ^ 32 }
     ensures { OnOk result (AddsTexts 0 (replaced from to inserted.now leaf.now) out.old.items out.new.items) }
 {
-    let alloc = leaf.alloc();
-    let len = leaf.len() - (to - from) + inserted.len();
-    let mut builder = LeafBuilder::with_room(alloc, len)?;
-    builder.push_leaf_slice(leaf, 0, from)?;
-    builder.push_leaf(inserted)?;
-    builder.push_leaf_slice(leaf, to, leaf.len() - to)?;
-    add_lines(alloc, builder.finish()?, out)
+    let made = leaf.replaced(from, to, inserted)?;
+    add_lines(leaf.alloc(), made, out)
 }

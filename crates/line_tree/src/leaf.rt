@@ -1,4 +1,4 @@
-ghost use Rattle.std.specs.Prelude.{◌≡◌, ◌+◌, ◌^◌, ◌<◌, ◌≤◌, length, take, drop, IfOk};
+ghost use Rattle.std.specs.Prelude.{◌≡◌, ◌+◌, ◌^◌, ◌<◌, ◌≤◌, length, take, drop, IfOk, IfSome};
 ghost use Rattle.std.specs.List.{concat};
 ghost use Rattle.line_tree.specs.Breaks.{count_breaks, IsBreakAt};
 ghost use Rattle.line_tree.specs.Pieces.{HoldsPlace, HoldsBreak};
@@ -120,6 +120,31 @@ fn run_in(chunks: &[Chunk], pos: u32) -> &[char]
 }
 
 impl Leaf {
+    /// The leaf of a row of characters with so many breaks.
+    pub(crate) fn of_row(row: Vec<char>, breaks: u32) -> Leaf
+        requires breaks { breaks ≡ count_breaks row.items }
+        requires fits { length row.items < 2 ^ 32 }
+        ensures { result ≡ row.items }
+    {
+        Leaf {
+            chunks: Vec::new(*row.allocator()),
+            len: row.len() as u32,
+            last: row,
+            breaks,
+        }
+    }
+
+    /// The characters, if they stand in one row.
+    pub(crate) fn row(&self) -> Option<&[char]>
+        ensures { IfSome result (λ row. row.now ≡ self.now) }
+    {
+        if self.chunks.is_empty() {
+            Some(self.last.as_slice())
+        } else {
+            None
+        }
+    }
+
     pub(crate) fn alloc(&self) -> Global {
         *self.chunks.allocator()
     }

@@ -1,6 +1,7 @@
-ghost use Rattle.std.specs.Prelude.{◌≡◌, ◌++◌, ◌+◌, ◌^◌, ◌<◌, ◌≤◌, [], length, take, drop, IfOk, OnOk, OnErr};
+ghost use Rattle.std.specs.Prelude.{◌≡◌, ◌++◌, ◌+◌, ◌-◌, ◌^◌, ◌<◌, ◌≤◌, [], length, take, drop, IfOk, OnOk, OnErr};
 ghost use Rattle.std.specs.List.{concat};
 ghost use Rattle.line_tree.specs.Breaks.{count_breaks};
+ghost use Rattle.line_tree.specs.Text.{replaced};
 
 use crate::chunk::{CHUNK_LEN, Chunk, push_piece};
 use crate::leaf::Leaf;
@@ -403,4 +404,62 @@ impl Leaf {
         builder.push_leaf_slice(self, from, count)?;
         builder.finish()
     }
+
+    /// The leaf with the characters of another in place of those from `from` to `to`.
+    pub(crate) fn replaced(&self, from: u32, to: u32, inserted: &Leaf) -> Result<Leaf, AllocError>
+        requires order { from ≤ to }
+        requires within { to ≤ length self.now }
+        requires fits { length self.now - (to - from) + length inserted.now < 2 ^ 32 }
+        ensures { IfOk result (λ l. l ≡ replaced from to inserted.now self.now) }
+    {
+        let len = self.len() - (to - from) + inserted.len();
+        if len as usize > PIECE_LEN {
+            return self.rebuilt(from, to, inserted);
+        }
+        match (self.row(), inserted.row()) {
+            (Some(row), Some(lines)) => {
+                let removed = breaks_in(&row[from as usize..to as usize]);
+                let breaks = self.breaks() - removed + inserted.breaks();
+                let made = row_replaced(self.alloc(), row, from, to, lines)?;
+                Ok(Leaf::of_row(made, breaks))
+            }
+            _ => self.rebuilt(from, to, inserted),
+        }
+    }
+
+    /// The same, put together of pieces and chunks.
+    fn rebuilt(&self, from: u32, to: u32, inserted: &Leaf) -> Result<Leaf, AllocError>
+        requires order { from ≤ to }
+        requires within { to ≤ length self.now }
+        requires fits { length self.now - (to - from) + length inserted.now < 2 ^ 32 }
+        ensures { IfOk result (λ l. l ≡ replaced from to inserted.now self.now) }
+    {
+        let len = self.len() - (to - from) + inserted.len();
+        let mut builder = LeafBuilder::with_room(self.alloc(), len)?;
+        builder.push_leaf_slice(self, 0, from)?;
+        builder.push_leaf(inserted)?;
+        builder.push_leaf_slice(self, to, self.len() - to)?;
+        builder.finish()
+    }
+}
+
+/// A row of characters with others in place of those from `from` to `to`.
+fn row_replaced(
+    alloc: Global,
+    row: &[char],
+    from: u32,
+    to: u32,
+    inserted: &[char],
+) -> Result<Vec<char>, AllocError>
+    requires order { from ≤ to }
+    requires within { to ≤ length row.now }
+    requires fits { length row.now - (to - from) + length inserted.now < 2 ^ 32 }
+    ensures { IfOk result (λ v. v.items ≡ replaced from to inserted.now row.now) }
+{
+    let rest = &row[to as usize..];
+    let mut made = Vec::with_capacity(alloc, from as usize + inserted.len() + rest.len())?;
+    made.extend_from_slice(&row[..from as usize])?;
+    made.extend_from_slice(inserted)?;
+    made.extend_from_slice(rest)?;
+    Ok(made)
 }
