@@ -12,6 +12,7 @@ mod chunk_builder;
 mod chunk_iter;
 mod group;
 mod group_builder;
+mod group_list;
 mod iter;
 mod moving;
 mod opening;

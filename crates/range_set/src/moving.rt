@@ -14,6 +14,7 @@ use crate::chunk::{Chunk, Placed};
 use crate::chunk_builder::ChunkBuilder;
 use crate::group::{PlacedGroup, in_three};
 use crate::group_builder::GroupBuilder;
+use crate::group_list::GroupList;
 use crate::opening::opened;
 use crate::range_ref::RangeRef;
 use crate::range_value::RangeValue;
@@ -32,13 +33,13 @@ pub(crate) fn mapped_groups<T: RangeValue, L: Ledger>(
     groups: &[PlacedGroup<T>],
     changes: &Desc,
     mapped: &mut Steps<L>,
-) -> Result<(Vec<PlacedGroup<T>>, usize), AllocError>
+) -> Result<(GroupList<T>, usize), AllocError>
     requires groups { AreGroups T.rules groups.now }
     requires order { first_fault T.rules (flat (spread groups.now)) ≡ None }
     requires room { length (flat (spread groups.now)) < 2 ^ 64 }
     requires inside { EndWithin (old_size changes.now) (flat (spread groups.now)) }
-    ensures groups { IfOk result (λ made. AreGroupsOf T.rules made.0.items made.1) }
-    ensures ranges { IfOk result (λ made. flat (spread made.0.items) ≡ map_ranges T.rules changes.now (flat (spread groups.now))) }
+    ensures groups { IfOk result (λ made. AreGroupsOf T.rules made.0 made.1) }
+    ensures ranges { IfOk result (λ made. flat (spread made.0) ≡ map_ranges T.rules changes.now (flat (spread groups.now))) }
     ensures cost { mapped.new ≤ mapped.old + most_mapped T.rules changes.now (flat (spread groups.now)) }
 {
     let ranges = changes.ranges(true)?;
@@ -56,7 +57,7 @@ fn joined<T: RangeValue>(
     chunks: Vec<Placed<T>>,
     after: &[PlacedGroup<T>],
     changes: &Desc,
-) -> Result<(Vec<PlacedGroup<T>>, usize), AllocError>
+) -> Result<(GroupList<T>, usize), AllocError>
     requires before { AreGroups T.rules before.now }
     requires after { AreGroups T.rules after.now }
     requires chunks { AreChunks T.rules chunks.items }
@@ -67,8 +68,8 @@ fn joined<T: RangeValue>(
     requires ascend { Ascend 0 (flat (spread before.now) ++ flat (spread after.now)) }
     requires order { Ascend 0 (filter_map (moved T.rules changes.now) (flat (spread before.now)) ++ flat chunks.items) }
     requires room { length (flat (spread before.now)) + length (flat chunks.items) + length (flat (spread after.now)) < 2 ^ 64 }
-    ensures groups { IfOk result (λ made. AreGroupsOf T.rules made.0.items made.1) }
-    ensures ranges { IfOk result (λ made. flat (spread made.0.items) ≡ filter_map (moved T.rules changes.now) (flat (spread before.now)) ++ (flat chunks.items ++ filter_map (moved T.rules changes.now) (flat (spread after.now)))) }
+    ensures groups { IfOk result (λ made. AreGroupsOf T.rules made.0 made.1) }
+    ensures ranges { IfOk result (λ made. flat (spread made.0) ≡ filter_map (moved T.rules changes.now) (flat (spread before.now)) ++ (flat chunks.items ++ filter_map (moved T.rules changes.now) (flat (spread after.now)))) }
 {
     let mut walker = PositionWalker::new(changes);
     let mut builder = GroupBuilder::new(alloc);

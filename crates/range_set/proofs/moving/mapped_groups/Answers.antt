@@ -116,7 +116,7 @@ returns-clause-ranges g c =
     let mapped = map_parts rules d gs c.parted.result.0.now c.parted.result.1.now c.parted.result.2.now parts c.parted.ensures.before c.parted.ensures.after (within (old_size d) (flat (spread gs)) c.requires.inside) in
     let same = ap (λ (ps : List (Placed g.row.T.Denot)). flat ps) c.deref-2.ensures.value ∙ c.in_ok-chunks.ensures.ranges in
     let all = ap (λ rs. filter_map f x ++ (rs ++ filter_map f z)) (c.in_ok-chunks-2.ensures.ranges ∙ ap (map_ranges rules d) same) ∙ sym mapped.goes in
-    IfOk-weaker c.joined.result (λ made. flat (spread made.0.items) ≡ filter_map f x ++ (flat c.in_ok-chunks-2.chunks.items ++ filter_map f z)) (λ made. flat (spread made.0.items) ≡ map_ranges rules d (flat (spread gs)))
+    IfOk-weaker c.joined.result (λ made. flat (spread made.0) ≡ filter_map f x ++ (flat c.in_ok-chunks-2.chunks.items ++ filter_map f z)) (λ made. flat (spread made.0) ≡ map_ranges rules d (flat (spread gs)))
     (λ made e. e ∙ all) c.joined.ensures.ranges
 
 pub returns-clause-cost : goal.returns-clause-cost
