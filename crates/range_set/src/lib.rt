@@ -22,6 +22,7 @@ mod range_ref;
 mod range_set;
 mod range_value;
 mod ranged;
+mod run;
 mod updating;
 
 pub use between::Between;

@@ -10,10 +10,11 @@ ghost use Rattle.range_set.specs.Updating.{AnswersAs, updated, overlaps};
 use crate::between::Between;
 use crate::chunk::Placed;
 use crate::chunk_builder::ChunkBuilder;
+use crate::chunk_iter::ChunkIter;
 use crate::group::PlacedGroup;
 use crate::group_builder::GroupBuilder;
 use crate::group_list::GroupList;
-use crate::iter::Iter;
+use crate::iter::{Iter, same_ranges};
 use crate::moving::{mapped_groups, put_all};
 use crate::opening::opened;
 use crate::points::Points;
@@ -119,7 +120,10 @@ impl<T: RangeValue> RangeSet<T> {
                 last_of(self.groups.as_slice()),
                 last_of(other.groups.as_slice()),
             )
-            && same_ranges(self.iter(), other.iter())
+            && same_ranges(
+                ChunkIter::over(self.groups.as_slice()),
+                ChunkIter::over(other.groups.as_slice()),
+            )
     }
 
     /// The same set once more: both share one list of groups. `Err`: no further owner can be counted.
@@ -339,24 +343,5 @@ fn same_last<T: RangeValue>(left: Option<RangeRef<'_, T>>, right: Option<RangeRe
         (Some(a), Some(b)) => a.same(&b),
         (None, None) => true,
         _ => false,
-    }
-}
-
-/// Whether both have the same ranges.
-fn same_ranges<'a, 'b, T: RangeValue>(left: Iter<'a, T>, right: Iter<'b, T>) -> bool
-    ensures { IsTrue result ↔ (left.entry ≡ right.entry) }
-{
-    let mut left = left;
-    let mut right = right;
-    loop {
-        match (left.next(), right.next()) {
-            (Some(a), Some(b)) => {
-                if !a.same(&b) {
-                    return false;
-                }
-            }
-            (None, None) => return true,
-            _ => return false,
-        }
     }
 }
