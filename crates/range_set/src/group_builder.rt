@@ -60,6 +60,8 @@ impl<T: RangeValue> GroupBuilder<T> {
         ensures ranges { IfOk result (λ _. grouped self.new ≡ grouped self.old ++ placed ∷ []) }
     {
         self.make_room(placed.start, left)?;
+        let more = MAX_CHUNKS.saturating_sub(self.growing.chunks.len());
+        self.growing.chunks.reserve(more.min(left))?;
         let count = placed.chunk.ranges.len();
         self.growing.put(self.start, placed)?;
         self.len += count;

@@ -238,6 +238,7 @@ fn map_each<T: RangeValue, L: Ledger>(
     ensures walk { IfOk result (λ _. (later : _) → Ascend walker.old.reached (map (shift placed.now.start) placed.now.chunk.value.ranges.items ++ later) → Ascend walker.new.reached later) }
     ensures cost { mapped.new ≤ mapped.old + length placed.now.chunk.value.ranges.items }
 {
+    run.reserve(placed.chunk.ranges.len())?;
     for range in &placed.chunk.ranges {
         mapped.tick();
         let range = RangeRef {

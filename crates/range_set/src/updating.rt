@@ -265,6 +265,7 @@ fn keep_each<T: RangeValue, F: Fn(&RangeRef<'_, T>) -> bool>(
     ensures kept { IfOk result (λ _. (p : _) → AnswersAs F.Fn keep.now p → run.new.items ≡ run.old.items ++ filter p (map (shift placed.now.start) placed.now.chunk.value.ranges.items)) }
     ensures part { IfOk result (λ _. KeepsPart (map (shift placed.now.start) placed.now.chunk.value.ranges.items) run.old.items run.new.items) }
 {
+    run.reserve(placed.chunk.ranges.len())?;
     for range in &placed.chunk.ranges {
         let range = RangeRef {
             from: range.from + placed.start,
