@@ -224,9 +224,10 @@ impl<T: RangeValue> RangeSet<T> {
         ensures inside { IfOk result (λ s. EndWithin (new_size counted changes.now) s) }
         ensures cost { mapped.new ≤ mapped.old + most_mapped T.rules changes.now self.now }
     {
-        // The proof takes from this line that the number of ranges fits usize.
-        let _len = self.len();
         let alloc = self.groups.alloc();
+        if self.len() == 0 {
+            return Ok(RangeSet::empty(alloc));
+        }
         let (groups, len) = mapped_groups(alloc, self.groups.as_slice(), changes, mapped)?;
         Ok(RangeSet { groups, len })
     }

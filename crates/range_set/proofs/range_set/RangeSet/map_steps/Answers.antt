@@ -14,8 +14,8 @@ mapped_groups-requires g c =
     let e = c.as_slice.ensures in
     let shown = ap (λ (gs : List (PlacedGroup g.row.T.Denot)). flat (spread gs)) e ∙ c.self.view_is in
     let count = ap length shown in
-    let len = c.len-len.ensures in
-    let fits = c.len-len.type_inv in
+    let len = c.len.ensures in
+    let fits = c.len.type_inv in
     record {
       groups = subst (AreGroups rules) (sym e) c.self.invariant.sound.groups;
       order = ap (λ (gs : List (PlacedGroup g.row.T.Denot)). first_fault rules (flat (spread gs))) e ∙ c.self.invariant.order;
