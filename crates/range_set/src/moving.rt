@@ -43,11 +43,33 @@ pub(crate) fn mapped_groups<T: RangeValue, L: Ledger>(
     ensures cost { mapped.new ≤ mapped.old + most_mapped T.rules changes.now (flat (spread groups.now)) }
 {
     let ranges = changes.ranges(true)?;
-    let index = PositionIndex::new(alloc, changes)?;
     let (before, middle, after) = parted(groups, changes, &ranges);
-    let chunks = opened(alloc, middle)?;
-    let chunks = map_chunks(alloc, &chunks, changes, &ranges, &index, mapped)?;
+    let chunks = map_opened(alloc, middle, changes, &ranges, mapped)?;
     joined(alloc, before, chunks, after, changes)
+}
+
+/// The chunks of groups after changes, where the replaced ranges are given. Without groups no memory is taken. `Err`: out of memory.
+fn map_opened<T: RangeValue, L: Ledger>(
+    alloc: Global,
+    groups: &[PlacedGroup<T>],
+    changes: &Desc,
+    ranges: &[ChangedRange],
+    mapped: &mut Steps<L>,
+) -> Result<Vec<Placed<T>>, AllocError>
+    requires replaced { ranges.now ≡ replaced changes.now }
+    requires groups { AreGroups T.rules groups.now }
+    requires order { first_fault T.rules (flat (spread groups.now)) ≡ None }
+    requires inside { EndWithin (old_size changes.now) (flat (spread groups.now)) }
+    ensures chunks { IfOk result (λ made. AreChunks T.rules made.items) }
+    ensures ranges { IfOk result (λ made. flat made.items ≡ map_ranges T.rules changes.now (flat (spread groups.now))) }
+    ensures cost { mapped.new ≤ mapped.old + most_mapped T.rules changes.now (flat (spread groups.now)) }
+{
+    if groups.is_empty() {
+        return Ok(Vec::new(alloc));
+    }
+    let chunks = opened(alloc, groups)?;
+    let index = PositionIndex::new(alloc, changes)?;
+    map_chunks(alloc, &chunks, changes, ranges, &index, mapped)
 }
 
 /// Groups that changes don't affect, moved and shared, with chunks between them, and how many ranges there are. `Err`: out of memory.
