@@ -159,14 +159,17 @@ fn next_inputs<M: Meanings, L: Ledger>(
     ensures changed { IfOk result (λ n. n.changed ≡ list_any (next_changed M.rules (scene_in draft.now.kept) draft.now.marks.moved (flags_in draft.now.marks) (values_in draft.now.kept) facet.now.compare_input (nodes_before before.now) before.now.kept.now) (map (input_node node_defs.now) nodes.now)) }
     ensures cost { calls.new ≤ calls.old + next_count draft.now.marks.moved (flags_in draft.now.marks) (nodes_before before.now) before.now.kept.now (map (input_node node_defs.now) nodes.now) }
 {
-    let mut inputs = Listed::empty(alloc);
+    let mut inputs = Vec::with_capacity(alloc, nodes.len())?;
     let mut changed = false;
     for node in nodes {
         let next = next_input(alloc, kit, before, node_defs, *node, facet, draft, calls)?;
         changed = changed || next.changed;
         inputs.push(next.outputs)?;
     }
-    Ok(NextInputs { inputs, changed })
+    Ok(NextInputs {
+        inputs: Listed::new(inputs),
+        changed,
+    })
 }
 
 /// Whether a facet is combined anew: an input changed, or its list of nodes differs.
