@@ -1,5 +1,5 @@
 // One facet or field after a transition.
-ghost use Rattle.std.specs.Prelude.{◌≡◌, ◌+◌, ◌≤◌, IfOk, IsSomeAnd, MatchOption, Some, None, []};
+ghost use Rattle.std.specs.Prelude.{◌≡◌, ◌+◌, ◌≤◌, IfOk, IsSomeAnd, IsTrue, MatchOption, Some, None, []};
 ghost use Rattle.std.specs.Option.{unwrap_or, option_map};
 ghost use Rattle.values.specs.Whole.{IsWhole};
 ghost use Rattle.facet_slots.specs.Setups.{facet_at, field_at};
@@ -14,7 +14,7 @@ ghost use Rattle.facet_slots.specs.Lent.{facet_before, facet_in, flags_in, prese
 
 use crate::before::Before;
 use crate::draft::Draft;
-use crate::field::{field_found, kept_field, same_init, value_at};
+use crate::field::{FieldFound, field_found, kept_field, same_init, value_at};
 use crate::input_values::InputValues;
 use crate::kept::Kept;
 use crate::next::{Next, next_facet};
@@ -27,7 +27,7 @@ use listed::Listed;
 use std::alloc::{AllocError, Global};
 use std::sync::ledger::Ledger;
 use steps::Steps;
-use values::{Kit, Meanings};
+use values::{Comparer, Kit, Meanings};
 
 fn kept_inputs(old: &Kept, place: u32) -> &[InputValues]
     ensures { result.now ≡ held_inputs old.now.inputs.items (Vertex.Facet place) }
@@ -178,6 +178,17 @@ pub fn step_facet<M: Meanings, L: Ledger>(
     }
 }
 
+/// Whether the value that was found of a field is known to be the same as the old one.
+fn is_same<M: Meanings>(comparer: &Comparer<M>, old: &SharedVal, found: &FieldFound) -> bool
+    requires compares { Compares M.rules comparer.now }
+    requires old { IsTrue found.now.is_old → old.now ≡ found.now.value }
+    ensures { result ≡ M.rules.compare comparer.now.number old.now found.now.value }
+{
+    (found.is_old && comparer.is_reflexive()) || comparer.call(old.value(), found.value.value())
+}
+
+ghost use Rattle.values.specs.Stored.{Compares};
+
 /// Whether a present field came, was made anew, or has a value that isn't known to be the same.
 fn is_changed<M: Meanings>(
     kit: &Kit<M>,
@@ -185,19 +196,18 @@ fn is_changed<M: Meanings>(
     old: &Kept,
     place: u32,
     field: &Present,
-    value: &SharedVal,
+    found: &FieldFound,
 ) -> bool
     requires whole { IsWhole M.rules kit.now }
     requires lawful { IsLawfulField M.rules (present_of field.now) }
-    ensures { result ≡ field_flag M.rules (field_at (setup_of old_setup.now) place) (Some (present_of field.now)) (values_in old.now (Vertex.Field place)) (Some value.now) }
+    requires old { IsTrue found.now.is_old → values_in old.now (Vertex.Field place) ≡ Some found.now.value }
+    ensures { result ≡ field_flag M.rules (field_at (setup_of old_setup.now) place) (Some (present_of field.now)) (values_in old.now (Vertex.Field place)) (Some found.now.value) }
 {
     match old_setup.field(place) {
         Some(was) => match kept_field(old, place) {
             Some(old) => {
                 !(same_init(was.init, field.init)
-                    && kit
-                        .comparer(field.def.compare)
-                        .call(old.value(), value.value()))
+                    && is_same(kit.comparer(field.def.compare), old, found))
             }
             None => true,
         },
@@ -227,7 +237,7 @@ pub fn step_field<M: Meanings, L: Ledger>(
 {
     match setup.field(place) {
         Some(field) => {
-            let value = field_found(
+            let found = field_found(
                 alloc,
                 kit,
                 transition,
@@ -239,10 +249,10 @@ pub fn step_field<M: Meanings, L: Ledger>(
                 &draft.kept.shelf,
                 calls,
             )?;
-            let flag = is_changed(kit, old_setup, old, place, &field, &value);
+            let flag = is_changed(kit, old_setup, old, place, &field, &found);
             Ok(Next {
                 inputs: Listed::empty(alloc),
-                value: Some(value),
+                value: Some(found.value),
                 flag,
             })
         }
