@@ -14,12 +14,12 @@ ghost use Rattle.facet_slots.specs.Lent.{flags_in, nodes_before, scene_in, value
 
 use crate::before::Before;
 use crate::draft::Draft;
+use crate::facet_inputs::FacetInputs;
 use crate::input_values::InputValues;
 use crate::marks::input_flagged;
 use crate::outputs::{combine, node_outputs};
 use crate::shared_val::SharedVal;
 use configuration::{FacetDef, NodeDef};
-use listed::Listed;
 use std::alloc::{AllocError, Global};
 use std::sync::ledger::Ledger;
 use steps::Steps;
@@ -138,7 +138,7 @@ fn next_input<M: Meanings, L: Ledger>(
 /// What each input of a facet gives, in flat order, and whether one changed.
 #[derive(Drop)]
 struct NextInputs {
-    inputs: Listed<InputValues>,
+    inputs: FacetInputs,
     changed: bool,
 }
 
@@ -167,7 +167,7 @@ fn next_inputs<M: Meanings, L: Ledger>(
         inputs.push(next.outputs)?;
     }
     Ok(NextInputs {
-        inputs: Listed::new(inputs),
+        inputs: FacetInputs::new(alloc, inputs)?,
         changed,
     })
 }
@@ -214,7 +214,7 @@ ghost use Rattle.facet_slots.specs.FacetValues.{joined as joined_of};
 /// A facet or a field after a transition: what its inputs give, its value, none for an absent field, and whether it is flagged.
 #[derive(Drop)]
 pub struct Next {
-    pub inputs: Listed<InputValues>,
+    pub inputs: FacetInputs,
     pub value: Option<SharedVal>,
     pub flag: bool,
 }

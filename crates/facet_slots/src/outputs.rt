@@ -12,6 +12,7 @@ ghost use Rattle.transaction.specs.Numbers.{IsNumber};
 ghost use Rattle.facet_slots.specs.Found.{facet_of, scene_of};
 
 use crate::deps::shown;
+use crate::facet_inputs::FacetInputs;
 use crate::input_values::InputValues;
 use crate::shared_val::SharedVal;
 use crate::shelf::Shelf;
@@ -134,7 +135,7 @@ fn all_outputs<M: Meanings, L: Ledger>(
     nodes: &[u32],
     shelf: &Shelf,
     calls: &mut Steps<L>,
-) -> Result<Listed<InputValues>, AllocError>
+) -> Result<FacetInputs, AllocError>
     requires whole { IsWhole M.rules kit.now }
     requires scene { IsScene (scene_of scene.now) }
     requires lawful { IsLawfulFacet M.rules (facet_of facet.now node_defs.now nodes.now) }
@@ -154,7 +155,7 @@ fn all_outputs<M: Meanings, L: Ledger>(
             calls,
         )?)?;
     }
-    Ok(Listed::new(found))
+    FacetInputs::new(alloc, found)
 }
 
 /// Adds copies of more values.
@@ -203,7 +204,7 @@ pub fn combine<M: Meanings, L: Ledger>(
 /// The value of a facet, and what each of its inputs gave, in flat order.
 #[derive(Drop)]
 pub struct FacetFound {
-    pub inputs: Listed<InputValues>,
+    pub inputs: FacetInputs,
     pub value: SharedVal,
 }
 

@@ -16,7 +16,7 @@ ghost use Rattle.facet_slots.specs.Lent.{flags_in, scene_in, setup_of, state_in,
 ghost use Rattle.facet_slots.specs.Found.{scene_of};
 
 use crate::draft::Draft;
-use crate::input_values::InputValues;
+use crate::facet_inputs::FacetInputs;
 use crate::kept::Kept;
 use crate::marks::Marks;
 use crate::next::Next;
@@ -27,18 +27,17 @@ use crate::shelf::Shelf;
 use crate::step::{step_facet, step_field};
 use crate::transition::Transition;
 use configuration::Vertex;
-use listed::Listed;
 use std::alloc::{AllocError, Global};
 use std::sync::ledger::Ledger;
 use steps::Steps;
 use values::{Kit, Meanings, Scene};
 
-fn no_inputs(alloc: Global, count: usize) -> Result<Vec<Listed<InputValues>>, AllocError>
+fn no_inputs(alloc: Global, count: usize) -> Result<Vec<FacetInputs>, AllocError>
     ensures { IfOk result (λ inputs. length inputs.items ≡ count) }
 {
     let mut inputs = Vec::with_capacity(alloc, count)?;
     for _place in 0..count {
-        inputs.push(Listed::empty(alloc))?;
+        inputs.push(FacetInputs::none())?;
     }
     Ok(inputs)
 }
