@@ -72,8 +72,10 @@ fn updates<L: Ledger>(
 {
     let one = int(1);
     one.known();
-    let new = kit.updater(2).call(&one, view, calls)?;
-    Ok(is_int(&new, 2))
+    match kit.updater(2).call(&one, view, calls)? {
+        Some(new) => Ok(is_int(&new, 2)),
+        None => Ok(false),
+    }
 }
 
 /// Whether the first effect map keeps the one place of the empty text.

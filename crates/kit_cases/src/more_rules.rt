@@ -1,6 +1,6 @@
 // The rules of a stranger, of all sorts, each written out with its clause: a function that handed out rules of one sort would hand
 // out boxed closures. So each function makes two sorts, and passes on what is made.
-ghost use Rattle.std.specs.Prelude.{◌≡◌, All, IfOk};
+ghost use Rattle.std.specs.Prelude.{◌≡◌, All, IfOk, unwrap_or};
 ghost use Rattle.values.specs.Stored.{Combines, Compares, Computes, ComputesLists, Creates, Extends, Filters, Guards, MapsEffects, Updates};
 ghost use Rattle.kit_cases.specs.More.{more};
 
@@ -186,8 +186,8 @@ fn holds_listing(
         {
             let rule: UpdateBox = Box::new(
                 alloc,
-                move |old: &Val, view: &UpdateView| -> Result<Val, AllocError>
-                    ensures { IfOk result (λ v. v ≡ more.update number old.now view.now.transaction view.now.deps) }
+                move |old: &Val, view: &UpdateView| -> Result<Option<Val>, AllocError>
+                    ensures { IfOk result (λ answer. unwrap_or answer old.now ≡ more.update number old.now view.now.transaction view.now.deps) }
                 { update(alloc, number, old, view) },
             )?;
             Ok(Updater::<More>::new(number, rule))

@@ -6,7 +6,7 @@ ghost use Rattle.values.specs.Stored.{Combines, Compares};
 use crate::gate::Before;
 use crate::kit_user::KitUser;
 use crate::reading::lend_reading;
-use shipped_rules::{Shipped, combine, compare, each_or_none};
+use shipped_rules::{Shipped, combine, compare, each_or_none, is_reflexive};
 use std::alloc::{AllocError, Global};
 use values::{CombineBox, Combiner, CompareBox, Comparer, Meanings, Sort, Val};
 
@@ -50,7 +50,11 @@ pub(crate) fn lend_combining<U: KitUser>(
                     ensures { result ≡ shipped.compare number old.now new.now }
                 { compare(number, old, new) },
             )?;
-            Ok(Comparer::<Shipped>::new(number, rule))
+            if is_reflexive(number) {
+                Ok(Comparer::<Shipped>::reflexive(number, rule))
+            } else {
+                Ok(Comparer::<Shipped>::new(number, rule))
+            }
         },
     );
     lend_reading(alloc, before, user, combiners, comparers)
