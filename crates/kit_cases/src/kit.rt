@@ -28,12 +28,17 @@ pub(crate) fn is_int(value: &Val, want: i64) -> bool {
     }
 }
 
-/// Whether the rules that compare and combine answer: the greatest of no numbers is 0, and the same as 0.
+/// Whether the rules that compare and combine answer: the greatest of no numbers is 0, and the same as 0; the first comparer is
+/// known to say 'same' of every value and itself, and the second isn't.
 fn combines<L: Ledger>(kit: &Kit<Shipped>, calls: &mut Steps<L>) -> Result<bool, Fail>
     requires { IsWhole shipped kit.now }
 {
     let greatest = kit.combiner(4).call(&[], calls)?;
-    Ok(kit.comparer(1).call(&greatest, &int(0)))
+    Ok(
+        kit.comparer(1).call(&greatest, &int(0))
+            && kit.comparer(1).is_reflexive()
+            && !kit.comparer(2).is_reflexive(),
+    )
 }
 
 /// Whether the rules that read answer where nothing is read.

@@ -9,7 +9,8 @@ use crate::more_kit::{Case, is_so};
 use change_desc::Desc;
 use listed::Listed;
 use shipped_rules::{
-    compare, compute, compute_list, create, each_or_none, extend, filter, guard, map_effect, update,
+    compare, compute, compute_list, create, each_or_none, extend, filter, guard, is_reflexive,
+    map_effect, update,
 };
 use std::alloc::{AllocError, Global};
 use std::test::Fail;
@@ -277,7 +278,11 @@ pub(crate) fn holds(alloc: Global, case: Case) -> Result<bool, Fail> {
                     ensures { result ≡ more.compare number old.now new.now }
                 { compare(number, old, new) },
             )?;
-            Ok(Comparer::<More>::new(number, rule))
+            if is_reflexive(number) {
+                Ok(Comparer::<More>::reflexive(number, rule))
+            } else {
+                Ok(Comparer::<More>::new(number, rule))
+            }
         },
     );
     holds_reading(alloc, case, combiners, comparers)

@@ -164,15 +164,22 @@ fn what_stays_is_not_made_anew(rt: HostRuntime) -> Result<(), Fail> {
     for (number, old, typed, effects, want) in &[
         (1, Made::Int(3), TYPED, none, true),
         (2, Made::Int(3), IDLE, none, true),
+        (2, Made::Int(3), TYPED, none, false),
         (3, Made::Int(3), TYPED, none, true),
+        (3, Made::Int(3), TYPED, Of(&[Made::Int(3)]), false),
         (4, inside, IDLE, none, true),
         (4, inside, BEFORE, none, false),
         (4, inside, IDLE, Of(&[Made::Unit]), false),
         (4, Made::Ranges(&[(0, 1), (1, 9)]), IDLE, none, false),
+        (4, Made::Set(&[Drawn::Mark(1, 1)]), IDLE, none, false),
         (4, Made::Int(3), IDLE, none, false),
         (5, inside, IDLE, none, true),
+        (5, inside, IDLE, Of(&[Made::Int(0)]), false),
+        (6, Made::Int(3), TYPED, none, true),
         (7, Made::Ints(&[5]), TYPED, Of(&[inside]), true),
+        (7, Made::Ints(&[5]), TYPED, Of(&[Made::Int(5)]), false),
         (7, Made::Int(5), TYPED, none, false),
+        (8, Made::Int(5), IDLE, none, false),
     ] {
         assert!(rt;
             stays(rt.alloc(), *number, *old, *typed, *effects)? == *want,
