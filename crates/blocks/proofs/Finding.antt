@@ -73,6 +73,10 @@ line_block i text js g line k from to joins within is later before number ends =
     let to_is : ends.start.to ≡ to = ap (λ (l : lines.Line). l.to) one ∙ ends.to_is in
     rw (same, ends.from_is, to_is) at found
 
+-- a line starts and ends itself
+pub own_ends : (text : List ℕ) (line : lines.Line) → IsLineOf text line → AreEnds text line.number line.number line.from line.to
+own_ends text line is = record { start = line; end = line; is_start = is; is_end = is; first_is = refl; last_is = refl; from_is = refl; to_is = refl }
+
 -- how many blocks there are
 pub count_is : (text : List ℕ) (js : List Join) (g : Join) → 0 < length (lines_of text) → AreJoins (length (lines_of text)) 0 0 js → g ≡ get_or (none ∷ js) (length js) none → length (joined_blocks text js) ≡ g.number + (length (lines_of text) - g.last)
 count_is text js g some joins is =

@@ -60,7 +60,7 @@ impl Blocks {
         ensures last { IsLineAt self.now.text result.last result.to }
     {
         let line = self.text.line_at(pos);
-        block_of_line(&self.text, &self.joins, line.number)
+        block_of_line(&self.text, &self.joins, line)
     }
 
     /// The block of a number, from 1 to the count of blocks.

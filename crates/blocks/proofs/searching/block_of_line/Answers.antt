@@ -1,12 +1,14 @@
-use Rattle.std.proofs.Common.{arith}
+use Rattle.std.proofs.Common.{◌+◌, ◌-◌, refl, arith}
 use Rattle.blocks.specs.Joins.{none}
-use Rattle.blocks.proofs.Finding.{join_block, line_block, sound_at}
+use Rattle.blocks.proofs.Finding.{join_block, line_block, own_ends, sound_at}
+use Rattle.blocks.proofs.Lines.{line_positive}
 use Rattle.blocks.proofs.searching.block_of_line.Goals as goal
 
 pub lines_block-requires-clause-first : goal.lines_block-requires-clause-first
 lines_block-requires-clause-first c =
     let s = sound_at _ c.args.joins.now.lines c.args.joins.now.list.items c.before-before.result c.requires.order c.count_from.ensures.within c.before-before.ensures in
-    s.first (omega (arith, c.if-line-before.true, c.requires.first))
+    let some = line_positive c.args.text.now.characters c.args.line c.requires.line in
+    s.first (omega (arith, c.if-line-before.true, some))
 
 pub lines_block-requires-clause-last : goal.lines_block-requires-clause-last
 lines_block-requires-clause-last c =
@@ -23,14 +25,21 @@ overflow_add-before c =
 pub returns-then-line-before-clause-block : goal.returns-then-line-before-clause-block
 returns-then-line-before-clause-block c =
     let joins = rw c.requires.lines at c.requires.order in
+    let some = line_positive c.args.text.now.characters c.args.line c.requires.line in
     let found =
     join_block c.count_from.result c.args.text.now.characters c.args.joins.now.list.items c.before-before.result c.lines_block.result.from c.lines_block.result.to joins
-    c.count_from.ensures.within c.before-before.ensures (omega (arith, c.if-line-before.true, c.requires.first)) c.lines_block.ensures.ends in
+    c.count_from.ensures.within c.before-before.ensures (omega (arith, c.if-line-before.true, some)) c.lines_block.ensures.ends in
     rw c.lines_block.ensures.number found
 
 pub returns-else-line-before-clause-block : goal.returns-else-line-before-clause-block
 returns-else-line-before-clause-block c =
     let joins = rw c.requires.lines at c.requires.order in
-    line_block c.count_from.result c.args.text.now.characters c.args.joins.now.list.items c.before-before.result c.args.line c.lines_block-else-line-before.result.number
-    c.lines_block-else-line-before.result.from c.lines_block-else-line-before.result.to joins c.count_from.ensures.within c.before-before.ensures
-    (omega (arith, c.if-line-before.false)) (λ more. c.count_from.ensures.next none more) c.lines_block-else-line-before.ensures.number c.lines_block-else-line-before.ensures.ends
+    let line = c.args.line in
+    let found =
+    line_block c.count_from.result c.args.text.now.characters c.args.joins.now.list.items c.before-before.result line.number (c.before-before.result.number + (line.number - c.before-before.result.last))
+    line.from line.to joins c.count_from.ensures.within c.before-before.ensures (omega (arith, c.if-line-before.false)) (λ more. c.count_from.ensures.next none more) refl
+    (own_ends c.args.text.now.characters line c.requires.line) in
+    rw c.one_line.ensures found
+
+pub returns-else-line-before-clause-ends : goal.returns-else-line-before-clause-ends
+returns-else-line-before-clause-ends c = rw c.one_line.ensures (own_ends c.args.text.now.characters c.args.line c.requires.line)

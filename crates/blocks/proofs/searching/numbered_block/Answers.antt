@@ -1,8 +1,8 @@
-use Rattle.std.proofs.Common.{◌≡◌, ℕ, ◌+◌, ◌-◌, ◌≤◌, List, get_or, ◌∷◌, arith}
+use Rattle.std.proofs.Common.{◌≡◌, ℕ, ◌≤◌, List, get_or, ◌∷◌, arith}
 use Rattle.blocks.specs.Joins.{none}
 use Rattle.blocks.specs.declared.joins.Join.{Join}
 use Rattle.blocks.proofs.Covered.{some_line}
-use Rattle.blocks.proofs.Finding.{join_block, line_block, line_in, sound_at}
+use Rattle.blocks.proofs.Finding.{join_block, line_block, line_in, own_ends, sound_at}
 use Rattle.blocks.proofs.searching.numbered_block.Goals as goal
 
 pub lines_block-requires-clause-first : goal.lines_block-requires-clause-first
@@ -24,14 +24,14 @@ lines_block-requires-clause-last c =
 begun_by : (js : List Join) (i n : ℕ) (g : Join) → g ≡ get_or (none ∷ js) i none → (get_or (none ∷ js) i none).number ≤ n → g.number ≤ n
 begun_by js i n g is at = rw is at
 
-pub lines_block-requires-else-number-before-clause-last : goal.lines_block-requires-else-number-before-clause-last
-lines_block-requires-else-number-before-clause-last c =
+pub line-line-requires-clause-last : goal.line-line-requires-clause-last
+line-line-requires-clause-last c =
     let joins = rw c.requires.lines at c.requires.order in
     (line_in c.count_to.result c.args.number c.args.text.now.characters c.args.joins.now.list.items c.before-before.result (some_line c.args.text.now.characters) joins
     c.count_to.ensures.within c.before-before.ensures (λ more. c.count_to.ensures.next none more) (begun_by c.args.joins.now.list.items c.count_to.result c.args.number c.before-before.result c.before-before.ensures c.count_to.ensures.begun) c.requires.last).0
 
-pub overflow_add-line : goal.overflow_add-line
-overflow_add-line c =
+pub overflow_add-before : goal.overflow_add-before
+overflow_add-before c =
     let joins = rw c.requires.lines at c.requires.order in
     let inside =
     (line_in c.count_to.result c.args.number c.args.text.now.characters c.args.joins.now.list.items c.before-before.result (some_line c.args.text.now.characters) joins
@@ -62,6 +62,14 @@ returns-else-number-before-clause-block c =
     let inside =
     line_in c.count_to.result c.args.number c.args.text.now.characters c.args.joins.now.list.items c.before-before.result (some_line c.args.text.now.characters) joins
     c.count_to.ensures.within c.before-before.ensures (λ more. c.count_to.ensures.next none more) from c.requires.last in
-    line_block c.count_to.result c.args.text.now.characters c.args.joins.now.list.items c.before-before.result (c.before-before.result.last + (c.args.number - c.before-before.result.number)) c.args.number
-    c.lines_block-else-number-before.result.from c.lines_block-else-number-before.result.to joins c.count_to.ensures.within c.before-before.ensures
-    (omega (arith, from, c.if-number-before.false)) inside.1 (omega (arith, from)) c.lines_block-else-number-before.ensures.ends
+    let line = c.line-line.result in
+    let number = c.line-line.ensures.number in
+    let found =
+    line_block c.count_to.result c.args.text.now.characters c.args.joins.now.list.items c.before-before.result line.number c.args.number
+    line.from line.to joins c.count_to.ensures.within c.before-before.ensures
+    (omega (arith, from, number, c.if-number-before.false)) (λ more. let here = inside.1 more in omega (arith, here, number)) (omega (arith, from, number))
+    (own_ends c.args.text.now.characters line c.line-line.ensures.line) in
+    rw c.one_line.ensures found
+
+pub returns-else-number-before-clause-ends : goal.returns-else-number-before-clause-ends
+returns-else-number-before-clause-ends c = rw c.one_line.ensures (own_ends c.args.text.now.characters c.line-line.result c.line-line.ensures.line)

@@ -1,16 +1,5 @@
-use Rattle.std.proofs.Common.{arith}
-use Rattle.blocks.proofs.Lines.{line_positive, line_within}
 use Rattle.blocks.proofs.Finding.{ends_by, first_line, last_line, starts_by}
 use Rattle.blocks.proofs.blocks.Blocks.at.Goals as goal
-
-pub block_of_line-requires-clause-first : goal.block_of_line-requires-clause-first
-block_of_line-requires-clause-first c = line_positive c.self.inside.text.characters c.line_at-line.result c.line_at-line.ensures.line
-
-pub block_of_line-requires-clause-last : goal.block_of_line-requires-clause-last
-block_of_line-requires-clause-last c =
-    let within = line_within c.self.inside.text.characters c.line_at-line.result c.line_at-line.ensures.line in
-    let lines = c.self.invariant.0 in
-    omega (arith, within, lines)
 
 pub returns-clause-starts : goal.returns-clause-starts
 returns-clause-starts c = starts_by _ _ _ _ _ c.args.pos c.line_at-line.result c.block_of_line.ensures.ends c.line_at-line.ensures.line c.block_of_line.ensures.starts c.line_at-line.ensures.starts
