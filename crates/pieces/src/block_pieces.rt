@@ -19,7 +19,7 @@ use crate::piece::Pieces;
 use crate::shading::{block_style, style_ranges};
 use crate::style_range::{StyleRange, styles_of};
 use decoration::{Layers, Style};
-use line_tree::Text;
+use line_tree::{Text, TextCursor};
 use selection::Selection;
 use std::alloc::{AllocError, Global};
 use unicode_segmentation::UnicodeSegmentation;
@@ -341,7 +341,9 @@ fn slice_text(text: &Text, from: u32, to: u32) -> Result<String, AllocError>
     requires within { to ≤ length text.now.characters }
     ensures { IfOk result (λ s. chars (string_bytes s) ≡ slice from to text.now.characters) }
 {
-    let part = text.slice(from, to)?;
+    let mut cursor = TextCursor::new(text);
+    cursor.skip(from);
+    let part = cursor.next_text(to - from)?;
     let text = part.text()?;
     Ok(text)
 }
