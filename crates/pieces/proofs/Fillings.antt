@@ -1,10 +1,10 @@
 -- Pieces that are put one after the other, of which those that are wanted are kept.
 use Rattle.std.proofs.Common.{◌≡◌, ℕ, ◌+◌, Bool, true, false, not, ◌&&◌, ◌||◌, List, [], ◌∷◌, ◌++◌, nat_le, refl, sym, ap, ◌∙◌, append_assoc, append-nil, if◌then◌else◌}
 use Rattle.decoration.specs.declared.style.Style.{Style}
-use Rattle.pieces.specs.Edge.{cut_at, in_edges, is_past, up_to_edge}
-use Rattle.pieces.specs.Filling.{FillingView, after, all_put, begun, ended, has_piece, is_full, is_passed, is_reached, passed, put, put_all, wanted, width_in, with_piece}
+use Rattle.pieces.specs.Edge.{in_edges, is_past, up_to_edge}
+use Rattle.pieces.specs.Filling.{FillingView, after, all_put, ended, has_piece, is_full, is_passed, is_reached, passed, put, put_all, wanted, width_in, with_piece}
 use Rattle.pieces.specs.Piece.{PieceView, PiecesView}
-use Rattle.pieces.specs.Standing.{first_after, piece_at}
+use Rattle.pieces.specs.Standing.{first_after}
 use Rattle.pieces.specs.Widths.{is_before, width_of}
 use Rattle.pieces.specs.declared.edge.Edge.{Edge}
 use Rattle.pieces.specs.declared.goal.Goal.{Goal}

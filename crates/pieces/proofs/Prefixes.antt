@@ -1,5 +1,5 @@
 -- What a part of a block from its start tells of the pieces of the whole.
-use Rattle.std.proofs.Common.{◌≡◌, ℕ, zero, suc, ◌+◌, ◌-◌, ◌<◌, ◌≤◌, min, max, Bool, true, false, not, ◌&&◌, ◌||◌, nat_le, nat_lt, List, [], ◌∷◌, ◌++◌, length, take, drop, refl, sym, ap, ◌∙◌, append_assoc, append-nil, arith, length-append, if◌then◌else◌}
+use Rattle.std.proofs.Common.{◌≡◌, ℕ, zero, suc, ◌+◌, ◌-◌, ◌<◌, ◌≤◌, min, max, Bool, true, false, nat_le, List, [], ◌∷◌, ◌++◌, length, take, drop, refl, sym, ap, ◌∙◌, append_assoc, append-nil, arith, if◌then◌else◌}
 use Rattle.std.proofs.Math.Seq.{take-nil}
 use Rattle.std.proofs.lemmas.List.{drop-drop}
 use Rattle.std.proofs.lemmas.Bool.Decides.{nat_tests}
@@ -8,12 +8,12 @@ use Rattle.unicode_segmentation.specs.Segments.{cut, prepend}
 use Rattle.decoration.specs.declared.style.Style.{Style}
 use Rattle.line_tree.specs.Text.{slice}
 use Rattle.cells.specs.Layout.{clusters}
-use Rattle.pieces.specs.Filling.{FillingView, is_full, put, put_all}
-use Rattle.pieces.specs.Piece.{PieceView, PiecesView}
+use Rattle.pieces.specs.Filling.{FillingView, is_full, put_all}
+use Rattle.pieces.specs.Piece.{PieceView}
 use Rattle.pieces.specs.Items.{ItemView, item_piece}
 use Rattle.pieces.specs.Pieces.{BlockView, by_clusters, cluster_piece, run, up_to, walked}
 use Rattle.pieces.proofs.Fillings.{over_one, put_all-append, put_all-over, put_all-pieces}
-use Rattle.pieces.proofs.Walks.{by_clusters-same, le_is, not_le_is, length-slice, run-none, some-clusters, total, total-clusters}
+use Rattle.pieces.proofs.Walks.{by_clusters-same, length-slice, run-none, some-clusters, total, total-clusters}
 
 -- two lists that begin alike, up to the last item of the first
 pub record Agree {X : Type 0} (some all : List X) : Type 0 where

@@ -4,10 +4,9 @@ use Rattle.range_set.specs.declared.ranged.Ranged.{Ranged}
 use Rattle.decoration.specs.declared.deco.Deco.{Deco}
 use Rattle.decoration.specs.declared.style.Style.{Style}
 use Rattle.selection.specs.declared.range.Range.{Range}
-use Rattle.pieces.specs.Filling.{FillingView, all_put, begun, put_all, wanted}
+use Rattle.pieces.specs.Filling.{FillingView, all_put, begun, wanted}
 use Rattle.pieces.specs.Items.{ItemView, items_of}
-use Rattle.pieces.specs.Piece.{PieceView, PiecesView}
-use Rattle.pieces.specs.Pieces.{BlockView, block_of, walked}
+use Rattle.pieces.specs.Pieces.{block_of, walked}
 use Rattle.pieces.specs.Rules.{pieces_of}
 use Rattle.pieces.specs.Shading.{block_style, style_at, style_ranges}
 use Rattle.pieces.specs.declared.goal.Goal.{Goal}

@@ -1,5 +1,5 @@
 use Rattle.std.proofs.Common.{◌≡◌, ℕ, ap, sym, ◌∙◌, refl, arith}
-use Rattle.pieces.specs.Filling.{FillingView, all_put, wanted}
+use Rattle.pieces.specs.Filling.{FillingView, wanted}
 use Rattle.pieces.specs.Rules.{pieces_of}
 use Rattle.pieces.proofs.Fillings.{all_wanted}
 use Rattle.pieces.proofs.Tells.{part_tells}

@@ -1,8 +1,7 @@
 use Rattle.std.proofs.Common.{ℕ, ap, ◌∙◌, arith}
-use Rattle.pieces.specs.Piece.{PieceView}
 use Rattle.pieces.specs.Items.{ItemView}
 use Rattle.pieces.specs.Blocks.{shown_block}
-use Rattle.pieces.specs.Filling.{put, put_all}
+use Rattle.pieces.specs.Filling.{put_all}
 use Rattle.pieces.specs.Pieces.{run}
 use Rattle.pieces.proofs.Walks.{le_is, not_le_is, put_up_to, put_none}
 use Rattle.pieces.proofs.block_pieces.push_up_to.Goals as goal
