@@ -1,5 +1,5 @@
 -- One cluster further, and one item further, in the pieces of a block.
-use Rattle.std.proofs.Common.{◌≡◌, ℕ, ◌+◌, ◌-◌, ◌<◌, ◌≤◌, min, max, Bool, true, false, List, [], ◌∷◌, ◌++◌, length, drop, map, nat_le, get_or, refl, sym, ap, ◌∙◌, arith, length-append, length-drop, if◌then◌else◌}
+use Rattle.std.proofs.Common.{◌≡◌, ℕ, ◌+◌, ◌-◌, ◌<◌, ◌≤◌, min, max, Bool, true, false, List, [], ◌∷◌, ◌++◌, length, drop, map, nat_le, refl, sym, ap, ◌∙◌, arith, length-append, length-drop, if◌then◌else◌}
 use Rattle.std.proofs.lemmas.List.{length-take}
 use Rattle.std.proofs.lemmas.Bool.Decides.{nat_tests}
 use Rattle.std.specs.Str.{chars, IsUtf8}
@@ -11,10 +11,9 @@ use Rattle.cells.specs.Layout.{clusters}
 use Rattle.cells.proofs.Layouts.{clusters-bytes}
 use Rattle.pieces.specs.Items.{ItemView, item_piece}
 use Rattle.pieces.specs.Piece.{PieceView}
-use Rattle.pieces.specs.Styles.{plain}
 use Rattle.pieces.specs.Filling.{FillingView, put, put_all}
 use Rattle.pieces.proofs.Fillings.{put_all-append, put_all-over}
-use Rattle.pieces.specs.Pieces.{BlockView, by_clusters, cluster_piece, run, style_in, up_to, walked}
+use Rattle.pieces.specs.Pieces.{BlockView, by_clusters, cluster_piece, run, up_to, walked}
 
 -- how many characters pieces of text have together
 abbrev pub total : List (List ℕ) → ℕ
@@ -148,11 +147,3 @@ walk_over filling ps all over goes = sym (put_all-over filling ps over) ∙ goes
 pub walk_end : (b : BlockView) (at : ℕ) (left : List ItemView) (filling more all : FillingView) → left ≡ [] → more ≡ put_all filling (run b at b.to) → put_all filling (walked b at left) ≡ all → more ≡ all
 unfolding walked
 walk_end b at left filling more all none adds goes = adds ∙ (rw none at goes)
-
--- clusters whose styles stand in a list have those of their places
-pub styles_placed : (style_fn : ℕ → Style) (from to at end : ℕ) (text cs : List ℕ) (styles : List Style) → from ≤ at → at ≤ end → end ≤ to → end ≤ length text → cs ≡ slice at end text → ((p : ℕ) → p < to - from → get_or styles p plain ≡ style_fn p) → by_clusters (style_in styles) (at - from) (clusters cs) ≡ by_clusters style_fn (at - from) (clusters (slice at end text))
-styles_placed style_fn from to at end text cs styles started order ended within is placed =
-    let long = total-clusters (slice at end text) in
-    let count = length-slice at end text within in
-    rw is (by_clusters-same (style_in styles) style_fn (at - from) (clusters (slice at end text)) (some-clusters (slice at end text))
-    (λ q after before. placed q (omega (arith, long, count))))

@@ -1,5 +1,5 @@
 -- A block, its clusters, and what is shown of it item by item. Its pieces by the rules are those of Rules.
-use Rattle.std.specs.Prelude.{ℕ, ◌+◌, ◌-◌, nat_le, min, max, false, List, [], ◌∷◌, ◌++◌, length, get_or, if◌then◌else◌}
+use Rattle.std.specs.Prelude.{ℕ, ◌+◌, ◌-◌, nat_le, min, max, false, List, [], ◌∷◌, ◌++◌, length, if◌then◌else◌}
 use Rattle.range_set.specs.declared.ranged.Ranged.{Ranged}
 use Rattle.decoration.specs.declared.deco.Deco.{Deco}
 use Rattle.decoration.specs.declared.style.Style.{Style}
@@ -8,12 +8,7 @@ use Rattle.line_tree.specs.Text.{slice}
 use Rattle.cells.specs.Layout.{clusters}
 use Rattle.pieces.specs.Piece.{PieceView}
 use Rattle.pieces.specs.Shading.{block_style, style_at, style_ranges}
-use Rattle.pieces.specs.Styles.{plain}
 use Rattle.pieces.specs.Items.{ItemView, item_piece}
-
--- the style of the character at place p, where the first of the styles is that of the place 0
-abbrev pub style_in : List Style → ℕ → Style
-style_in styles p = get_or styles p plain
 
 -- a cluster has the style of its first character
 abbrev pub cluster_piece : (ℕ → Style) → ℕ → List ℕ → PieceView

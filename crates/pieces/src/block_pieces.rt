@@ -3,7 +3,7 @@ ghost use Rattle.std.specs.Prelude.{◌≡◌, ◌+◌, ◌-◌, ◌<◌, ◌≤
 ghost use Rattle.std.specs.String.{string_bytes};
 ghost use Rattle.line_tree.specs.Text.{slice};
 ghost use Rattle.cells.specs.Layout.{clusters};
-ghost use Rattle.pieces.specs.Pieces.{block_of, by_clusters, run, style_in, up_to, walked};
+ghost use Rattle.pieces.specs.Pieces.{block_of, by_clusters, run, up_to, walked};
 ghost use Rattle.pieces.specs.Blocks.{AreStyled, shown_block};
 ghost use Rattle.pieces.specs.Edge.{cut_at};
 ghost use Rattle.pieces.specs.Standing.{piece_at};
@@ -17,14 +17,15 @@ use crate::item::Item;
 use crate::items::items_of;
 use crate::piece::Pieces;
 use crate::shading::{block_style, style_ranges};
-use crate::style_range::{StyleRange, styles_of};
+use crate::style_range::{StyleRange, style_at, styles_of};
 use decoration::{Layers, Style};
 use line_tree::{Text, TextCursor};
 use selection::Selection;
 use std::alloc::{AllocError, Global};
 use unicode_segmentation::UnicodeSegmentation;
 
-/// A block of a text, from a place to a place, with its style, what styles its characters, and the style of each.
+/// A block of a text, from a place to a place, with its style, what styles its characters, and the style of each where
+/// that is listed.
 #[derive(Drop)]
 struct Block<'a> {
     text: &'a Text,
@@ -326,13 +327,7 @@ fn push_some(
     ensures { OnOk result (filling.new ≡ put_all filling.old (by_clusters (shown_block block.now).style_of (at - block.now.from) (clusters (slice at end block.now.text.now.characters)))) }
 {
     let text = slice_text(block.text, at, end)?;
-    push_clusters(
-        alloc,
-        filling,
-        text.as_str(),
-        block.styles.as_slice(),
-        at - block.from,
-    )
+    push_clusters(alloc, filling, block, text.as_str(), at - block.from)
 }
 
 /// The characters from one place to another, as a text of their own.
@@ -348,38 +343,41 @@ fn slice_text(text: &Text, from: u32, to: u32) -> Result<String, AllocError>
     Ok(text)
 }
 
-/// Puts the clusters of the text, of which the first stands at the place `base` of the block, whose characters have these
-/// styles.
+/// Puts the clusters of the text, of which the first stands at the place `base` of the block.
 fn push_clusters(
     alloc: Global,
     filling: &mut Filling,
+    block: &Block<'_>,
     text: &str,
-    styles: &[Style],
     base: u32,
 ) -> Result<(), AllocError>
-    requires { base + length (chars text.now) < 2 ^ 32 }
-    ensures { OnOk result (filling.new ≡ put_all filling.old (by_clusters (style_in styles.now) base (clusters (chars text.now)))) }
+    requires fits { block.now.from + (base + length (chars text.now)) < 2 ^ 32 }
+    requires styled { AreStyled block.now }
+    ensures { OnOk result (filling.new ≡ put_all filling.old (by_clusters (shown_block block.now).style_of base (clusters (chars text.now)))) }
 {
     let mut place = base;
     for cluster in text.graphemes(true) {
         if filling.is_over() {
             return Ok(());
         }
-        let style = style_in(styles, place);
+        let style = style_of(block, place);
         filling.push(alloc, place, cluster, style, false)?;
         place += char_count(cluster) as u32;
     }
     Ok(())
 }
 
-/// The style of the character at a place, where the first style is that of the place 0.
-fn style_in(styles: &[Style], place: u32) -> Style
-    ensures { result ≡ style_in styles.now place }
+/// The style of the character at a place of the block.
+fn style_of(block: &Block<'_>, place: u32) -> Style
+    requires fits { block.now.from + place < 2 ^ 32 }
+    requires styled { AreStyled block.now }
+    ensures { result ≡ (shown_block block.now).style_of place }
 {
-    styles
-        .get(place as usize)
-        .copied()
-        .unwrap_or(Style::plain())
+    let index = place as usize;
+    if index < block.styles.len() {
+        return block.styles[index];
+    }
+    style_at(block.style, block.ranges.as_slice(), block.from + place)
 }
 
 fn char_count(text: &str) -> usize

@@ -265,9 +265,12 @@ fn a_short_line_is_followed_by_the_cursor(rt: HostRuntime) -> Result<(), Fail> {
 #[test]
 fn a_mark_of_a_higher_layer_is_inner(rt: HostRuntime) -> Result<(), Fail> {
     let upper = [(Kind::Mark, 0, 2, "", fg(Color::Red))];
+    // Five marks are more than are gone through for each cluster.
     let lower = [
+        (Kind::Mark, 0, 1, "", plain()),
         (Kind::Mark, 1, 3, "", fg(Color::Green)),
         (Kind::Mark, 1, 3, "", bold()),
+        (Kind::Mark, 2, 3, "", plain()),
     ];
     let case = Case {
         doc: "abc",

@@ -1,5 +1,6 @@
 use Rattle.std.proofs.Common.{arith, length, ◌+◌, ◌<◌, ◌∙◌}
-use Rattle.std.proofs.lemmas.List.{drop_more, drop_all}
+use Rattle.std.proofs.lemmas.List.{drop_more, drop_all, get_or_default}
+use Rattle.pieces.specs.Styles.{plain}
 use Rattle.pieces.proofs.Covering.{style_step, style_end}
 use Rattle.pieces.proofs.style_range.styles_of.Goals as goal
 
@@ -13,5 +14,7 @@ loop-range-preserved c =
           (c.apply.ensures.value p (omega (arith, c.loop-range.invariant.len))) (c.loop-range.invariant.style p below);
     }
 
-pub returns-clause-value : goal.returns-clause-value
-returns-clause-value c = λ p inside. style_end c.args.line _ c.args.ranges.now (c.args.at + p) _ (drop_all c.loop-range.range-index c.args.ranges.now (omega arith)) (c.loop-range.invariant.style p inside)
+pub returns : goal.returns
+returns c = λ p d inside.
+    get_or_default c.loop-range.styles.items p d plain inside
+    ∙ style_end c.args.line _ c.args.ranges.now (c.args.at + p) _ (drop_all c.loop-range.range-index c.args.ranges.now (omega arith)) (c.loop-range.invariant.style p (omega (arith, inside, c.loop-range.invariant.len)))
