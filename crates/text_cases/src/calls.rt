@@ -143,3 +143,25 @@ fn cursors_copy_and_skip(rt: HostRuntime) -> Result<(), Fail> {
     assert!(rt; keeps(rt.alloc())?);
     Ok(())
 }
+
+/// After so many characters of a text the next ones, or as many as are left.
+fn next_after(given: &Text, skipped: u32, count: u32) -> Result<Text, AllocError> {
+    let mut cursor = TextCursor::new(given);
+    let len = cursor.len();
+    cursor.skip(skipped.min(len));
+    let left = cursor.len();
+    cursor.next_text(count.min(left))
+}
+
+fn next_are(alloc: Global, skipped: u32, count: u32, want: &[char]) -> Result<bool, AllocError> {
+    let given = text(alloc, &['a', 'b', '\n', 'c', 'd'])?;
+    is(&next_after(&given, skipped, count)?, want)
+}
+
+#[test]
+fn cursors_give_texts(rt: HostRuntime) -> Result<(), Fail> {
+    assert!(rt; next_are(rt.alloc(), 0, 5, &['a', 'b', '\n', 'c', 'd'])?);
+    assert!(rt; next_are(rt.alloc(), 0, 3, &['a', 'b', '\n'])?);
+    assert!(rt; next_are(rt.alloc(), 1, 4, &['b', '\n', 'c', 'd'])?);
+    Ok(())
+}

@@ -1,4 +1,4 @@
-//! A text of 4,096 breaks as a tree.
+//! Texts of some 4,096 breaks as trees.
 use crate::made::{replaced, text};
 use line_tree::{Line, Text};
 use std::alloc::{AllocError, Global};
@@ -101,5 +101,37 @@ fn a_change_reaches_a_few_lines(rt: HostRuntime) -> Result<(), Fail> {
     };
     assert!(rt; text.len() == 4089);
     assert!(rt; line_at(&text, 1002) == Some(want));
+    Ok(())
+}
+
+/// The text of so many breaks, of 4,096 at most, with 63 more at a place.
+fn grown(alloc: Global, count: usize, at: u32) -> Result<Text, AllocError> {
+    let breaks = ['\n'; 4096];
+    let old = text(alloc, &breaks[..count.min(4096)])?;
+    replaced(&old, at, at, &text(alloc, &['\n'; 63])?)
+}
+
+/// Whether the leaves of that text have so many lines in all, and none too many.
+fn has_grown(alloc: Global, count: usize, at: u32, lines: u64) -> Result<bool, AllocError> {
+    has_leaves(alloc, &grown(alloc, count, at)?, lines)
+}
+
+#[test]
+fn a_leaf_with_more_lines_than_it_may_have_becomes_two(rt: HostRuntime) -> Result<(), Fail> {
+    assert!(rt; has_grown(rt.alloc(), 4096, 1000, 4160)?);
+    assert!(rt; has_grown(rt.alloc(), 4095, 3000, 4159)?);
+    Ok(())
+}
+
+/// How many parts the text of 4,095 breaks, which has two parts of 16 leaves and a last one of 32, has once 63 breaks more stand
+/// at a place.
+fn parts_of_grown(alloc: Global, at: u32) -> Result<usize, AllocError> {
+    Ok(grown(alloc, 4095, at)?.parts().len())
+}
+
+#[test]
+fn a_branch_with_more_parts_than_it_may_have_becomes_two(rt: HostRuntime) -> Result<(), Fail> {
+    assert!(rt; parts_of_grown(rt.alloc(), 1000)? == 3);
+    assert!(rt; parts_of_grown(rt.alloc(), 3000)? == 4);
     Ok(())
 }
