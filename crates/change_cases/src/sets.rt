@@ -134,6 +134,14 @@ fn changes_of_one_document(rt: HostRuntime) -> Result<(), Fail> {
     Ok(())
 }
 
+#[test]
+fn a_set_that_changes_nothing(rt: HostRuntime) -> Result<(), Fail> {
+    let old = ['a', 'b', 'c', 'd'];
+    let empty = ChangeSet::empty(rt.alloc(), 4)?;
+    assert!(rt; comes_to(rt.alloc(), &empty, &old, &[Section::Keep(4)], &old)?);
+    Ok(())
+}
+
 /// What is told of a range that is no range of the document: its index and places, and the document's length.
 fn bad_range(error: ChangesError) -> Option<(usize, u32, u32, u32)> {
     match error {
