@@ -1,7 +1,9 @@
 // The rules of a stranger, of all sorts, each written out with its clause: a function that handed out rules of one sort would hand
 // out boxed closures. So each function makes two sorts, and passes on what is made.
-ghost use Rattle.std.specs.Prelude.{◌≡◌, All, IfOk, unwrap_or};
+ghost use Rattle.std.specs.Prelude.{◌≡◌, All, Bool, IfOk, unwrap_or};
+ghost use Rattle.std.specs.Borrow.{Bor};
 ghost use Rattle.values.specs.Stored.{Combines, Compares, Computes, ComputesLists, Creates, Extends, Filters, Guards, MapsEffects, Updates};
+ghost use Rattle.values.specs.declared.val.Val.{Val};
 ghost use Rattle.kit_cases.specs.More.{more};
 
 use crate::more::{More, combine_more};
@@ -249,6 +251,19 @@ fn holds_reading(
     holds_listing(alloc, case, combiners, comparers, computers, creators)
 }
 
+/// The comparer of a number with its rule, stored as one that says 'same' of every value and itself where that is known.
+fn comparer(number: u32, rule: CompareBox) -> Comparer<More>
+    requires callable { (p q : Bor Val) → CompareBox.pre rule p q }
+    requires meant { (p q : Bor Val) (r : Bool) → CompareBox.post rule p q r → r ≡ more.compare number p.now q.now }
+    ensures { Compares more result }
+{
+    if is_reflexive(number) {
+        Comparer::reflexive(number, rule)
+    } else {
+        Comparer::new(number, rule)
+    }
+}
+
 /// Whether a case holds of the kit of these rules.
 pub(crate) fn holds(alloc: Global, case: Case) -> Result<bool, Fail> {
     let combiners = each_or_none(
@@ -278,11 +293,7 @@ pub(crate) fn holds(alloc: Global, case: Case) -> Result<bool, Fail> {
                     ensures { result ≡ more.compare number old.now new.now }
                 { compare(number, old, new) },
             )?;
-            if is_reflexive(number) {
-                Ok(Comparer::<More>::reflexive(number, rule))
-            } else {
-                Ok(Comparer::<More>::new(number, rule))
-            }
+            Ok(comparer(number, rule))
         },
     );
     holds_reading(alloc, case, combiners, comparers)
