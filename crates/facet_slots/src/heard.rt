@@ -48,11 +48,11 @@ fn effects_heard(
 fn inverted_again(alloc: Global, inverted: &[KeptEffect]) -> Result<Listed<KeptEffect>, AllocError>
     ensures { IfOk result (λ copy. copy ≡ inverted.now) }
 {
-    let mut copy = Vec::with_capacity(alloc, inverted.len())?;
+    let mut copy = Listed::empty(alloc);
     for effect in inverted {
         copy.push(effect.try_copy(alloc)?)?;
     }
-    Ok(Listed::new(copy))
+    Ok(copy)
 }
 
 fn annotation_again(alloc: Global, annotation: &Annotation) -> Result<Annotation, AllocError>
@@ -70,11 +70,11 @@ fn annotations_again(
 ) -> Result<Listed<Annotation>, AllocError>
     ensures { IfOk result (λ copy. copy ≡ annotations.now) }
 {
-    let mut copy = Vec::with_capacity(alloc, annotations.len())?;
+    let mut copy = Listed::empty(alloc);
     for annotation in annotations {
         copy.push(annotation_again(alloc, annotation)?)?;
     }
-    Ok(Listed::new(copy))
+    Ok(copy)
 }
 
 /// What a transaction carries, of its effects those of these kinds.

@@ -10,7 +10,6 @@ mod before;
 mod definitions;
 mod deps;
 mod draft;
-mod facet_inputs;
 mod field;
 mod first;
 mod heard;

@@ -12,5 +12,4 @@ pub mod Cost
 pub mod Walked
 pub mod Sharing
 pub mod Sets
-pub mod Same
 pub mod Adding

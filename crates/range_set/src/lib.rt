@@ -12,7 +12,6 @@ mod chunk_builder;
 mod chunk_iter;
 mod group;
 mod group_builder;
-mod group_list;
 mod iter;
 mod moving;
 mod opening;
@@ -22,7 +21,6 @@ mod range_ref;
 mod range_set;
 mod range_value;
 mod ranged;
-mod run;
 mod updating;
 
 pub use between::Between;

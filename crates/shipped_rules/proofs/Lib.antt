@@ -1,2 +1,1 @@
 pub mod InsideSets
-pub mod Staying
