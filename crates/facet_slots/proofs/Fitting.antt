@@ -1,7 +1,8 @@
 -- What inputs give fits the combiner.
-use Rattle.std.proofs.Common.{◌≡◌, ◌∙◌, ◌≤◌, length, ℕ, List, [], ◌∷◌, All, map, Bool, true, false, cond, eqb, Option, Some, None, IfSome, ap, arith, subst, sym}
+use Rattle.std.proofs.Common.{◌≡◌, ◌∙◌, ◌≤◌, ◌<◌, length, get_or, ℕ, List, [], ◌∷◌, All, map, Bool, true, false, cond, eqb, Option, Some, None, IfSome, ap, arith, subst, sym}
 use Rattle.std.specs.Option.{IsSomeAnd, option_map}
 use Rattle.std.specs.List.{AllByRecursion}
+use Rattle.std.proofs.lemmas.List.{append-nil}
 use Rattle.std.proofs.lemmas.List.Elements.{All-nil, All-cons, All-append}
 use Rattle.line_tree.specs.Text.{max_len}
 use Rattle.selection.specs.Selections.{SelectionView, IsSelection, LieIn}
@@ -56,6 +57,12 @@ shown-is scene is values each reads =
       inside = both-inside (reads_document reads) (reads_selection reads) scene.document scene.selection is.short is.inside;
       in_range = shown-in-range values each (vertices_of reads);
     }
+
+-- a single list, joined
+pub joined-one : (xss : List (List Val)) → length xss < 2 → 1 ≤ length xss → (xs : List Val) → xs ≡ get_or xss 0 xs → joined xss ≡ xs
+joined-one [] below some xs e = absurd (omega (arith, some))
+joined-one (x ∷ []) below some xs e = append-nil x ∙ sym e
+joined-one (x ∷ y ∷ xss) below some xs e = absurd (omega (arith, below))
 
 module _ (rules : Rules) (lawful : AreLawful rules) (n : ℕ) (scene : SceneView) (fine : IsScene scene) (values : Values) (each : IsEachInRange values) where
   computed-fit : (rule : ℕ) (reads : List Dependency) → IsNumber rules.computers rule × FitsIn (rules.compute_output rule) (rules.combine_input n) → All (IsOf (rules.combine_input n)) (rules.compute rule (shown scene values reads) ∷ [])

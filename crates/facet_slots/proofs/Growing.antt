@@ -12,14 +12,10 @@ use Rattle.values.specs.declared.val.Val.{Val}
 use Rattle.facet_slots.specs.Setups.{Definitions, Setup, InputNode, PresentFacet, PresentField, input_node, inputs_at, facet_at, init_of, node_at, field_with, field_at}
 use Rattle.facet_slots.specs.Agreement.{Extends, IsGrown, NodesAgree, Agree, IsContinued}
 use Rattle.facet_slots.specs.Resolving.{IsFormed}
+use Rattle.facet_slots.proofs.Places.{got-first}
 
 pub some-same : {X : Type 0} {x y : X} → Some x ≡ Some y → x ≡ y
 some-same e = cc
-
-got-first : {X : Type 0} (xs ys : List X) (i : ℕ) (x : X) → slice_get xs i ≡ Some x → slice_get (xs ++ ys) i ≡ Some x
-got-first [] ys i x e = cc
-got-first (a ∷ xs) ys zero x e = e
-got-first (a ∷ xs) ys (suc i) x e = got-first xs ys i x e
 
 -- an id keeps its definition
 pub stays-got : {X : Type 0} (old new : List X) → Extends old new → (i : ℕ) (x : X) → slice_get old i ≡ Some x → slice_get new i ≡ Some x

@@ -18,6 +18,7 @@ pub mod Places
 pub mod Ranged
 pub mod Resolved
 pub mod Rounds
+pub mod Sharing
 pub mod Standing
 pub mod Stated
 pub mod Still

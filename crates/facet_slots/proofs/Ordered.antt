@@ -26,19 +26,10 @@ use Rattle.facet_slots.specs.Agreement.{IsGrown}
 use Rattle.facet_slots.specs.Resolving.{IsResolvedOver, IsResolved}
 use Rattle.facet_slots.proofs.Earlier.{earlier, in-place, order-short, place-in}
 use Rattle.facet_slots.proofs.Growing.{longer, past-empty, same-inside}
+use Rattle.facet_slots.proofs.Places.{got-first, got-second, range-at}
 use Rattle.facet_slots.proofs.Resolved.{inputs-length, fields-length, inputs-defined}
 
 -- places of two lists, one after the other
-got-first : {X : Type 0} (xs ys : List X) (i : ℕ) (x : X) → slice_get xs i ≡ Some x → slice_get (xs ++ ys) i ≡ Some x
-got-first [] ys i x e = cc
-got-first (a ∷ xs) ys zero x e = e
-got-first (a ∷ xs) ys (suc i) x e = got-first xs ys i x e
-
-got-second : {X : Type 0} (xs ys : List X) (i n : ℕ) → n ≡ length xs + i → slice_get (xs ++ ys) n ≡ slice_get ys i
-got-second [] ys i n e = let same : n ≡ i = omega (arith, e) in ap (slice_get ys) same
-got-second (a ∷ xs) ys i zero e = absurd (omega (arith, e))
-got-second (a ∷ xs) ys i (suc n) e = got-second xs ys i n (omega (arith, e))
-
 got-parts : {X : Type 0} (xs ys : List X) (i : ℕ) (x : X) → slice_get (xs ++ ys) i ≡ Some x → (slice_get xs i ≡ Some x) ⊎ ((k : ℕ) × (slice_get ys k ≡ Some x))
 got-parts [] ys i x e = inr (i, e)
 got-parts (a ∷ xs) ys zero x e = inl e
@@ -61,11 +52,6 @@ range-some from (suc n) zero x e = let same : from ≡ x = some-back e in (omega
     some-back : {X : Type 0} {x y : X} → Some x ≡ Some y → x ≡ y
     some-back g = cc
 range-some from (suc n) (suc k) x e = let h = range-some (from + 1) n k x e in (omega (arith, h.0), omega (arith, h.1))
-
-range-at : (from n k : ℕ) → k < n → slice_get (range_with_len from n) k ≡ Some (from + k)
-range-at from zero k lt = absurd (omega (arith, lt))
-range-at from (suc n) zero lt = let e : from ≡ from + 0 = omega arith in ap Some e
-range-at from (suc n) (suc k) lt = let e : from + 1 + k ≡ from + suc k = omega arith in range-at (from + 1) n k (omega (arith, lt)) ∙ ap Some e
 
 from-places : {X : Type 0} (P : X → Type 0) (xs : List X) → ((i : ℕ) (x : X) → slice_get xs i ≡ Some x → P x) → All P xs
 from-places P xs h i d inside = h i _ (slice_get-get_or xs i d inside)

@@ -23,6 +23,10 @@ kept_outputs n [] ks = None
 kept_outputs n (i ∷ is) [] = None
 kept_outputs n (i ∷ is) (k ∷ ks) = cond (eqb i.node n) (Some k) (kept_outputs n is ks)
 
+-- whether a dependency that an input declares is flagged
+abbrev pub input_flagged : SceneFlags → Flags → InputNode → Bool
+input_flagged moved flags node = any_flagged moved flags (reads_of node.input)
+
 module _ (rules : Rules) (scene : SceneView) (moved : SceneFlags) (flags : Flags) (values : Values) where
   -- what a node gives next, from what it gave before
   abbrev pub next_from : InputNode → Option (List Val) → List Val

@@ -1,5 +1,5 @@
 // The value of one field, from its old value and what it reads.
-ghost use Rattle.std.specs.Prelude.{◌≡◌, ◌+◌, ◌≤◌, cond, is_none, slice_get, option_copied, IfOk, IsSomeAnd, MatchOption, None, Some};
+ghost use Rattle.std.specs.Prelude.{◌≡◌, ◌+◌, ◌≤◌, cond, is_none, slice_get, option_copied, unwrap_or, IfOk, IsSomeAnd, IsTrue, MatchOption, None, Some};
 ghost use Rattle.std.specs.Option.{option_flatten};
 ghost use Rattle.values.specs.Vals.{IsOf};
 ghost use Rattle.values.specs.Whole.{IsWhole};
@@ -100,6 +100,13 @@ fn created<M: Meanings, L: Ledger>(
     }
 }
 
+/// The value of a field after a transition, and whether it is known to be the one before, which it then shares.
+#[derive(Drop)]
+pub struct FieldFound {
+    pub value: SharedVal,
+    pub is_old: bool,
+}
+
 /// A field that enters a configuration: it keeps its value, or else is created.
 fn entered<M: Meanings, L: Ledger>(
     alloc: Global,
@@ -144,6 +151,23 @@ fn update_view(
 
 ghost use Rattle.facet_slots.specs.Stepping.{heard as heard_of};
 
+/// What an updater's answer makes of the old value of a field, which is shared where it stays.
+fn answered(alloc: Global, old: &SharedVal, answer: Option<Val>) -> Result<FieldFound, AllocError>
+    ensures value { IfOk result (λ found. found.value ≡ unwrap_or answer old.now) }
+    ensures old { IfOk result (λ found. IsTrue found.is_old → old.now ≡ found.value) }
+{
+    match answer {
+        Some(value) => Ok(FieldFound {
+            value: SharedVal::new(alloc, value)?,
+            is_old: false,
+        }),
+        None => Ok(FieldFound {
+            value: old.share()?,
+            is_old: true,
+        }),
+    }
+}
+
 /// A field that a transaction updates.
 fn updated<M: Meanings, L: Ledger>(
     alloc: Global,
@@ -156,21 +180,22 @@ fn updated<M: Meanings, L: Ledger>(
     field: &Present,
     shelf: &Shelf,
     calls: &mut Steps<L>,
-) -> Result<SharedVal, AllocError>
+) -> Result<FieldFound, AllocError>
     requires whole { IsWhole M.rules kit.now }
     requires scene { IsScene (scene_of scene.now) }
     requires lawful { IsLawfulField M.rules (present_of field.now) }
     requires fits { IsSomeAnd (values_in old.now (Vertex.Field place)) (IsOf (M.rules.update_shape (present_of field.now).def.update)) }
-    ensures value { IfOk result (λ v. v ≡ updates M.rules (state_in old_setup.now old.now) transaction.now place (present_of field.now) (shown_of (scene_of scene.now) (held shelf.now.facets.items shelf.now.fields.items) (present_of field.now).def.reads)) }
+    ensures value { IfOk result (λ found. found.value ≡ updates M.rules (state_in old_setup.now old.now) transaction.now place (present_of field.now) (shown_of (scene_of scene.now) (held shelf.now.facets.items shelf.now.fields.items) (present_of field.now).def.reads)) }
+    ensures old { IfOk result (λ found. IsTrue found.is_old → values_in old.now (Vertex.Field place) ≡ Some found.value) }
     ensures cost { calls.new ≤ calls.old + 1 }
 {
     match kept_field(old, place) {
         Some(value) => {
             let view = update_view(alloc, transaction, scene, field, shelf)?;
-            let new = kit
+            let answer = kit
                 .updater(field.def.update)
                 .call(value.value(), &view, calls)?;
-            SharedVal::new(alloc, new)
+            answered(alloc, value, answer)
         }
         None => unreachable!(),
     }
@@ -188,20 +213,22 @@ pub fn field_found<M: Meanings, L: Ledger>(
     field: &Present,
     shelf: &Shelf,
     calls: &mut Steps<L>,
-) -> Result<SharedVal, AllocError>
+) -> Result<FieldFound, AllocError>
     requires whole { IsWhole M.rules kit.now }
     requires scene { IsScene (scene_of scene.now) }
     requires lawful { IsLawfulField M.rules (present_of field.now) }
     requires fits { (t : TransactionView) → transition_of transition.now ≡ Update t → IsSomeAnd (values_in old.now (Vertex.Field place)) (IsOf (M.rules.update_shape (present_of field.now).def.update)) }
-    ensures value { IfOk result (λ v. v ≡ rule_of M.rules (transition_of transition.now) (state_in old_setup.now old.now) place (present_of field.now) (shown_of (scene_of scene.now) (held shelf.now.facets.items shelf.now.fields.items) (present_of field.now).def.reads)) }
+    ensures value { IfOk result (λ found. found.value ≡ rule_of M.rules (transition_of transition.now) (state_in old_setup.now old.now) place (present_of field.now) (shown_of (scene_of scene.now) (held shelf.now.facets.items shelf.now.fields.items) (present_of field.now).def.reads)) }
+    ensures old { IfOk result (λ found. IsTrue found.is_old → values_in old.now (Vertex.Field place) ≡ Some found.value) }
     ensures cost { calls.new ≤ calls.old + field_calls (transition_of transition.now) (state_in old_setup.now old.now) place (present_of field.now) }
 {
     match *transition {
-        Transition::Enter => {
-            entered(
+        Transition::Enter => Ok(FieldFound {
+            value: entered(
                 alloc, kit, old_setup, old, scene, place, field, shelf, calls,
-            )
-        }
+            )?,
+            is_old: false,
+        }),
         Transition::Update(transaction) => updated(
             alloc,
             kit,

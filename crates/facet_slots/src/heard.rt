@@ -48,11 +48,11 @@ fn effects_heard(
 fn inverted_again(alloc: Global, inverted: &[KeptEffect]) -> Result<Listed<KeptEffect>, AllocError>
     ensures { IfOk result (λ copy. copy ≡ inverted.now) }
 {
-    let mut copy = Listed::empty(alloc);
+    let mut copy = Vec::with_capacity(alloc, inverted.len())?;
     for effect in inverted {
         copy.push(effect.try_copy(alloc)?)?;
     }
-    Ok(copy)
+    Ok(Listed::new(copy))
 }
 
 fn annotation_again(alloc: Global, annotation: &Annotation) -> Result<Annotation, AllocError>
@@ -70,11 +70,11 @@ fn annotations_again(
 ) -> Result<Listed<Annotation>, AllocError>
     ensures { IfOk result (λ copy. copy ≡ annotations.now) }
 {
-    let mut copy = Listed::empty(alloc);
+    let mut copy = Vec::with_capacity(alloc, annotations.len())?;
     for annotation in annotations {
         copy.push(annotation_again(alloc, annotation)?)?;
     }
-    Ok(copy)
+    Ok(Listed::new(copy))
 }
 
 /// What a transaction carries, of its effects those of these kinds.

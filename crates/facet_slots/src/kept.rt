@@ -1,6 +1,5 @@
-use crate::input_values::InputValues;
+use crate::facet_inputs::FacetInputs;
 use crate::shelf::Shelf;
-use listed::Listed;
 use values::Scene;
 
 /// A document with its selection, the values of a state, and of each facet what each input gave, in flat order.
@@ -8,5 +7,5 @@ use values::Scene;
 pub struct Kept {
     pub scene: Scene,
     pub shelf: Shelf,
-    pub inputs: Vec<Listed<InputValues>>,
+    pub inputs: Vec<FacetInputs>,
 }

@@ -10,6 +10,7 @@ mod before;
 mod definitions;
 mod deps;
 mod draft;
+mod facet_inputs;
 mod field;
 mod first;
 mod heard;

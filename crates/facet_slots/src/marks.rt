@@ -1,5 +1,5 @@
 // The flags that were found so far.
-ghost use Rattle.std.specs.Prelude.{◌≡◌, slice_get, false};
+ghost use Rattle.std.specs.Prelude.{◌≡◌, map, slice_get, false};
 ghost use Rattle.std.specs.Option.{unwrap_or};
 ghost use Rattle.configuration.specs.Pairs.{reads_of};
 ghost use Rattle.facet_slots.specs.Flags.{any_flagged as any_flagged_of};
@@ -58,3 +58,19 @@ pub fn input_flagged(node_defs: &[NodeDef<Val>], node: u32, marks: &Marks) -> bo
         _ => false,
     }
 }
+
+/// Whether a dependency that one of these inputs declares is flagged. Takes no memory.
+pub fn any_input_flagged(node_defs: &[NodeDef<Val>], nodes: &[u32], marks: &Marks) -> bool
+    ensures { result ≡ list_any (input_flagged_of marks.now.moved (flags_in marks.now)) (map (input_node node_defs.now) nodes.now) }
+{
+    for node in nodes {
+        if input_flagged(node_defs, *node, marks) {
+            return true;
+        }
+    }
+    false
+}
+
+ghost use Rattle.std.specs.List.{list_any};
+ghost use Rattle.facet_slots.specs.Nexts.{input_flagged as input_flagged_of};
+ghost use Rattle.facet_slots.specs.Setups.{input_node};

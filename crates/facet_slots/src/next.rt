@@ -14,12 +14,12 @@ ghost use Rattle.facet_slots.specs.Lent.{flags_in, nodes_before, scene_in, value
 
 use crate::before::Before;
 use crate::draft::Draft;
+use crate::facet_inputs::FacetInputs;
 use crate::input_values::InputValues;
 use crate::marks::input_flagged;
 use crate::outputs::{combine, node_outputs};
 use crate::shared_val::SharedVal;
 use configuration::{FacetDef, NodeDef};
-use listed::Listed;
 use std::alloc::{AllocError, Global};
 use std::sync::ledger::Ledger;
 use steps::Steps;
@@ -138,7 +138,7 @@ fn next_input<M: Meanings, L: Ledger>(
 /// What each input of a facet gives, in flat order, and whether one changed.
 #[derive(Drop)]
 struct NextInputs {
-    inputs: Listed<InputValues>,
+    inputs: FacetInputs,
     changed: bool,
 }
 
@@ -159,14 +159,17 @@ fn next_inputs<M: Meanings, L: Ledger>(
     ensures changed { IfOk result (λ n. n.changed ≡ list_any (next_changed M.rules (scene_in draft.now.kept) draft.now.marks.moved (flags_in draft.now.marks) (values_in draft.now.kept) facet.now.compare_input (nodes_before before.now) before.now.kept.now) (map (input_node node_defs.now) nodes.now)) }
     ensures cost { calls.new ≤ calls.old + next_count draft.now.marks.moved (flags_in draft.now.marks) (nodes_before before.now) before.now.kept.now (map (input_node node_defs.now) nodes.now) }
 {
-    let mut inputs = Listed::empty(alloc);
+    let mut inputs = Vec::with_capacity(alloc, nodes.len())?;
     let mut changed = false;
     for node in nodes {
         let next = next_input(alloc, kit, before, node_defs, *node, facet, draft, calls)?;
         changed = changed || next.changed;
         inputs.push(next.outputs)?;
     }
-    Ok(NextInputs { inputs, changed })
+    Ok(NextInputs {
+        inputs: FacetInputs::new(alloc, inputs)?,
+        changed,
+    })
 }
 
 /// Whether a facet is combined anew: an input changed, or its list of nodes differs.
@@ -211,7 +214,7 @@ ghost use Rattle.facet_slots.specs.FacetValues.{joined as joined_of};
 /// A facet or a field after a transition: what its inputs give, its value, none for an absent field, and whether it is flagged.
 #[derive(Drop)]
 pub struct Next {
-    pub inputs: Listed<InputValues>,
+    pub inputs: FacetInputs,
     pub value: Option<SharedVal>,
     pub flag: bool,
 }

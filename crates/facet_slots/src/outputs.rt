@@ -12,6 +12,7 @@ ghost use Rattle.transaction.specs.Numbers.{IsNumber};
 ghost use Rattle.facet_slots.specs.Found.{facet_of, scene_of};
 
 use crate::deps::shown;
+use crate::facet_inputs::FacetInputs;
 use crate::input_values::InputValues;
 use crate::shared_val::SharedVal;
 use crate::shelf::Shelf;
@@ -26,9 +27,8 @@ use values::{Kit, Meanings, Scene, Val};
 fn one(alloc: Global, value: Val) -> Result<Listed<Val>, AllocError>
     ensures { IfOk result (λ values. values ≡ value ∷ []) }
 {
-    let mut values = Listed::empty(alloc);
-    values.push(value)?;
-    Ok(values)
+    let values = vec![in alloc; value]?;
+    Ok(Listed::new(values))
 }
 
 /// The input that a rule computes from what it declares.
@@ -135,14 +135,14 @@ fn all_outputs<M: Meanings, L: Ledger>(
     nodes: &[u32],
     shelf: &Shelf,
     calls: &mut Steps<L>,
-) -> Result<Listed<InputValues>, AllocError>
+) -> Result<FacetInputs, AllocError>
     requires whole { IsWhole M.rules kit.now }
     requires scene { IsScene (scene_of scene.now) }
     requires lawful { IsLawfulFacet M.rules (facet_of facet.now node_defs.now nodes.now) }
     ensures value { IfOk result (λ found. found ≡ map (node_outputs_of M.rules (scene_of scene.now) (held shelf.now.facets.items shelf.now.fields.items)) (map (input_node node_defs.now) nodes.now)) }
     ensures cost { calls.new ≤ calls.old + calls_of (map (input_node node_defs.now) nodes.now) }
 {
-    let mut found = Listed::empty(alloc);
+    let mut found = Vec::with_capacity(alloc, nodes.len())?;
     for node in nodes {
         found.push(node_outputs(
             alloc,
@@ -155,7 +155,7 @@ fn all_outputs<M: Meanings, L: Ledger>(
             calls,
         )?)?;
     }
-    Ok(found)
+    FacetInputs::new(alloc, found)
 }
 
 /// Adds copies of more values.
@@ -172,7 +172,7 @@ fn append(alloc: Global, values: &mut Vec<Val>, more: &[Val]) -> Result<(), Allo
 fn joined(alloc: Global, lists: &[InputValues]) -> Result<Vec<Val>, AllocError>
     ensures { IfOk result (λ values. values.items ≡ joined_of lists.now) }
 {
-    let mut values = Vec::new(alloc);
+    let mut values = Vec::with_capacity(alloc, lists.len())?;
     for list in lists {
         append(alloc, &mut values, list.as_slice())?;
     }
@@ -193,15 +193,18 @@ pub fn combine<M: Meanings, L: Ledger>(
     ensures value { IfOk result (λ v. v ≡ M.rules.combine combiner (joined_of inputs.now)) }
     ensures cost { calls.new ≤ calls.old + 1 }
 {
-    let values = joined(alloc, inputs)?;
-    let value = kit.combiner(combiner).call(&values, calls)?;
+    let rule = kit.combiner(combiner);
+    let value = match inputs {
+        [values] => rule.call(values.as_slice(), calls)?,
+        _ => rule.call(&joined(alloc, inputs)?, calls)?,
+    };
     SharedVal::new(alloc, value)
 }
 
 /// The value of a facet, and what each of its inputs gave, in flat order.
 #[derive(Drop)]
 pub struct FacetFound {
-    pub inputs: Listed<InputValues>,
+    pub inputs: FacetInputs,
     pub value: SharedVal,
 }
 

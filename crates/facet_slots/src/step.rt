@@ -1,33 +1,35 @@
 // One facet or field after a transition.
-ghost use Rattle.std.specs.Prelude.{◌≡◌, ◌+◌, ◌≤◌, IfOk, IsSomeAnd, MatchOption, Some, None, []};
+ghost use Rattle.std.specs.Prelude.{◌≡◌, ◌+◌, ◌≤◌, IfOk, IsSomeAnd, IsTrue, MatchOption, Some, None, map, true, false, []};
 ghost use Rattle.std.specs.Option.{unwrap_or, option_map};
+ghost use Rattle.std.specs.List.{list_any};
 ghost use Rattle.values.specs.Whole.{IsWhole};
-ghost use Rattle.facet_slots.specs.Setups.{facet_at, field_at};
+ghost use Rattle.facet_slots.specs.Setups.{facet_at, field_at, input_node};
 ghost use Rattle.facet_slots.specs.Scenes.{IsScene};
 ghost use Rattle.facet_slots.specs.Agreement.{Follows};
 ghost use Rattle.facet_slots.specs.Lawful.{IsLawful, IsLawfulFacet, IsLawfulField};
 ghost use Rattle.facet_slots.specs.Keeping.{held_inputs};
-ghost use Rattle.facet_slots.specs.Flags.{field_flag};
+ghost use Rattle.facet_slots.specs.Flags.{field_flag, same_nodes};
 ghost use Rattle.facet_slots.specs.Due.{field_calls};
-ghost use Rattle.facet_slots.specs.Nexts.{facet_next_calls, next_calls, IsNext, IsNextFacet, IsNextField};
-ghost use Rattle.facet_slots.specs.Lent.{facet_before, facet_in, flags_in, present_of, scene_in, setup_of, state_in, transition_of, values_in, IsKeptIn};
+ghost use Rattle.facet_slots.specs.Nexts.{facet_next_calls, input_flagged, next_calls, IsNext, IsNextFacet, IsNextField};
+ghost use Rattle.facet_slots.specs.Lent.{facet_before, facet_in, flags_in, nodes_before, present_of, scene_in, setup_of, state_in, transition_of, values_in, IsKeptIn};
 
 use crate::before::Before;
 use crate::draft::Draft;
-use crate::field::{field_found, kept_field, same_init, value_at};
+use crate::facet_inputs::FacetInputs;
+use crate::field::{FieldFound, field_found, kept_field, same_init, value_at};
 use crate::input_values::InputValues;
 use crate::kept::Kept;
+use crate::marks::{Marks, any_input_flagged};
 use crate::next::{Next, next_facet};
 use crate::outputs::facet_found;
 use crate::setup::{Present, Setup};
 use crate::shared_val::SharedVal;
 use crate::transition::Transition;
-use configuration::{FacetDef, Vertex};
-use listed::Listed;
+use configuration::{FacetDef, NodeDef, Vertex};
 use std::alloc::{AllocError, Global};
 use std::sync::ledger::Ledger;
 use steps::Steps;
-use values::{Kit, Meanings};
+use values::{Comparer, Kit, Meanings, Val};
 
 fn kept_inputs(old: &Kept, place: u32) -> &[InputValues]
     ensures { result.now ≡ held_inputs old.now.inputs.items (Vertex.Facet place) }
@@ -92,6 +94,39 @@ fn new_facet<M: Meanings, L: Ledger>(
     })
 }
 
+/// Whether a facet has the same nodes in another list, and no dependency of an input is flagged. Takes no memory.
+fn is_still(before: &Before, node_defs: &[NodeDef<Val>], nodes: &[u32], marks: &Marks) -> bool
+    ensures nodes { IsTrue result → same_nodes (nodes_before before.now) (map (input_node node_defs.now) nodes.now) ≡ true }
+    ensures flags { IsTrue result → list_any (input_flagged marks.now.moved (flags_in marks.now)) (map (input_node node_defs.now) nodes.now) ≡ false }
+{
+    before.has_nodes(nodes) && !any_input_flagged(node_defs, nodes, marks)
+}
+
+/// What is kept of the inputs of a facet, once more.
+fn inputs_again(old: &Kept, place: u32) -> Result<FacetInputs, AllocError>
+    ensures { IfOk result (λ inputs. inputs ≡ held_inputs old.now.inputs.items (Vertex.Facet place)) }
+{
+    match old.inputs.get(place as usize) {
+        Some(inputs) => inputs.share(),
+        None => Ok(FacetInputs::none()),
+    }
+}
+
+/// A facet that stays as it was.
+fn still_facet(old: &Kept, place: u32, value: &SharedVal) -> Result<Next, AllocError>
+    ensures value { IfOk result (λ n. n.value ≡ Some value.now) }
+    ensures flag { IfOk result (λ n. n.flag ≡ false) }
+    ensures inputs { IfOk result (λ n. n.inputs ≡ held_inputs old.now.inputs.items (Vertex.Facet place)) }
+{
+    let inputs = inputs_again(old, place)?;
+    let value = value.share()?;
+    Ok(Next {
+        inputs,
+        value: Some(value),
+        flag: false,
+    })
+}
+
 /// A facet that was declared before.
 fn known_facet<M: Meanings, L: Ledger>(
     alloc: Global,
@@ -118,28 +153,29 @@ fn known_facet<M: Meanings, L: Ledger>(
 {
     old.shelf.known();
     match kept_facet(old, place) {
-        Some(value) => next_facet(
-            alloc,
-            kit,
-            &facet_was(old_setup, old, was, place),
-            value,
-            setup.defs.node_defs.as_slice(),
-            setup.inputs(place),
-            facet,
-            draft,
-            calls,
-        ),
+        Some(value) => {
+            let before = facet_was(old_setup, old, was, place);
+            let node_defs = setup.defs.node_defs.as_slice();
+            let nodes = setup.inputs(place);
+            if is_still(&before, node_defs, nodes, &draft.marks) {
+                still_facet(old, place, value)
+            } else {
+                next_facet(
+                    alloc, kit, &before, value, node_defs, nodes, facet, draft, calls,
+                )
+            }
+        }
         None => unreachable!(),
     }
 }
 
-fn nothing(alloc: Global, flag: bool) -> Next
+fn nothing(flag: bool) -> Next
     ensures value { result.value ≡ None }
     ensures flag { result.flag ≡ flag }
     ensures inputs { result.inputs ≡ [] }
 {
     Next {
-        inputs: Listed::empty(alloc),
+        inputs: FacetInputs::none(),
         value: None,
         flag,
     }
@@ -174,9 +210,20 @@ pub fn step_facet<M: Meanings, L: Ledger>(
             ),
             None => new_facet(alloc, kit, old, setup, place, facet, draft, calls),
         },
-        None => Ok(nothing(alloc, false)),
+        None => Ok(nothing(false)),
     }
 }
+
+/// Whether the value that was found of a field is known to be the same as the old one.
+fn is_same<M: Meanings>(comparer: &Comparer<M>, old: &SharedVal, found: &FieldFound) -> bool
+    requires compares { Compares M.rules comparer.now }
+    requires old { IsTrue found.now.is_old → old.now ≡ found.now.value }
+    ensures { result ≡ M.rules.compare comparer.now.number old.now found.now.value }
+{
+    (found.is_old && comparer.is_reflexive()) || comparer.call(old.value(), found.value.value())
+}
+
+ghost use Rattle.values.specs.Stored.{Compares};
 
 /// Whether a present field came, was made anew, or has a value that isn't known to be the same.
 fn is_changed<M: Meanings>(
@@ -185,19 +232,18 @@ fn is_changed<M: Meanings>(
     old: &Kept,
     place: u32,
     field: &Present,
-    value: &SharedVal,
+    found: &FieldFound,
 ) -> bool
     requires whole { IsWhole M.rules kit.now }
     requires lawful { IsLawfulField M.rules (present_of field.now) }
-    ensures { result ≡ field_flag M.rules (field_at (setup_of old_setup.now) place) (Some (present_of field.now)) (values_in old.now (Vertex.Field place)) (Some value.now) }
+    requires old { IsTrue found.now.is_old → values_in old.now (Vertex.Field place) ≡ Some found.now.value }
+    ensures { result ≡ field_flag M.rules (field_at (setup_of old_setup.now) place) (Some (present_of field.now)) (values_in old.now (Vertex.Field place)) (Some found.now.value) }
 {
     match old_setup.field(place) {
         Some(was) => match kept_field(old, place) {
             Some(old) => {
                 !(same_init(was.init, field.init)
-                    && kit
-                        .comparer(field.def.compare)
-                        .call(old.value(), value.value()))
+                    && is_same(kit.comparer(field.def.compare), old, found))
             }
             None => true,
         },
@@ -227,7 +273,7 @@ pub fn step_field<M: Meanings, L: Ledger>(
 {
     match setup.field(place) {
         Some(field) => {
-            let value = field_found(
+            let found = field_found(
                 alloc,
                 kit,
                 transition,
@@ -239,13 +285,13 @@ pub fn step_field<M: Meanings, L: Ledger>(
                 &draft.kept.shelf,
                 calls,
             )?;
-            let flag = is_changed(kit, old_setup, old, place, &field, &value);
+            let flag = is_changed(kit, old_setup, old, place, &field, &found);
             Ok(Next {
-                inputs: Listed::empty(alloc),
-                value: Some(value),
+                inputs: FacetInputs::none(),
+                value: Some(found.value),
                 flag,
             })
         }
-        None => Ok(nothing(alloc, old_setup.field(place).is_some())),
+        None => Ok(nothing(old_setup.field(place).is_some())),
     }
 }

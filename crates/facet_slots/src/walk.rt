@@ -16,63 +16,30 @@ ghost use Rattle.facet_slots.specs.Lent.{flags_in, scene_in, setup_of, state_in,
 ghost use Rattle.facet_slots.specs.Found.{scene_of};
 
 use crate::draft::Draft;
-use crate::input_values::InputValues;
+use crate::facet_inputs::FacetInputs;
 use crate::kept::Kept;
 use crate::marks::Marks;
 use crate::next::Next;
-use crate::order::order;
+use crate::order::{order_len, vertex_at};
 use crate::scene_flags::SceneFlags;
 use crate::setup::Setup;
-use crate::shared_val::SharedVal;
 use crate::shelf::Shelf;
 use crate::step::{step_facet, step_field};
 use crate::transition::Transition;
 use configuration::Vertex;
-use listed::Listed;
 use std::alloc::{AllocError, Global};
 use std::sync::ledger::Ledger;
 use steps::Steps;
 use values::{Kit, Meanings, Scene};
 
-fn no_values(alloc: Global, count: usize) -> Result<Vec<Option<SharedVal>>, AllocError>
-    ensures { IfOk result (λ values. length values.items ≡ count) }
-{
-    let mut values = Vec::new(alloc);
-    for _place in 0..count {
-        values.push(None)?;
-    }
-    Ok(values)
-}
-
-fn no_inputs(alloc: Global, count: usize) -> Result<Vec<Listed<InputValues>>, AllocError>
+fn no_inputs(alloc: Global, count: usize) -> Result<Vec<FacetInputs>, AllocError>
     ensures { IfOk result (λ inputs. length inputs.items ≡ count) }
 {
-    let mut inputs = Vec::new(alloc);
+    let mut inputs = Vec::with_capacity(alloc, count)?;
     for _place in 0..count {
-        inputs.push(Listed::empty(alloc))?;
+        inputs.push(FacetInputs::none())?;
     }
     Ok(inputs)
-}
-
-fn no_flags(alloc: Global, count: usize) -> Result<Vec<bool>, AllocError>
-    ensures { IfOk result (λ flags. length flags.items ≡ count) }
-{
-    let mut flags = Vec::new(alloc);
-    for _place in 0..count {
-        flags.push(false)?;
-    }
-    Ok(flags)
-}
-
-/// Places for the values of a configuration.
-fn empty_shelf(alloc: Global, setup: &Setup) -> Result<Shelf, AllocError>
-    ensures facets { IfOk result (λ shelf. length shelf.facets.items ≡ length (setup_of setup.now).defs.facets) }
-    ensures fields { IfOk result (λ shelf. length shelf.fields.items ≡ length (setup_of setup.now).config.fields) }
-{
-    Ok(Shelf {
-        facets: no_values(alloc, setup.defs.facets.as_slice().len())?,
-        fields: no_values(alloc, setup.fields().len())?,
-    })
 }
 
 /// Places for the flags of a configuration.
@@ -82,8 +49,8 @@ fn empty_marks(alloc: Global, setup: &Setup, moved: SceneFlags) -> Result<Marks,
 {
     Ok(Marks {
         moved,
-        facets: no_flags(alloc, setup.defs.facets.as_slice().len())?,
-        fields: no_flags(alloc, setup.fields().len())?,
+        facets: vec![in alloc; false; setup.defs.facets.as_slice().len()]?,
+        fields: vec![in alloc; false; setup.fields().len()]?,
     })
 }
 
@@ -94,9 +61,10 @@ fn empty(alloc: Global, setup: &Setup, scene: Scene, moved: SceneFlags) -> Resul
     ensures room { IfOk result (λ draft. HasRoomIn setup.now draft.kept) }
     ensures flags { IfOk result (λ draft. HasFlagRoomIn setup.now draft.marks) }
 {
-    let shelf = empty_shelf(alloc, setup)?;
+    let facet_count = setup.defs.facets.as_slice().len();
+    let shelf = Shelf::empty(alloc, facet_count, setup.fields().len())?;
     let marks = empty_marks(alloc, setup, moved)?;
-    let inputs = no_inputs(alloc, setup.defs.facets.as_slice().len())?;
+    let inputs = no_inputs(alloc, facet_count)?;
     Ok(Draft {
         kept: Kept {
             scene,
@@ -160,14 +128,13 @@ fn store(setup: &Setup, draft: &mut Draft, vertex: Vertex, next: Next)
     match vertex {
         Vertex::Facet(facet) => {
             let place = facet as usize;
-            draft.kept.shelf.facets[place] = value;
+            draft.kept.shelf.put_facet(facet, value);
             draft.marks.facets[place] = flag;
             draft.kept.inputs[place] = inputs;
         }
         Vertex::Field(field) => {
-            let place = field as usize;
-            draft.kept.shelf.fields[place] = value;
-            draft.marks.fields[place] = flag;
+            draft.kept.shelf.put_field(field, value);
+            draft.marks.fields[field as usize] = flag;
         }
     }
 }
@@ -220,13 +187,13 @@ pub fn kept_after<M: Meanings, L: Ledger>(
     ensures kept { IfOk result (λ kept. IsKeptIn M.rules setup.now kept) }
     ensures cost { calls.new ≤ calls.old + transition_calls M.rules (transition_of transition.now) (state_in old_setup.now old.now) (setup_of setup.now) }
 {
-    let order = order(alloc, setup)?;
     let mut draft = empty(alloc, setup, scene, moved(transition))?;
-    for vertex in order.as_slice() {
+    for place in 0..order_len(setup) {
+        let vertex = vertex_at(setup, place);
         let next = step(
-            alloc, kit, transition, old_setup, old, setup, *vertex, &draft, calls,
+            alloc, kit, transition, old_setup, old, setup, vertex, &draft, calls,
         )?;
-        store(setup, &mut draft, *vertex, next);
+        store(setup, &mut draft, vertex, next);
     }
     Ok(draft.kept)
 }

@@ -1,7 +1,7 @@
 -- What calls need of the lists that they are given.
-use Rattle.std.proofs.Common.{◌≡◌, ℕ, List, [], ◌∷◌, length, Option, Some, None, sym, ap, subst, ◌∙◌}
+use Rattle.std.proofs.Common.{◌≡◌, ℕ, List, [], ◌∷◌, length, Some, sym, ap, subst, ◌∙◌}
 use Rattle.change_desc.specs.declared.section.Section.{Section}
-use Rattle.change_desc.specs.Sections.{spelled, lengths, old_size, new_size}
+use Rattle.change_desc.specs.Sections.{spelled, lengths, old_size}
 use Rattle.change_desc.proofs.Merges.{old_size-lengths}
 use Rattle.history.specs.declared.item.ChangeItem.{ChangeItem}
 use Rattle.history.specs.declared.item.Item.{Item}
@@ -9,19 +9,12 @@ use Rattle.history.specs.declared.item.Item.TheVariants.{Change, Select}
 use Rattle.history.specs.declared.step_input.StepInput.{StepInput}
 use Rattle.history.specs.Histories.{LeadOn}
 use Rattle.history.specs.Joining.{first_change}
-use Rattle.history.specs.Steps.{IsStep, way_back}
-use Rattle.history.proofs.Leading.{invert-new}
+use Rattle.history.specs.Steps.{IsStep}
 
 pub over-leads : (i : StepInput) → IsStep i → (over : List (Section ℕ)) → over ≡ lengths spelled i.changes → (items all : List Item) → items ≡ all →
     LeadOn (length i.document.characters) all → LeadOn (old_size over) items
 over-leads i s over o items all e l =
     subst (λ n. LeadOn n items) (sym (ap old_size o ∙ (old_size-lengths spelled i.changes ∙ s.starts))) (subst (LeadOn (length i.document.characters)) (sym e) l)
-
-pub back-leads : (i : StepInput) → IsStep i → (w : ChangeItem) → w ≡ way_back i → (items all : List Item) → items ≡ all →
-    LeadOn (length i.document.characters) all → LeadOn (new_size spelled w.changes) items
-back-leads i s w e items all f l =
-    subst (λ n. LeadOn n items) (sym (ap (λ (c : ChangeItem). new_size spelled c.changes) e ∙ invert-new i.changes i.document.characters s.starts))
-    (subst (LeadOn (length i.document.characters)) (sym f) l)
 
 -- the newest item, where it is a Change, starts where the list does
 pub first-starts : (len : ℕ) (items : List Item) (c : ChangeItem) → LeadOn len items → first_change items ≡ Some c → len ≡ old_size c.changes

@@ -1,7 +1,7 @@
 pub mod Calls
+pub mod Cuts
 pub mod Keeping
 pub mod Leading
-pub mod Links
 pub mod Moved
 pub mod Returning
 pub mod Same

@@ -1,8 +1,8 @@
--- What each list keeps of its items. Private: contracts see the list of items alone.
-use Rattle.std.specs.Prelude.{◌≡◌, ℕ, ◌+◌, ◌≤◌, Bool, true, ◌&&◌, leb, List, [], ◌∷◌, length}
+-- What each chain and each list keeps of its items. Private: contracts see the list of items alone.
+use Rattle.std.specs.Prelude.{◌≡◌, ℕ, ◌+◌, ◌≤◌, Bool, true, ◌&&◌, leb, List, [], ◌∷◌, length, take}
 use Rattle.history.specs.declared.item.Item.{Item}
 use Rattle.history.specs.declared.item.Item.TheVariants.{Change, Select}
-use Rattle.history.specs.declared.items.Counts.{Counts}
+use Rattle.history.specs.declared.chain.Counts.{Counts}
 use Rattle.history.specs.Items.{change_count, most_selects}
 
 -- how many Selects stand in the first row: those before the first Change
@@ -17,16 +17,20 @@ rows_fit [] = true
 rows_fit (Change c ∷ items) = rows_fit items
 rows_fit (Select s ∷ items) = leb (first_row items + 1) most_selects && rows_fit items
 
--- what a list keeps of its items
+-- what a chain keeps of its items
 pub record IsCounted (items : List Item) (c : Counts) : Type 0 where
   pub len : c.len ≡ length items
-  pub changes : c.changes ≡ change_count items
   pub row : c.row ≡ first_row items
   pub fit : c.rows_fit ≡ rows_fit items
-  pub few_changes : c.changes ≤ c.len
   pub short_row : c.row ≤ c.len
+
+-- what a list keeps of the items that its chain has and it itself: how many it has, the newest, and how many of them are Changes
+pub record IsCut (items : List Item) (len count : ℕ) : Type 0 where
+  pub few : len ≤ length items
+  pub changes : count ≡ change_count (take len items)
+  pub few_changes : count ≤ len
 
 -- with one more item before the others
 abbrev pub counted_with : Item → Counts → Counts
-counted_with (Change c) n = record { len = n.len + 1; changes = n.changes + 1; row = 0; rows_fit = n.rows_fit }
-counted_with (Select s) n = record { len = n.len + 1; changes = n.changes; row = n.row + 1; rows_fit = leb (n.row + 1) most_selects && n.rows_fit }
+counted_with (Change c) n = record { len = n.len + 1; row = 0; rows_fit = n.rows_fit }
+counted_with (Select s) n = record { len = n.len + 1; row = n.row + 1; rows_fit = leb (n.row + 1) most_selects && n.rows_fit }

@@ -1,8 +1,8 @@
--- The links of a list of items. Private: contracts see the list of items alone.
+-- The links of a chain of items. Private: contracts see the list of items alone.
 use Rattle.std.specs.Prelude.{List, [], ◌∷◌}
 use Rattle.history.specs.declared.item.Item.{Item}
-use Rattle.history.specs.declared.items.Link.{Link}
-use Rattle.history.specs.declared.items.Link.TheVariants.{End, More}
+use Rattle.history.specs.declared.chain.Link.{Link}
+use Rattle.history.specs.declared.chain.Link.TheVariants.{End, More}
 
 -- the items from a link on
 abbrev pub items_of : Link → List Item

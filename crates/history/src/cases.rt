@@ -1,5 +1,5 @@
 ghost use Rattle.std.specs.Prelude.{IfOk, cond, length, option_copied, ◌++◌, ◌∷◌, ◌≡◌};
-ghost use Rattle.change_desc.specs.Sections.{new_size, old_size, spelled};
+ghost use Rattle.change_desc.specs.Sections.{lengths, old_size, spelled};
 ghost use Rattle.kept_effects.specs.MappedValues.{moved_effects};
 ghost use Rattle.history.specs.Histories.{LeadOn};
 ghost use Rattle.history.specs.Joining.{closes_after, joins};
@@ -14,7 +14,6 @@ use crate::items::Items;
 use crate::lists::{Lists, group_if};
 use crate::moving::items_over;
 use crate::step_input::{StepInput, copied, copied_event};
-use change_desc::Desc;
 use cm_plain::KeptEffect;
 use kept_effects::moved_effects;
 use listed::Listed;
@@ -152,10 +151,10 @@ impl Lists {
         requires done { LeadOn (length input.now.document.characters) self.now.done }
         ensures { IfOk result (λ done. done ≡ cond (joins self.now input.now) (joined_to (way_back input.now) self.now.done) (Item.Change (way_back input.now) ∷ self.now.done)) }
     {
-        let change = input.way_back(alloc)?;
         if self.is_joined(input)? {
-            return joined_to(alloc, change, &self.done);
+            return joined_to(alloc, input, &self.done);
         }
+        let change = input.way_back(alloc)?;
         self.done.with_first(alloc, Item::Change(change))
     }
 
@@ -184,48 +183,53 @@ fn group_after(input: &StepInput) -> Group
     }
 }
 
-/// The way back put after a Change: its effects are mapped over that Change's and stand before them, and the older selection
-/// stays.
+/// The way back of a step put after a Change: its effects are mapped over that Change's and stand before them, and the older
+/// selection stays.
 fn joined_change(
     alloc: Global,
-    way_back: &ChangeItem,
+    input: &StepInput,
     change: &ChangeItem,
 ) -> Result<ChangeItem, AllocError>
-    requires { new_size spelled way_back.now.changes ≡ old_size change.now.changes }
-    ensures { IfOk result (λ joined. joined ≡ joined_change way_back.now change.now) }
+    requires starts { old_size input.now.changes ≡ length input.now.document.characters }
+    requires meets { length input.now.document.characters ≡ old_size change.now.changes }
+    ensures { IfOk result (λ joined. joined ≡ joined_change (way_back input.now) change.now) }
 {
-    let over = change.changes.desc()?;
+    let back = input.changes.invert(&input.document)?;
     Ok(ChangeItem {
-        changes: way_back.changes.compose(&change.changes)?,
-        effects: joined_effects(alloc, way_back, change, &over)?,
+        changes: back.compose(&change.changes)?,
+        effects: joined_effects(alloc, input, change)?,
         selection: change.selection.try_copy()?,
     })
 }
 
-/// The effects of the way back over changes, and then those of a Change.
+/// The effects of a step over the changes of a Change, and then those of the Change.
 fn joined_effects(
     alloc: Global,
-    way_back: &ChangeItem,
+    input: &StepInput,
     change: &ChangeItem,
-    over: &Desc,
 ) -> Result<Listed<KeptEffect>, AllocError>
-    ensures { IfOk result (λ effects. effects ≡ moved_effects over.now way_back.now.effects ++ change.now.effects) }
+    ensures { IfOk result (λ effects. effects ≡ moved_effects (lengths spelled change.now.changes) input.now.effects ++ change.now.effects) }
 {
-    let mut effects = moved_effects(alloc, way_back.effects.as_slice(), over)?.into_vec();
+    let over = change.changes.desc()?;
+    let mut effects = moved_effects(alloc, input.effects.as_slice(), &over)?.into_vec();
     let mut others = copied(alloc, change.effects.as_slice())?.into_vec();
     effects.append(&mut others)?;
     Ok(Listed::new(effects))
 }
 
-/// The way back put after the newest item, where that is a Change, else before all.
-fn joined_to(alloc: Global, way_back: ChangeItem, items: &Items) -> Result<Items, AllocError>
-    requires { LeadOn (new_size spelled way_back.changes) items.now }
-    ensures { IfOk result (λ joined. joined ≡ joined_to way_back items.now) }
+/// The way back of a step put after the newest item, where that is a Change, else before all.
+fn joined_to(alloc: Global, input: &StepInput, items: &Items) -> Result<Items, AllocError>
+    requires step { IsStep input.now }
+    requires leads { LeadOn (length input.now.document.characters) items.now }
+    ensures { IfOk result (λ joined. joined ≡ joined_to (way_back input.now) items.now) }
 {
     match items.first_change() {
-        None => items.with_first(alloc, Item::Change(way_back)),
+        None => {
+            let change = input.way_back(alloc)?;
+            items.with_first(alloc, Item::Change(change))
+        }
         Some(change) => {
-            let joined = joined_change(alloc, &way_back, change)?;
+            let joined = joined_change(alloc, input, change)?;
             items
                 .without_first()?
                 .with_first(alloc, Item::Change(joined))

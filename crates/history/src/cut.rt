@@ -1,10 +1,10 @@
-ghost use Rattle.std.specs.Prelude.{IfOk, ◌≡◌};
-ghost use Rattle.history.specs.Items.{keep_changes, keep_selects, most_selects};
+ghost use Rattle.std.specs.Prelude.{IfOk, length, ◌≡◌, ◌≤◌};
+ghost use Rattle.history.specs.Items.{change_count, keep_changes, keep_selects, most_selects};
 ghost use Rattle.history.specs.PrivateItems.{room_after};
 ghost use Rattle.history.specs.Steps.{kept_count};
 
-use crate::items::{Items, MOST_SELECTS, with_all};
-use crate::shared_item::SharedItem;
+use crate::chain::MOST_SELECTS;
+use crate::items::{Items, with_all};
 use std::alloc::{AllocError, Global};
 
 /// How many Changes a depth keeps.
@@ -14,35 +14,45 @@ pub(crate) fn kept_count(depth: i64) -> usize
     if depth <= 0 { 0 } else { depth as usize }
 }
 
-/// So many of the newest Changes; the next one and all older items go. A list that has no more is shared.
+/// So many of the newest Changes; the next one and all older items go. No more links are made than items went since the list
+/// got its chain.
 pub(crate) fn keep_changes(alloc: Global, count: usize, items: Items) -> Result<Items, AllocError>
     ensures { IfOk result (λ kept. kept ≡ keep_changes count items) }
 {
-    if items.change_count() <= count {
-        return Ok(items);
-    }
-    let kept = newest_changes(alloc, count, &items)?;
-    with_all(alloc, kept, Items::empty())
+    newest_changes(count, items).compact(alloc)
 }
 
-/// The items with so many of the newest Changes.
-fn newest_changes(alloc: Global, count: usize, items: &Items) -> Result<Vec<SharedItem>, AllocError>
-    ensures { IfOk result (λ kept. kept.items ≡ keep_changes count items.now) }
+/// The items with so many of the newest Changes, on the chain that they have.
+fn newest_changes(count: usize, items: Items) -> Items
+    ensures { result ≡ keep_changes count items }
 {
-    let mut kept = Vec::new(alloc);
+    if items.change_count() <= count {
+        return items;
+    }
+    let len = kept_len(count, &items);
+    items.newest(len, count)
+}
+
+/// How many items have so many of the newest Changes. Where all are Changes none is looked at.
+fn kept_len(count: usize, items: &Items) -> usize
+    requires { count ≤ change_count items.now }
+    ensures { result ≡ length (keep_changes count items.now) }
+{
+    if items.len() == items.change_count() {
+        return count;
+    }
     let mut room = count;
-    let mut rest = items;
+    let mut rest = items.tail();
     while let Some((item, older)) = rest.split_first() {
         if item.item().is_change() {
             if room == 0 {
-                return Ok(kept);
+                break;
             }
             room -= 1;
         }
-        kept.push(item.share()?)?;
         rest = older;
     }
-    Ok(kept)
+    items.len() - rest.len()
 }
 
 /// How many more Selects may stand in the row that an item stands in, and whether it stays, where there was room for so many.
@@ -64,7 +74,7 @@ pub(crate) fn keep_selects(alloc: Global, items: &Items) -> Result<Items, AllocE
 {
     let mut kept = Vec::new(alloc);
     let mut room = MOST_SELECTS;
-    let mut rest = items;
+    let mut rest = items.tail();
     while let Some((item, older)) = rest.split_first() {
         if room == MOST_SELECTS && rest.rows_fit() {
             return with_all(alloc, kept, rest.share()?);

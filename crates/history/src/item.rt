@@ -1,4 +1,4 @@
-ghost use Rattle.std.specs.Prelude.{IsTrue, option_copied, ◌↔◌, ◌≡◌};
+ghost use Rattle.std.specs.Prelude.{IsTrue, cond, option_copied, ◌↔◌, ◌≡◌};
 ghost use Rattle.history.specs.Items.{is_change};
 ghost use Rattle.history.specs.PrivateItems.{change_of, select_of};
 
@@ -65,6 +65,16 @@ impl Item {
         match self {
             Item::Change(_) => true,
             Item::Select(_) => false,
+        }
+    }
+
+    /// How many Changes it is: one or none.
+    pub(crate) fn change_count(&self) -> usize
+        ensures { result ≡ cond (is_change self.now) 1 0 }
+    {
+        match self {
+            Item::Change(_) => 1,
+            Item::Select(_) => 0,
         }
     }
 

@@ -1,80 +1,25 @@
-ghost use Rattle.std.specs.Prelude.{IfOk, IfSome, MatchOption, [], length, ◌++◌, ◌∷◌, ◌≡◌, ◌≤◌};
+ghost use Rattle.std.specs.Prelude.{IfOk, IsTrue, MatchOption, [], length, take, true, ◌++◌, ◌∷◌, ◌≡◌, ◌≤◌};
 ghost use Rattle.history.specs.Items.{change_count};
-ghost use Rattle.history.specs.PrivateCounts.{counted_with, rows_fit};
+ghost use Rattle.history.specs.PrivateCounts.{rows_fit};
 
-use crate::item::Item;
+use crate::chain::Chain;
 use crate::shared_item::SharedItem;
 use std::alloc::{AllocError, Global};
 use std::marker::Model;
-use std::rc::Rc;
 
-/// How many Selects may stand in a row.
-pub const MOST_SELECTS: usize = 200;
-
-/// What a list keeps of its items, so that no step counts them.
-#[derive(Clone, Copy, Drop)]
-pub(crate) struct Counts {
-    /// How many items there are, and how many of them are Changes.
-    pub(crate) len: usize,
-    pub(crate) changes: usize,
-    /// How many Selects stand before the first Change.
-    pub(crate) row: usize,
-    /// Whether no row of Selects is longer than it may be.
-    pub(crate) rows_fit: bool,
-}
-
-impl Counts {
-    /// With one more item before the others. `None`: there are as many as can be counted.
-    fn counted_with(&self, item: &Item) -> Option<Counts>
-        requires changes { self.now.changes ≤ self.now.len }
-        requires row { self.now.row ≤ self.now.len }
-        ensures { IfSome result (λ more. more ≡ counted_with item.now self.now) }
-    {
-        let len = self.len.checked_add(1)?;
-        let more = match item {
-            Item::Change(_) => Counts {
-                len,
-                changes: self.changes + 1,
-                row: 0,
-                rows_fit: self.rows_fit,
-            },
-            Item::Select(_) => Counts {
-                len,
-                changes: self.changes,
-                row: self.row + 1,
-                rows_fit: self.row + 1 <= MOST_SELECTS && self.rows_fit,
-            },
-        };
-        Some(more)
-    }
-}
-
-/// Items, newest first. Each list is a link to the list of those older than its first, which other lists share: so an item is
-/// put before others, and a list is shared, without a copy of the others. Contracts see the list of the items.
-#[cycle(items)]
+/// Items, newest first: the newest of a chain, which other lists share. The oldest items of the chain may be cut off: a cut makes
+/// no link, since it leaves the chain as it is, and what is cut off stays in memory until `compact` makes the list a chain of its
+/// own. Contracts see the list of the items.
+#[derive(Drop)]
 pub struct Items {
-    counts: Counts,
-    newest: Link,
-}
-
-/// The newest item of a list, if there is one, and the older ones.
-#[cycle(items)]
-#[derive(Drop)]
-pub(crate) enum Link {
-    End,
-    More(Rc<Node>),
-}
-
-/// An item and the older ones.
-#[cycle(items)]
-#[derive(Drop)]
-pub(crate) struct Node {
-    pub(crate) item: SharedItem,
-    pub(crate) older: Items,
+    chain: Chain,
+    /// How many items of the chain are not cut off, and how many of them are Changes.
+    len: usize,
+    changes: usize,
 }
 
 impl Model for Items {
-    ghost use Rattle.std.specs.Prelude.{List};
+    ghost use Rattle.std.specs.Prelude.{List, take};
     ghost use Rattle.std.specs.Coded.{codes};
     ghost use Rattle.cm_plain.specs.Datum.{coded_datum};
     ghost use Rattle.history.specs.declared.item.Item.{Item};
@@ -83,41 +28,36 @@ impl Model for Items {
 
     ghost coded = { Prim.hlevel (codes, coded_datum) };
 
-    ghost use Rattle.history.specs.PrivateCounts.{IsCounted};
-    ghost use Rattle.history.specs.PrivateLinks.{items_of};
+    ghost use Rattle.history.specs.PrivateCounts.{IsCut};
 
-    ghost view = { λ a. items_of a.newest };
+    ghost view = { λ a. take a.len a.chain };
 
-    ghost invariant = { λ a. IsCounted (items_of a.newest) a.counts };
-
-    ghost use Rattle.std.specs.Prelude.{length};
-
-    ghost size = { length };
-
-    ghost use Rattle.std.proofs.Common.{arith, length-append};
-
-    ghost size_decreases = { λ a h. Prim.grind (arith, length-append) };
+    ghost invariant = { λ a. IsCut a.chain a.len a.changes };
 }
 
-/// A loop, since a long list would else be dropped by as many calls as it has items.
-impl Drop for Items {
-    fn drop(mut self) {
-        loop {
-            match self {
-                Items {
-                    counts: _,
-                    newest: Link::End,
-                } => return,
-                Items {
-                    counts: _,
-                    newest: Link::More(node),
-                } => match Rc::into_inner(node) {
-                    None => return,
-                    Some(Node { item: _item, older }) => self = older,
-                },
-            }
-        }
-    }
+/// The items of a list from one on, lent. Contracts see the list of these items.
+#[derive(Drop)]
+pub(crate) struct Tail<'a> {
+    chain: &'a Chain,
+    len: usize,
+    changes: usize,
+}
+
+impl<'a> Model for Tail<'a> {
+    ghost use Rattle.std.specs.Prelude.{List, take};
+    ghost use Rattle.std.specs.Coded.{codes};
+    ghost use Rattle.cm_plain.specs.Datum.{coded_datum};
+    ghost use Rattle.history.specs.declared.item.Item.{Item};
+
+    ghost Value = { List Item };
+
+    ghost coded = { Prim.hlevel (codes, coded_datum) };
+
+    ghost use Rattle.history.specs.PrivateCounts.{IsCut};
+
+    ghost view = { λ a. take a.len a.chain.now };
+
+    ghost invariant = { λ a. IsCut a.chain.now a.len a.changes };
 }
 
 impl Items {
@@ -126,13 +66,9 @@ impl Items {
         ensures { result ≡ [] }
     {
         Items {
-            counts: Counts {
-                len: 0,
-                changes: 0,
-                row: 0,
-                rows_fit: true,
-            },
-            newest: Link::End,
+            chain: Chain::empty(),
+            len: 0,
+            changes: 0,
         }
     }
 
@@ -140,16 +76,64 @@ impl Items {
     pub(crate) fn with_shared(self, alloc: Global, item: SharedItem) -> Result<Items, AllocError>
         ensures { IfOk result (λ all. all ≡ item ∷ self) }
     {
-        let counts = match self.counts.counted_with(item.item()) {
-            Some(counts) => counts,
+        let len = match self.len.checked_add(1) {
+            Some(len) => len,
             None => return Err(AllocError),
         };
-        match Rc::new(alloc, Node { item, older: self }) {
-            Ok(node) => Ok(Items {
-                counts,
-                newest: Link::More(node),
-            }),
-            Err(_) => Err(AllocError),
+        let changes = self.changes + item.item().change_count();
+        Ok(Items {
+            chain: self.chain.with_shared(alloc, item)?,
+            len,
+            changes,
+        })
+    }
+
+    /// So many of the newest items, of which so many are Changes, on the chain that they have.
+    pub(crate) fn newest(self, len: usize, changes: usize) -> Items
+        requires few { len ≤ length self }
+        requires changes { changes ≡ change_count (take len self) }
+        ensures { result ≡ take len self }
+    {
+        Items {
+            chain: self.chain,
+            len,
+            changes,
+        }
+    }
+
+    /// The same list, which gets a chain of its own where more items of its chain are cut off than it has. So no more items that
+    /// were cut off stay in memory than the list has, and no more links are made than items were cut off. `Err`: out of memory.
+    pub(crate) fn compact(self, alloc: Global) -> Result<Items, AllocError>
+        ensures { IfOk result (λ same. same ≡ self) }
+    {
+        if self.chain.len() - self.len <= self.len {
+            return Ok(self);
+        }
+        let items = self.shared_items(alloc)?;
+        with_all(alloc, items, Items::empty())
+    }
+
+    /// The items, without a copy of them. `Err`: out of memory.
+    fn shared_items(&self, alloc: Global) -> Result<Vec<SharedItem>, AllocError>
+        ensures { IfOk result (λ items. items.items ≡ self.now) }
+    {
+        let mut items = Vec::with_capacity(alloc, self.len())?;
+        let mut rest = self.tail();
+        while let Some((item, older)) = rest.split_first() {
+            items.push(item.share()?)?;
+            rest = older;
+        }
+        Ok(items)
+    }
+
+    /// All items, lent.
+    pub(crate) fn tail(&self) -> Tail<'_>
+        ensures { result ≡ self.now }
+    {
+        Tail {
+            chain: &self.chain,
+            len: self.len,
+            changes: self.changes,
         }
     }
 
@@ -157,44 +141,81 @@ impl Items {
     pub(crate) fn share(&self) -> Result<Items, AllocError>
         ensures { IfOk result (λ same. same ≡ self.now) }
     {
-        match &self.newest {
-            Link::End => Ok(Items::empty()),
-            Link::More(node) => Ok(Items {
-                counts: self.counts,
-                newest: Link::More(node.clone()?),
-            }),
-        }
+        self.tail().share()
     }
 
     /// The newest item and the older ones.
-    pub(crate) fn split_first(&self) -> Option<(&SharedItem, &Items)>
-        ensures { MatchOption result (self.now ≡ []) (λ parts. self.now ≡ parts.0.now ∷ parts.1.now) }
+    pub(crate) fn split_first(&self) -> Option<(&SharedItem, Tail<'_>)>
+        ensures { MatchOption result (self.now ≡ []) (λ parts. self.now ≡ parts.0.now ∷ parts.1) }
     {
-        match &self.newest {
-            Link::End => None,
-            Link::More(node) => Some((&node.item, &node.older)),
-        }
+        self.tail().split_first()
     }
 
     /// How many items there are.
     pub(crate) fn len(&self) -> usize
         ensures { result ≡ length self.now }
     {
-        self.counts.len
+        self.len
     }
 
     /// How many Changes there are.
     pub(crate) fn change_count(&self) -> usize
         ensures { result ≡ change_count self.now }
     {
-        self.counts.changes
+        self.changes
+    }
+}
+
+impl<'a> Tail<'a> {
+    /// The newest item and the older ones.
+    pub(crate) fn split_first(&self) -> Option<(&'a SharedItem, Tail<'a>)>
+        ensures { MatchOption result (self.now ≡ []) (λ parts. self.now ≡ parts.0.now ∷ parts.1) }
+    {
+        if self.len == 0 {
+            return None;
+        }
+        let chain = self.chain;
+        match chain.split_first() {
+            None => None,
+            Some((item, older)) => {
+                let changes = self.changes - item.item().change_count();
+                Some((
+                    item,
+                    Tail {
+                        chain: older,
+                        len: self.len - 1,
+                        changes,
+                    },
+                ))
+            }
+        }
     }
 
-    /// Whether no row of Selects is longer than it may be.
-    pub(crate) fn rows_fit(&self) -> bool
-        ensures { result ≡ rows_fit self.now }
+    /// These items as a list, without a copy of them. `Err`: no further owner can be counted.
+    pub(crate) fn share(&self) -> Result<Items, AllocError>
+        ensures { IfOk result (λ same. same ≡ self.now) }
     {
-        self.counts.rows_fit
+        let chain = self.chain;
+        Ok(Items {
+            chain: chain.share()?,
+            len: self.len,
+            changes: self.changes,
+        })
+    }
+
+    /// How many items there are.
+    pub(crate) fn len(&self) -> usize
+        ensures { result ≡ length self.now }
+    {
+        self.len
+    }
+
+    /// Whether no row of Selects of the chain is longer than it may be, so that none of these items is.
+    pub(crate) fn rows_fit(&self) -> bool
+        ensures { IsTrue result → rows_fit self.now ≡ true }
+    {
+        let chain = self.chain;
+        chain.rows_fit()
     }
 }
 

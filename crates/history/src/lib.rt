@@ -8,6 +8,7 @@
 
 mod case;
 mod cases;
+mod chain;
 mod cut;
 mod group;
 mod history;
@@ -21,11 +22,12 @@ mod restore;
 mod shared_item;
 mod step_input;
 
+pub use crate::chain::MOST_SELECTS;
 pub use crate::group::Group;
 pub use crate::history::History;
 pub use crate::isolation::Isolation;
 pub use crate::item::{ChangeItem, Item, SelectItem};
-pub use crate::items::{Items, MOST_SELECTS};
+pub use crate::items::Items;
 pub use crate::lists::Lists;
 pub use crate::restore::Restore;
 pub use crate::step_input::StepInput;

@@ -6,7 +6,7 @@ ghost use Rattle.history.specs.Moving.{is_idle, items_over, moved_select, newest
 ghost use Rattle.history.specs.PrivateMoved.{MovesTo, PutsMoved};
 
 use crate::item::{ChangeItem, Item, SelectItem};
-use crate::items::{Items, with_all};
+use crate::items::{Items, Tail, with_all};
 use crate::shared_item::SharedItem;
 use crate::step_input::copied_event;
 use change_desc::Desc;
@@ -131,11 +131,11 @@ fn push_moved(
 fn extend_moved(
     alloc: Global,
     to: &mut Vec<SharedItem>,
-    items: &Items,
+    items: Tail<'_>,
     over: Desc,
 ) -> Result<(), AllocError>
-    requires { LeadOn (old_size over) items.now }
-    ensures { OnOk result (to.new.items ≡ to.old.items ++ items_over over items.now) }
+    requires { LeadOn (old_size over) items }
+    ensures { OnOk result (to.new.items ≡ to.old.items ++ items_over over items.entry) }
 {
     let mut after = over;
     let mut rest = items;
@@ -159,7 +159,7 @@ pub(crate) fn items_over(
     ensures items { IfOk result (λ moved. moved.items ≡ items_over over.now items.now) }
     ensures stays { IfOk result (λ moved. moved.newest_stays ≡ newest_stays over.now items.now) }
 {
-    let mut all = Vec::new(alloc);
+    let mut all = Vec::with_capacity(alloc, items.len())?;
     let Some((newest, others)) = items.split_first() else {
         return Ok(MovedItems {
             items: Items::empty(),

@@ -64,7 +64,7 @@ impl Items {
     pub(crate) fn newest_change(&self) -> Option<&ChangeItem>
         ensures { option_copied result ≡ newest_change self.now }
     {
-        let mut rest = self;
+        let mut rest = self.tail();
         while let Some((item, older)) = rest.split_first() {
             if let Some(change) = item.item().as_change() {
                 return Some(change);
@@ -78,7 +78,7 @@ impl Items {
     pub(crate) fn older(&self) -> Result<Items, AllocError>
         ensures { IfOk result (λ items. items ≡ older self.now) }
     {
-        let mut rest = self;
+        let mut rest = self.tail();
         while let Some((item, older)) = rest.split_first() {
             if item.item().is_change() {
                 return older.share();
@@ -112,7 +112,7 @@ impl Items {
     pub(crate) fn leads(&self, len: u32) -> bool
         ensures { result ≡ leads len self.now }
     {
-        let mut rest = self;
+        let mut rest = self.tail();
         while let Some((item, older)) = rest.split_first() {
             match item.item() {
                 Item::Change(change) => return change.changes.len() == len,
@@ -131,8 +131,8 @@ impl Items {
     pub(crate) fn same(&self, other: &Items) -> bool
         ensures { IsTrue result ↔ (self.now ≡ other.now) }
     {
-        let mut left = self;
-        let mut right = other;
+        let mut left = self.tail();
+        let mut right = other.tail();
         while let Some((a, older)) = left.split_first() {
             let Some((b, others)) = right.split_first() else {
                 return false;

@@ -289,13 +289,13 @@ fn a_history_of_another_document_counts_as_empty(rt: HostRuntime) -> Result<(), 
     Ok(())
 }
 
-/// The numbers of Changes and of items after so many insertions at the start, each a group, and as many undos, where so many
-/// Changes are kept.
+/// The numbers of Changes, of items and of characters after so many insertions at the start, each a group, and as many undos,
+/// where so many Changes are kept.
 fn counts_after(
     alloc: Global,
     count: u32,
     depth: i64,
-) -> Result<((usize, usize), (usize, usize)), Fail> {
+) -> Result<((usize, usize), (usize, usize), u32), Fail> {
     let mut scene = played(alloc, &[], &[])?;
     let mut time: i64 = 0;
     for _ in 0..count {
@@ -311,13 +311,111 @@ fn counts_after(
     for _ in 0..count {
         scene = acted(alloc, &scene, Act::Undo, Twist::Depth(depth), time)?;
     }
-    Ok((scene.history.depth(), scene.history.items()))
+    Ok((
+        scene.history.depth(),
+        scene.history.items(),
+        scene.document.len(),
+    ))
 }
 
 #[test]
 fn many_steps_are_undone(rt: HostRuntime) -> Result<(), Fail> {
-    let counts = counts_after(rt.alloc(), 2_000, 1_000_000)?;
-    assert!(rt; counts == ((0, 2_000), (0, 2_000)));
+    for (count, depth, undone, left) in &[(2_000, 1_000_000, 2_000, 0), (30, 3, 3, 27)] {
+        let counts = counts_after(rt.alloc(), *count, *depth)?;
+        assert!(rt; counts == ((0, *undone), (0, *undone), *left));
+    }
+    Ok(())
+}
+
+/// Five characters that are typed with a selection after each but the last, and then an act four times, where two Changes are
+/// kept.
+fn typed_and(act: Act) -> [(Act, Twist); 13] {
+    let two = Twist::Depth(2);
+    let away = (Act::Select(0, 0), two);
+    [
+        (Act::Insert(0, 'a'), two),
+        away,
+        (Act::Insert(1, 'b'), two),
+        away,
+        (Act::Insert(2, 'c'), two),
+        away,
+        (Act::Insert(3, 'd'), two),
+        away,
+        (Act::Insert(4, 'e'), two),
+        (act, two),
+        (act, two),
+        (act, two),
+        (act, two),
+    ]
+}
+
+/// Whether acts from a document without characters lead to so many items, each that can be undone and that can be done again, to
+/// a selection and to a document.
+fn keep(
+    acts: &[(Act, Twist)],
+    alloc: Global,
+    items: (usize, usize),
+    selected: (u32, u32),
+    document: &[char],
+) -> Result<bool, Fail> {
+    let scene = played(alloc, &[], acts)?;
+    Ok(
+        scene.history.items() == items
+            && scene.selected == selected
+            && is_spelled(&scene.document, document)?,
+    )
+}
+
+const TYPED: [char; 5] = ['a', 'b', 'c', 'd', 'e'];
+
+#[test]
+fn changes_are_cut_off_with_what_is_older(rt: HostRuntime) -> Result<(), Fail> {
+    let acts = typed_and(Act::Undo);
+    for (count, items, selected, typed) in &[
+        (3, (3, 0), (2, 2), 2),
+        (4, (4, 0), (0, 0), 2),
+        (5, (4, 0), (3, 3), 3),
+        (6, (5, 0), (0, 0), 3),
+        (7, (4, 0), (4, 4), 4),
+        (9, (4, 0), (5, 5), 5),
+        (10, (3, 1), (0, 0), 4),
+        (11, (1, 2), (0, 0), 3),
+        (12, (1, 2), (0, 0), 3),
+    ] {
+        assert!(rt;
+            keep(
+                &acts[..*count],
+                rt.alloc(),
+                *items,
+                *selected,
+                &TYPED[..*typed]
+            )?,
+            "{count}"
+        );
+    }
+    Ok(())
+}
+
+#[test]
+fn each_item_that_is_kept_is_undone(rt: HostRuntime) -> Result<(), Fail> {
+    let acts = typed_and(Act::UndoSelection);
+    for (count, items, selected, typed) in &[
+        (10, (3, 1), (0, 0), 4),
+        (11, (2, 2), (4, 4), 4),
+        (12, (1, 3), (0, 0), 3),
+        (13, (0, 4), (3, 3), 3),
+    ] {
+        assert!(rt;
+            keep(
+                &acts[..*count],
+                rt.alloc(),
+                *items,
+                *selected,
+                &TYPED[..*typed]
+            )?,
+            "{count}"
+        );
+    }
     Ok(())
 }
 

@@ -28,12 +28,17 @@ pub(crate) fn is_int(value: &Val, want: i64) -> bool {
     }
 }
 
-/// Whether the rules that compare and combine answer: the greatest of no numbers is 0, and the same as 0.
+/// Whether the rules that compare and combine answer: the greatest of no numbers is 0, and the same as 0; the first comparer is
+/// known to say 'same' of every value and itself, and the second isn't.
 fn combines<L: Ledger>(kit: &Kit<Shipped>, calls: &mut Steps<L>) -> Result<bool, Fail>
     requires { IsWhole shipped kit.now }
 {
     let greatest = kit.combiner(4).call(&[], calls)?;
-    Ok(kit.comparer(1).call(&greatest, &int(0)))
+    Ok(
+        kit.comparer(1).call(&greatest, &int(0))
+            && kit.comparer(1).is_reflexive()
+            && !kit.comparer(2).is_reflexive(),
+    )
 }
 
 /// Whether the rules that read answer where nothing is read.
@@ -72,8 +77,10 @@ fn updates<L: Ledger>(
 {
     let one = int(1);
     one.known();
-    let new = kit.updater(2).call(&one, view, calls)?;
-    Ok(is_int(&new, 2))
+    match kit.updater(2).call(&one, view, calls)? {
+        Some(new) => Ok(is_int(&new, 2)),
+        None => Ok(false),
+    }
 }
 
 /// Whether the first effect map keeps the one place of the empty text.

@@ -1,7 +1,9 @@
 // The rules of a stranger, of all sorts, each written out with its clause: a function that handed out rules of one sort would hand
 // out boxed closures. So each function makes two sorts, and passes on what is made.
-ghost use Rattle.std.specs.Prelude.{◌≡◌, All, IfOk};
+ghost use Rattle.std.specs.Prelude.{◌≡◌, All, Bool, IfOk, unwrap_or};
+ghost use Rattle.std.specs.Borrow.{Bor};
 ghost use Rattle.values.specs.Stored.{Combines, Compares, Computes, ComputesLists, Creates, Extends, Filters, Guards, MapsEffects, Updates};
+ghost use Rattle.values.specs.declared.val.Val.{Val};
 ghost use Rattle.kit_cases.specs.More.{more};
 
 use crate::more::{More, combine_more};
@@ -9,7 +11,8 @@ use crate::more_kit::{Case, is_so};
 use change_desc::Desc;
 use listed::Listed;
 use shipped_rules::{
-    compare, compute, compute_list, create, each_or_none, extend, filter, guard, map_effect, update,
+    compare, compute, compute_list, create, each_or_none, extend, filter, guard, is_reflexive,
+    map_effect, update,
 };
 use std::alloc::{AllocError, Global};
 use std::test::Fail;
@@ -186,8 +189,8 @@ fn holds_listing(
         {
             let rule: UpdateBox = Box::new(
                 alloc,
-                move |old: &Val, view: &UpdateView| -> Result<Val, AllocError>
-                    ensures { IfOk result (λ v. v ≡ more.update number old.now view.now.transaction view.now.deps) }
+                move |old: &Val, view: &UpdateView| -> Result<Option<Val>, AllocError>
+                    ensures { IfOk result (λ answer. unwrap_or answer old.now ≡ more.update number old.now view.now.transaction view.now.deps) }
                 { update(alloc, number, old, view) },
             )?;
             Ok(Updater::<More>::new(number, rule))
@@ -248,6 +251,19 @@ fn holds_reading(
     holds_listing(alloc, case, combiners, comparers, computers, creators)
 }
 
+/// The comparer of a number with its rule, stored as one that says 'same' of every value and itself where that is known.
+fn comparer(number: u32, rule: CompareBox) -> Comparer<More>
+    requires callable { (p q : Bor Val) → CompareBox.pre rule p q }
+    requires meant { (p q : Bor Val) (r : Bool) → CompareBox.post rule p q r → r ≡ more.compare number p.now q.now }
+    ensures { Compares more result }
+{
+    if is_reflexive(number) {
+        Comparer::reflexive(number, rule)
+    } else {
+        Comparer::new(number, rule)
+    }
+}
+
 /// Whether a case holds of the kit of these rules.
 pub(crate) fn holds(alloc: Global, case: Case) -> Result<bool, Fail> {
     let combiners = each_or_none(
@@ -277,7 +293,7 @@ pub(crate) fn holds(alloc: Global, case: Case) -> Result<bool, Fail> {
                     ensures { result ≡ more.compare number old.now new.now }
                 { compare(number, old, new) },
             )?;
-            Ok(Comparer::<More>::new(number, rule))
+            Ok(comparer(number, rule))
         },
     );
     holds_reading(alloc, case, combiners, comparers)

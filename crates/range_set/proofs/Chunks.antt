@@ -175,13 +175,14 @@ module _ {T : Type 0} (rules : RangeRules T) where
   chunk-at (q ∷ ps) zero p l e h = subst (λ (x : Placed T). IsChunk rules x.start x.chunk.value × (1 ≤ length x.chunk.value.ranges.items)) (sym e) h.0
   chunk-at (q ∷ ps) (suc i) p l e h = chunk-at ps i p (omega arith) e h.1
 
+  pub fit_chunk : (start : ℕ) (chunk : Chunk T) → IsChunk rules start chunk → Fit (map (shift start) chunk.ranges.items)
+  fit_chunk start chunk h =
+      let k : greatest_end chunk.ranges.items ≤ chunk.reach = omega (arith, h.reach) in
+      fit_shifted start chunk.reach chunk.ranges.items h.forward (end_by_greatest chunk.ranges.items chunk.reach k) h.fits
+
   pub fit_flat : (ps : List (Placed T)) → AreChunks rules ps → Fit (flat ps)
   fit_flat [] h = tt
-  fit_flat (p ∷ ps) h =
-      let k : greatest_end p.chunk.value.ranges.items ≤ p.chunk.value.reach = omega (arith, h.0.0.reach) in
-      Fit-append (map (shift p.start) p.chunk.value.ranges.items) (flat ps)
-      (fit_shifted p.start p.chunk.value.reach p.chunk.value.ranges.items h.0.0.forward (end_by_greatest p.chunk.value.ranges.items p.chunk.value.reach k) h.0.0.fits)
-      (fit_flat ps h.1)
+  fit_flat (p ∷ ps) h = Fit-append (map (shift p.start) p.chunk.value.ranges.items) (flat ps) (fit_chunk p.start p.chunk.value h.0.0) (fit_flat ps h.1)
 
   -- one more chunk after those of a builder, of which none grows
   pub share_built : (done ended after : List (Placed T)) (start at : ℕ) (before none : List (Ranged T)) (p : Placed T) → flat ended ≡ flat done ++ map (shift start) before → none ≡ []

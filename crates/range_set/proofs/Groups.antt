@@ -13,7 +13,7 @@ use Rattle.range_set.specs.declared.chunk.Placed.{Placed}
 use Rattle.range_set.specs.declared.chunk.Chunk.{Chunk}
 use Rattle.range_set.specs.declared.group.Group.{Group}
 use Rattle.range_set.specs.declared.group.PlacedGroup.{PlacedGroup}
-use Rattle.range_set.proofs.Chunks.{AreChunks-push, begin_by-next, chunk-at, end_by_greatest, flat-append, flat-push, forward_shifted, greatest_shifted, length_shifted, turned-shifted}
+use Rattle.range_set.proofs.Chunks.{AreChunks-push, begin_by-next, chunk-at, end_by_greatest, fit_chunk, flat-append, flat-push, forward_shifted, greatest_shifted, length_shifted, turned-shifted}
 use Rattle.range_set.proofs.RangeOrder.{forward-append}
 
 module _ {T : Type 0} where
@@ -252,13 +252,6 @@ module _ {T : Type 0} (rules : RangeRules T) where
   pub length_moved : (by : ℕ) (ps : List (Placed T)) → length (flat (map (move by) ps)) ≡ length (flat ps)
   length_moved by ps = ap length (flat-moved by ps) ∙ length_shifted rules by (flat ps)
 
-  -- the first of chunks that are left
-  pub next_chunk : (by : ℕ) (chunks : List (Placed T)) (later : List (Placed T)) (p : Placed T) (others : List (Placed T)) → chunks ≡ p ∷ others
-      → IsNextChunk (map (move by) chunks ++ later) (p.start + by) p.chunk.value (map (move by) others ++ later)
-  next_chunk by chunks later p others e =
-      subst (λ ps. IsNextChunk (map (move by) ps ++ later) (p.start + by) p.chunk.value (map (move by) others ++ later)) (sym e)
-      (record { ranges = refl; fewer = omega arith })
-
   -- a chunk after others in order begins where they do or after
   pub begin_by_chunk : (here : List (Placed T)) (p : Placed T) (rest : List (Placed T)) → AreChunks rules (p ∷ rest) → Ascend 0 (flat (here ++ p ∷ rest)) → BeginBy p.start (flat here)
   begin_by_chunk here p rest h asc = at p.chunk.value.ranges.items h.0.1 h.0.0.first (subst (Ascend 0) (flat-append here (p ∷ rest)) asc)
@@ -308,6 +301,17 @@ module _ {T : Type 0} (rules : RangeRules T) where
   left_next base chunks groups p ps some h =
       let all = subst (λ qs. AreChunks rules (map (move base) qs)) some h.opened in
       (ap (λ qs. map (move base) qs ++ spread groups) some, (all.0.0, record { opened = all.1; others = h.others }))
+
+  -- the first of chunks that are left
+  pub next_chunk : (base : ℕ) (chunks : List (Placed T)) (groups : List (PlacedGroup T)) (p : Placed T) (ps : List (Placed T)) → chunks ≡ p ∷ ps → AreLeft rules base chunks groups
+      → IsNextChunk (map (move base) chunks ++ spread groups) (base + p.start) p.chunk.value (map (move base) ps ++ spread groups)
+  next_chunk base chunks groups p ps some h =
+      let next = left_next base chunks groups p ps some h in
+      let later = map (move base) ps ++ spread groups in
+      let n : p.start + base ≡ base + p.start = omega arith in
+      subst (λ qs. IsNextChunk qs (base + p.start) p.chunk.value later) (sym next.0)
+      (subst (λ k. IsNextChunk (move base p ∷ later) k p.chunk.value later) n
+      (record { ranges = refl; fits = fit_chunk rules (p.start + base) p.chunk.value next.1.0; fewer = omega arith }))
 
   -- one more chunk of a group at its place
   pub open_more : (start : ℕ) (ps : List (Placed T)) (i : ℕ) (p : Placed T) → i < length ps → p ≡ get_or ps i p

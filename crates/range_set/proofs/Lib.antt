@@ -12,4 +12,5 @@ pub mod Cost
 pub mod Walked
 pub mod Sharing
 pub mod Sets
+pub mod Same
 pub mod Adding

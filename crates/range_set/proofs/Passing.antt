@@ -6,7 +6,7 @@ use Rattle.std.specs.Prelude.{nat_le}
 use Rattle.std.specs.List.{list_any}
 use Rattle.range_set.specs.Rules.{RangeRules}
 use Rattle.range_set.specs.Points.{points_of, stands}
-use Rattle.range_set.specs.PrivateChunks.{AreGroups, Ascend, EndBy, Fit, IsChunk, flat, shift, spread}
+use Rattle.range_set.specs.PrivateChunks.{AreGroups, Ascend, EndBy, IsChunk, flat, shift, spread}
 use Rattle.range_set.specs.Updating.{overlaps}
 use Rattle.range_set.specs.declared.ranged.Ranged.{Ranged}
 use Rattle.range_set.specs.declared.chunk.Placed.{Placed}
@@ -29,10 +29,6 @@ module _ {T : Type 0} where
   pub none_past : (from to n : ℕ) (rs : List (Ranged T)) → to < n → Ascend n rs → filter (overlaps from to) rs ≡ []
   none_past from to n [] l h = refl
   none_past from to n (r ∷ rs) l h = rw (begins_past from to r.from r.to (omega (arith, h.0))) (none_past from to r.from rs (omega (arith, h.0)) h.1)
-
-  pub fit-rest : (xs ys : List (Ranged T)) → Fit (xs ++ ys) → Fit ys
-  fit-rest [] ys h = h
-  fit-rest (x ∷ xs) ys h = fit-rest xs ys h.1
 
   pub length-rest : (xs ys : List (Ranged T)) → length ys ≤ length (xs ++ ys)
   length-rest xs ys = let e = length-append xs ys in omega (arith, e)
@@ -74,14 +70,12 @@ module _ {T : Type 0} where
     pub kept : (to : ℕ) → filter (overlaps place to) (flat new) ≡ filter (overlaps place to) (flat old)
     pub order : (n : ℕ) → Ascend n (flat old) → Ascend n (flat new)
     pub fewer : length (flat new) ≤ length (flat old)
-    pub fit : Fit (flat old) → Fit (flat new)
 
   pub passed_none : (place : ℕ) (ps : List (Placed T)) → ArePassed place ps ps
   passed_none place ps = record {
     kept = λ to. refl;
     order = λ n h. h;
     fewer = omega arith;
-    fit = λ h. h;
   }
 
   passed_hull : (place start reach : ℕ) (old here later : List (Placed T)) (rs : List (Ranged T)) → flat here ≡ map (shift start) rs ++ flat later → EndBy reach rs → start + reach < place → ArePassed place old here → ArePassed place old later
@@ -89,7 +83,6 @@ module _ {T : Type 0} where
     kept = λ to. sym (none_overlap place to start reach rs (flat later) ends l) ∙ (ap (filter (overlaps place to)) (sym is) ∙ h.kept to);
     order = λ n k. ascend-rest n (map (shift start) rs) (flat later) (subst (Ascend n) is (h.order n k));
     fewer = let m = length-rest (map (shift start) rs) (flat later) in let n = ap length is in let k = h.fewer in omega (arith, m, n, k);
-    fit = λ k. fit-rest (map (shift start) rs) (flat later) (subst Fit is (h.fit k));
   }
 
   pub passed_chunk : (rules : RangeRules T) (place : ℕ) (old : List (Placed T)) (p : Placed T) (later : List (Placed T)) → IsChunk rules p.start p.chunk.value → p.start + p.chunk.value.reach < place
@@ -108,20 +101,17 @@ module _ {T : Type 0} (rules : RangeRules T) where
   pub record HaveNoPoint (old new : List (Placed T)) : Type 0 where
     pub kept : points_of rules (flat new) ≡ points_of rules (flat old)
     pub fewer : length (flat new) ≤ length (flat old)
-    pub fit : Fit (flat old) → Fit (flat new)
 
   pub no_point_none : (ps : List (Placed T)) → HaveNoPoint ps ps
   no_point_none ps = record {
     kept = refl;
     fewer = omega arith;
-    fit = λ h. h;
   }
 
   no_point_hull : (start : ℕ) (old here later : List (Placed T)) (rs : List (Ranged T)) → flat here ≡ map (shift start) rs ++ flat later → list_any (stands rules) rs ≡ false → HaveNoPoint old here → HaveNoPoint old later
   no_point_hull start old here later rs is none h = record {
     kept = sym (no_points rules start rs (flat later) none) ∙ (ap (points_of rules) (sym is) ∙ h.kept);
     fewer = let m = length-rest (map (shift start) rs) (flat later) in let n = ap length is in let k = h.fewer in omega (arith, m, n, k);
-    fit = λ k. fit-rest (map (shift start) rs) (flat later) (subst Fit is (h.fit k));
   }
 
   pub no_point_chunk : (old : List (Placed T)) (p : Placed T) (later : List (Placed T)) → IsChunk rules p.start p.chunk.value → p.chunk.value.has_point ≡ false → HaveNoPoint old (p ∷ later) → HaveNoPoint old later

@@ -13,15 +13,14 @@ use Rattle.stable_order.specs.StableSort.{insert_by, stable_sort}
 use Rattle.range_set.specs.Rules.{RangeRules}
 use Rattle.range_set.specs.Order.{AllForward, before}
 use Rattle.range_set.specs.Mapping.{Ends, EndWithin, ends_unless_turned, map_ranges, moved, new_ends, place_of, point_ends, span_ends}
-use Rattle.range_set.specs.PrivateChunks.{AreChunks, AreGroups, EndBy, Fit, flat, move, shift, spread}
+use Rattle.range_set.specs.PrivateChunks.{AreChunks, AreGroups, EndBy, Fit, flat, shift, spread}
 use Rattle.range_set.specs.declared.ranged.Ranged.{Ranged}
 use Rattle.range_set.specs.declared.chunk.Placed.{Placed}
-use Rattle.range_set.specs.declared.group.Group.{Group}
 use Rattle.range_set.specs.declared.group.PlacedGroup.{PlacedGroup}
 use Rattle.range_set.proofs.Chunks.{fit_flat, length_shifted, not_less}
 use Rattle.range_set.proofs.Clear.{Sections}
 use Rattle.range_set.proofs.Each.{Within, end_within}
-use Rattle.range_set.proofs.Groups.{flat-spread, flat-spread_push, flat_forward, group-at, group_ends, shifted_twice, spread-push, spread_take}
+use Rattle.range_set.proofs.Groups.{flat-spread, flat-spread_push, flat_forward, group-at, group_ends, shifted_twice, spread_take}
 use Rattle.range_set.proofs.Walked.{hull_within, within_prefix, within_rest}
 
 -- ends that lie in a text, if there are any
@@ -114,16 +113,6 @@ module _ {T : Type 0} (rules : RangeRules T) where
       subst (λ (x : PlacedGroup T). x.start + x.group.value.reach ≤ len) (sym e) (omega (arith, k, r))
   hull_of len (q ∷ gs) (suc i) g l e h w =
       hull_of len gs i g (omega arith) e h.1 (within_rest len (map (shift q.start) (flat q.group.value.chunks.items)) (flat (spread gs)) (subst (Within len) (flat-spread q gs) w))
-
-  -- one more group that is shared
-  pub spread_shared : (gs done after : List (PlacedGroup T)) (i : ℕ) (g q : PlacedGroup T) → i < length gs → g ≡ get_or gs i g → q.start ≡ g.start → q.group.value ≡ g.group.value → spread done ≡ spread (take i gs) → after ≡ done ++ q ∷ []
-      → spread after ≡ spread (take (i + 1) gs)
-  spread_shared gs done after i g q l e s v h a =
-      ap spread a ∙ (spread-push done q
-      ∙ (ap (λ n. spread done ++ map (move n) q.group.value.chunks.items) s
-      ∙ (ap (λ (x : Group T). spread done ++ map (move g.start) x.chunks.items) v
-      ∙ (ap (λ xs. xs ++ map (move g.start) g.group.value.chunks.items) h
-      ∙ sym (ap spread (spread_take gs i g l e) ∙ spread-push (take i gs) g)))))
 
 -- the last range of some chunks
 pub last_place : {X : Type 0} (xs : List X) (x : X) → slice_get xs (length xs - 1) ≡ Some x → (length xs - 1 < length xs) × (x ≡ get_or xs (length xs - 1) x)

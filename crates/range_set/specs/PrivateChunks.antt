@@ -1,5 +1,5 @@
 -- Groups of chunks as one list of ranges. Private: contracts of sets see that list alone.
-use Rattle.std.specs.Prelude.{◌≡◌, ℕ, ◌+◌, ◌^◌, ◌<◌, ◌≤◌, max, List, Bool, ◌||◌, false, None, [], ◌∷◌, ◌++◌, length, map}
+use Rattle.std.specs.Prelude.{◌≡◌, ◌⊎◌, ℕ, ◌+◌, ◌^◌, ◌<◌, ◌≤◌, max, List, Bool, ◌||◌, false, None, [], ◌∷◌, ◌++◌, length, map}
 use Rattle.std.specs.List.{list_any}
 use Rattle.change_desc.specs.Ranges.{meets, replaced}
 use Rattle.range_set.specs.Rules.{RangeRules}
@@ -68,7 +68,15 @@ module _ {T : Type 0} where
   -- a chunk at a place is the first of those that were left
   pub record IsNextChunk (old : List (Placed T)) (start : ℕ) (chunk : Chunk T) (new : List (Placed T)) : Type 0 where
     pub ranges : flat old ≡ map (shift start) chunk.ranges.items ++ flat new
+    pub fits : Fit (map (shift start) chunk.ranges.items)
     pub fewer : length new < length old
+
+  -- equal ranges are taken from the starts of both lists, so that one has none left
+  pub record TakesSame (old_left old_right new_left new_right : List (Ranged T)) : Type 0 where
+    pub taken : List (Ranged T)
+    pub left : old_left ≡ taken ++ new_left
+    pub right : old_right ≡ taken ++ new_right
+    pub none_left : (new_left ≡ []) ⊎ (new_right ≡ [])
 
   -- each range begins at n or before
   abbrev pub BeginBy : ℕ → List (Ranged T) → Type 0

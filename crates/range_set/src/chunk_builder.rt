@@ -38,6 +38,8 @@ impl<T: RangeValue> ChunkBuilder<T> {
         ensures ranges { IfOk result (λ _. built self.new ≡ built self.old ++ range ∷ []) }
     {
         self.make_room(range.from, left)?;
+        let more = MAX_RANGES.saturating_sub(self.growing.ranges.len());
+        self.growing.ranges.reserve(more.min(left))?;
         self.growing.put(self.start, range)
     }
 

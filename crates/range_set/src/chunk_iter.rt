@@ -1,11 +1,12 @@
-ghost use Rattle.std.specs.Prelude.{◌≡◌, ◌≤◌, IfSome, [], None, ℕ, filter, length};
+ghost use Rattle.std.specs.Prelude.{◌++◌, ◌≡◌, ◌≤◌, IfSome, [], None, ℕ, filter, length};
 ghost use Rattle.range_set.specs.Points.{points_of};
-ghost use Rattle.range_set.specs.PrivateChunks.{AreGroups, Ascend, Fit, IsNextChunk, flat, spread};
+ghost use Rattle.range_set.specs.PrivateChunks.{AreGroups, Ascend, IsNextChunk, flat, spread};
 ghost use Rattle.range_set.specs.Updating.{overlaps};
 
 use crate::chunk::{Chunk, Placed};
 use crate::group::PlacedGroup;
 use crate::range_value::RangeValue;
+use crate::run::Run;
 use std::marker::Model;
 
 /// The chunks of groups in order. Contracts see it as those that are left, at their places.
@@ -66,12 +67,36 @@ impl<'a, T: RangeValue> ChunkIter<'a, T> {
         }
     }
 
+    /// The ranges of the next chunk that has some; none where none are left.
+    pub(crate) fn next_run(&mut self) -> Run<'a, T>
+        ensures ranges { flat self.old ≡ result ++ flat self.new }
+        ensures none { result ≡ [] → flat self.new ≡ [] }
+    {
+        loop {
+            match self.next_chunk() {
+                Some((start, chunk)) => {
+                    if !chunk.ranges.is_empty() {
+                        return Run::over(start, chunk.ranges.as_slice());
+                    }
+                }
+                None => return Run::empty(),
+            }
+        }
+    }
+
+    /// A run that some ranges are left of, or else the next one.
+    pub(crate) fn refilled(&mut self, run: Run<'a, T>) -> Run<'a, T>
+        ensures ranges { result ++ flat self.new ≡ run.entry ++ flat self.old }
+        ensures none { result ≡ [] → flat self.new ≡ [] }
+    {
+        if run.is_empty() { self.next_run() } else { run }
+    }
+
     /// Passes over chunks and groups that come next and whose hull ends before a place.
     pub(crate) fn pass_chunks(&mut self, place: u32)
         ensures kept { (to : ℕ) → filter (overlaps place to) (flat self.new) ≡ filter (overlaps place to) (flat self.old) }
         ensures order { (n : ℕ) → Ascend n (flat self.old) → Ascend n (flat self.new) }
         ensures fewer { length (flat self.new) ≤ length (flat self.old) }
-        ensures fit { Fit (flat self.old) → Fit (flat self.new) }
     {
         loop {
             match self.chunks.split_first() {
@@ -99,7 +124,6 @@ impl<'a, T: RangeValue> ChunkIter<'a, T> {
     pub(crate) fn pass_without_point(&mut self)
         ensures kept { points_of T.rules (flat self.new) ≡ points_of T.rules (flat self.old) }
         ensures fewer { length (flat self.new) ≤ length (flat self.old) }
-        ensures fit { Fit (flat self.old) → Fit (flat self.new) }
     {
         loop {
             match self.chunks.split_first() {

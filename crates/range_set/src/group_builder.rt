@@ -3,6 +3,7 @@ ghost use Rattle.range_set.specs.PrivateChunks.{AreChunks, AreGroups, AreGroupsO
 
 use crate::chunk::Placed;
 use crate::group::{FEW_CHUNKS, Group, MAX_CHUNKS, PlacedGroup};
+use crate::group_list::GroupList;
 use crate::range_value::RangeValue;
 use std::alloc::{AllocError, Global};
 use std::mem;
@@ -59,6 +60,8 @@ impl<T: RangeValue> GroupBuilder<T> {
         ensures ranges { IfOk result (λ _. grouped self.new ≡ grouped self.old ++ placed ∷ []) }
     {
         self.make_room(placed.start, left)?;
+        let more = MAX_CHUNKS.saturating_sub(self.growing.chunks.len());
+        self.growing.chunks.reserve(more.min(left))?;
         let count = placed.chunk.ranges.len();
         self.growing.put(self.start, placed)?;
         self.len += count;
@@ -119,13 +122,13 @@ impl<T: RangeValue> GroupBuilder<T> {
     }
 
     /// The groups of all ranges, and how many ranges there are. `Err`: out of memory.
-    pub(crate) fn finish(mut self) -> Result<(Vec<PlacedGroup<T>>, usize), AllocError>
+    pub(crate) fn finish(mut self) -> Result<(GroupList<T>, usize), AllocError>
         requires { IsGroupBuilder T.rules self }
-        ensures groups { IfOk result (λ made. AreGroupsOf T.rules made.0.items made.1) }
-        ensures ranges { IfOk result (λ made. spread made.0.items ≡ grouped self) }
+        ensures groups { IfOk result (λ made. AreGroupsOf T.rules made.0 made.1) }
+        ensures ranges { IfOk result (λ made. spread made.0 ≡ grouped self) }
     {
         seal(&mut self.done, self.start, &mut self.growing)?;
-        Ok((self.done, self.len))
+        Ok((GroupList::of(self.done)?, self.len))
     }
 }
 

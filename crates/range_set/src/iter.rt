@@ -1,4 +1,4 @@
-ghost use Rattle.std.specs.Prelude.{◌≡◌, ◌≤◌, ℕ, filter, length};
+ghost use Rattle.std.specs.Prelude.{◌↔◌, ◌≡◌, ◌≤◌, ℕ, IsTrue, filter, length};
 ghost use Rattle.std.specs.Iterator.{YieldsFirstBy, item_count};
 ghost use Rattle.range_set.specs.Points.{points_of};
 ghost use Rattle.range_set.specs.PrivateChunks.{AreGroups, Ascend, flat, spread};
@@ -9,14 +9,14 @@ use crate::chunk_iter::ChunkIter;
 use crate::group::PlacedGroup;
 use crate::range_ref::RangeRef;
 use crate::range_value::RangeValue;
-use crate::ranged::Ranged;
+use crate::run::Run;
 use std::marker::Model;
 
 /// The ranges of a set in order. Contracts see it as those that are left.
 #[derive(Drop)]
 pub struct Iter<'a, T: RangeValue> {
-    start: u32,
-    rest: &'a [Ranged<T>],
+    /// Those that are left of the chunk that was reached.
+    run: Run<'a, T>,
     others: ChunkIter<'a, T>,
 }
 
@@ -26,12 +26,10 @@ impl<'a, T: RangeValue> Model for Iter<'a, T> {
 
     ghost Value = { List (Ranged T) };
 
-    ghost use Rattle.std.specs.Prelude.{◌++◌, map};
-    ghost use Rattle.range_set.specs.PrivateChunks.{Fit, flat, shift};
+    ghost use Rattle.std.specs.Prelude.{◌++◌};
+    ghost use Rattle.range_set.specs.PrivateChunks.{flat};
 
-    ghost view = { λ s. map (shift s.start) s.rest.now ++ flat s.others };
-
-    ghost invariant = { λ s. Fit (map (shift s.start) s.rest.now ++ flat s.others) };
+    ghost view = { λ s. s.run ++ flat s.others };
 }
 
 impl<'a, T: RangeValue> Iter<'a, T> {
@@ -41,8 +39,7 @@ impl<'a, T: RangeValue> Iter<'a, T> {
         ensures { result ≡ flat (spread groups.now) }
     {
         Iter {
-            start: 0,
-            rest: &[],
+            run: Run::empty(),
             others: ChunkIter::over(groups),
         }
     }
@@ -53,7 +50,7 @@ impl<'a, T: RangeValue> Iter<'a, T> {
         ensures order { (n : ℕ) → Ascend n self.old → Ascend n self.new }
         ensures fewer { length self.new ≤ length self.old }
     {
-        if self.rest.is_empty() {
+        if self.run.is_empty() {
             self.others.pass_chunks(place);
         }
     }
@@ -63,7 +60,7 @@ impl<'a, T: RangeValue> Iter<'a, T> {
         ensures kept { points_of T.rules self.new ≡ points_of T.rules self.old }
         ensures fewer { length self.new ≤ length self.old }
     {
-        if self.rest.is_empty() {
+        if self.run.is_empty() {
             self.others.pass_without_point();
         }
     }
@@ -77,17 +74,35 @@ impl<'a, T: RangeValue> Iterator for Iter<'a, T> {
     ghost remaining = { item_count (λ s. s) };
 
     fn next(&mut self) -> Option<RangeRef<'a, T>> {
-        while self.rest.is_empty() {
-            let (start, chunk) = self.others.next_chunk()?;
-            self.start = start;
-            self.rest = chunk.ranges.as_slice();
+        if self.run.is_empty() {
+            self.run = self.others.next_run();
         }
-        let (first, rest) = self.rest.split_first()?;
-        self.rest = rest;
-        Some(RangeRef {
-            from: self.start + first.from,
-            to: self.start + first.to,
-            value: &first.value,
-        })
+        self.run.next()
+    }
+}
+
+/// Whether both have the same ranges. They are compared slice by slice, each as long as neither of two chunks ends.
+pub(crate) fn same_ranges<'a, 'b, T: RangeValue>(
+    left: ChunkIter<'a, T>,
+    right: ChunkIter<'b, T>,
+) -> bool
+    ensures { IsTrue result ↔ (flat left.entry ≡ flat right.entry) }
+{
+    let mut left = left;
+    let mut right = right;
+    let mut left_run = left.next_run();
+    let mut right_run = right.next_run();
+    loop {
+        if left_run.is_empty() {
+            return right_run.is_empty();
+        }
+        if right_run.is_empty() {
+            return false;
+        }
+        if !left_run.take_same(&mut right_run) {
+            return false;
+        }
+        left_run = left.refilled(left_run);
+        right_run = right.refilled(right_run);
     }
 }

@@ -12,6 +12,7 @@ mod chunk_builder;
 mod chunk_iter;
 mod group;
 mod group_builder;
+mod group_list;
 mod iter;
 mod moving;
 mod opening;
@@ -21,6 +22,7 @@ mod range_ref;
 mod range_set;
 mod range_value;
 mod ranged;
+mod run;
 mod updating;
 
 pub use between::Between;

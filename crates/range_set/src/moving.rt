@@ -14,6 +14,7 @@ use crate::chunk::{Chunk, Placed};
 use crate::chunk_builder::ChunkBuilder;
 use crate::group::{PlacedGroup, in_three};
 use crate::group_builder::GroupBuilder;
+use crate::group_list::GroupList;
 use crate::opening::opened;
 use crate::range_ref::RangeRef;
 use crate::range_value::RangeValue;
@@ -32,21 +33,43 @@ pub(crate) fn mapped_groups<T: RangeValue, L: Ledger>(
     groups: &[PlacedGroup<T>],
     changes: &Desc,
     mapped: &mut Steps<L>,
-) -> Result<(Vec<PlacedGroup<T>>, usize), AllocError>
+) -> Result<(GroupList<T>, usize), AllocError>
     requires groups { AreGroups T.rules groups.now }
     requires order { first_fault T.rules (flat (spread groups.now)) ≡ None }
     requires room { length (flat (spread groups.now)) < 2 ^ 64 }
     requires inside { EndWithin (old_size changes.now) (flat (spread groups.now)) }
-    ensures groups { IfOk result (λ made. AreGroupsOf T.rules made.0.items made.1) }
-    ensures ranges { IfOk result (λ made. flat (spread made.0.items) ≡ map_ranges T.rules changes.now (flat (spread groups.now))) }
+    ensures groups { IfOk result (λ made. AreGroupsOf T.rules made.0 made.1) }
+    ensures ranges { IfOk result (λ made. flat (spread made.0) ≡ map_ranges T.rules changes.now (flat (spread groups.now))) }
     ensures cost { mapped.new ≤ mapped.old + most_mapped T.rules changes.now (flat (spread groups.now)) }
 {
     let ranges = changes.ranges(true)?;
-    let index = PositionIndex::new(alloc, changes)?;
     let (before, middle, after) = parted(groups, changes, &ranges);
-    let chunks = opened(alloc, middle)?;
-    let chunks = map_chunks(alloc, &chunks, changes, &ranges, &index, mapped)?;
+    let chunks = map_opened(alloc, middle, changes, &ranges, mapped)?;
     joined(alloc, before, chunks, after, changes)
+}
+
+/// The chunks of groups after changes, where the replaced ranges are given. Without groups no memory is taken. `Err`: out of memory.
+fn map_opened<T: RangeValue, L: Ledger>(
+    alloc: Global,
+    groups: &[PlacedGroup<T>],
+    changes: &Desc,
+    ranges: &[ChangedRange],
+    mapped: &mut Steps<L>,
+) -> Result<Vec<Placed<T>>, AllocError>
+    requires replaced { ranges.now ≡ replaced changes.now }
+    requires groups { AreGroups T.rules groups.now }
+    requires order { first_fault T.rules (flat (spread groups.now)) ≡ None }
+    requires inside { EndWithin (old_size changes.now) (flat (spread groups.now)) }
+    ensures chunks { IfOk result (λ made. AreChunks T.rules made.items) }
+    ensures ranges { IfOk result (λ made. flat made.items ≡ map_ranges T.rules changes.now (flat (spread groups.now))) }
+    ensures cost { mapped.new ≤ mapped.old + most_mapped T.rules changes.now (flat (spread groups.now)) }
+{
+    if groups.is_empty() {
+        return Ok(Vec::new(alloc));
+    }
+    let chunks = opened(alloc, groups)?;
+    let index = PositionIndex::new(alloc, changes)?;
+    map_chunks(alloc, &chunks, changes, ranges, &index, mapped)
 }
 
 /// Groups that changes don't affect, moved and shared, with chunks between them, and how many ranges there are. `Err`: out of memory.
@@ -56,7 +79,7 @@ fn joined<T: RangeValue>(
     chunks: Vec<Placed<T>>,
     after: &[PlacedGroup<T>],
     changes: &Desc,
-) -> Result<(Vec<PlacedGroup<T>>, usize), AllocError>
+) -> Result<(GroupList<T>, usize), AllocError>
     requires before { AreGroups T.rules before.now }
     requires after { AreGroups T.rules after.now }
     requires chunks { AreChunks T.rules chunks.items }
@@ -67,8 +90,8 @@ fn joined<T: RangeValue>(
     requires ascend { Ascend 0 (flat (spread before.now) ++ flat (spread after.now)) }
     requires order { Ascend 0 (filter_map (moved T.rules changes.now) (flat (spread before.now)) ++ flat chunks.items) }
     requires room { length (flat (spread before.now)) + length (flat chunks.items) + length (flat (spread after.now)) < 2 ^ 64 }
-    ensures groups { IfOk result (λ made. AreGroupsOf T.rules made.0.items made.1) }
-    ensures ranges { IfOk result (λ made. flat (spread made.0.items) ≡ filter_map (moved T.rules changes.now) (flat (spread before.now)) ++ (flat chunks.items ++ filter_map (moved T.rules changes.now) (flat (spread after.now)))) }
+    ensures groups { IfOk result (λ made. AreGroupsOf T.rules made.0 made.1) }
+    ensures ranges { IfOk result (λ made. flat (spread made.0) ≡ filter_map (moved T.rules changes.now) (flat (spread before.now)) ++ (flat chunks.items ++ filter_map (moved T.rules changes.now) (flat (spread after.now)))) }
 {
     let mut walker = PositionWalker::new(changes);
     let mut builder = GroupBuilder::new(alloc);
@@ -237,6 +260,7 @@ fn map_each<T: RangeValue, L: Ledger>(
     ensures walk { IfOk result (λ _. (later : _) → Ascend walker.old.reached (map (shift placed.now.start) placed.now.chunk.value.ranges.items ++ later) → Ascend walker.new.reached later) }
     ensures cost { mapped.new ≤ mapped.old + length placed.now.chunk.value.ranges.items }
 {
+    run.reserve(placed.chunk.ranges.len())?;
     for range in &placed.chunk.ranges {
         mapped.tick();
         let range = RangeRef {

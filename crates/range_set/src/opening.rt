@@ -32,6 +32,7 @@ fn open<T: RangeValue>(
     ensures ranges { IfOk result (λ _. flat chunks.new.items ≡ flat chunks.old.items ++ map (shift placed.now.start) (flat placed.now.group.value.chunks.items)) }
     ensures chunks { IfOk result (λ _. AreChunks T.rules chunks.new.items) }
 {
+    chunks.reserve(placed.group.chunks.len())?;
     for inner in &placed.group.chunks {
         let start = placed.start + inner.start;
         chunks.push(Placed {

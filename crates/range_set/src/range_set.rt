@@ -10,9 +10,11 @@ ghost use Rattle.range_set.specs.Updating.{AnswersAs, updated, overlaps};
 use crate::between::Between;
 use crate::chunk::Placed;
 use crate::chunk_builder::ChunkBuilder;
+use crate::chunk_iter::ChunkIter;
 use crate::group::PlacedGroup;
 use crate::group_builder::GroupBuilder;
-use crate::iter::Iter;
+use crate::group_list::GroupList;
+use crate::iter::{Iter, same_ranges};
 use crate::moving::{mapped_groups, put_all};
 use crate::opening::opened;
 use crate::points::Points;
@@ -28,10 +30,10 @@ use std::sync::ledger::{Blank, Ledger};
 use steps::Steps;
 
 /// A set of ranges in order (Reference Manual: RangeSet): by their starts, then by their start sides, then as they were
-/// given. It is a list of groups of chunks of 1 to 64 ranges; sets share both.
+/// given. It is a list of groups of chunks of 1 to 64 ranges; sets share both, and copies of one share the list.
 #[derive(Drop)]
 pub struct RangeSet<T: RangeValue> {
-    groups: Vec<PlacedGroup<T>>,
+    groups: GroupList<T>,
     len: usize,
 }
 
@@ -42,9 +44,9 @@ impl<T: RangeValue> Model for RangeSet<T> {
 
     ghost Value = { List (Ranged T) };
 
-    ghost view = { λ s. flat (spread s.groups.items) };
+    ghost view = { λ s. flat (spread s.groups) };
 
-    ghost invariant = { λ s. IsRangeSet T.rules s.groups.items s.len };
+    ghost invariant = { λ s. IsRangeSet T.rules s.groups s.len };
 }
 
 impl<T: RangeValue> RangeSet<T> {
@@ -53,7 +55,7 @@ impl<T: RangeValue> RangeSet<T> {
         ensures { result ≡ [] }
     {
         RangeSet {
-            groups: Vec::new(alloc),
+            groups: GroupList::empty(alloc),
             len: 0,
         }
     }
@@ -118,16 +120,18 @@ impl<T: RangeValue> RangeSet<T> {
                 last_of(self.groups.as_slice()),
                 last_of(other.groups.as_slice()),
             )
-            && same_ranges(self.iter(), other.iter())
+            && same_ranges(
+                ChunkIter::over(self.groups.as_slice()),
+                ChunkIter::over(other.groups.as_slice()),
+            )
     }
 
-    /// The same set once more, which shares its groups. `Err`: out of memory.
+    /// The same set once more: both share one list of groups. `Err`: no further owner can be counted.
     pub fn try_copy(&self) -> Result<RangeSet<T>, AllocError>
         ensures { IfOk result (λ s. s ≡ self.now) }
     {
-        let groups = shared(*self.groups.allocator(), self.groups.as_slice())?;
         Ok(RangeSet {
-            groups,
+            groups: self.groups.share()?,
             len: self.len,
         })
     }
@@ -148,7 +152,7 @@ impl<T: RangeValue> RangeSet<T> {
         ensures refused { IfErr result (λ e. e ≢ RangeError.NoMemory → first_fault T.rules add.items ≡ Some e) }
     {
         self.check_added(add.as_slice())?;
-        let alloc = *self.groups.allocator();
+        let alloc = self.groups.alloc();
         let chunks = opened(alloc, self.groups.as_slice())?;
         let chunks = updated_chunks(alloc, chunks.as_slice(), add, &keep)?;
         let (groups, len) = in_groups(alloc, chunks)?;
@@ -169,7 +173,7 @@ impl<T: RangeValue> RangeSet<T> {
             self.known();
             return Ok(self.try_copy()?);
         }
-        let alloc = *self.groups.allocator();
+        let alloc = self.groups.alloc();
         let (groups, len) = added_groups(alloc, self.groups.as_slice(), add)?;
         Ok(RangeSet { groups, len })
     }
@@ -220,9 +224,10 @@ impl<T: RangeValue> RangeSet<T> {
         ensures inside { IfOk result (λ s. EndWithin (new_size counted changes.now) s) }
         ensures cost { mapped.new ≤ mapped.old + most_mapped T.rules changes.now self.now }
     {
-        // The proof takes from this line that the number of ranges fits usize.
-        let _len = self.len();
-        let alloc = *self.groups.allocator();
+        let alloc = self.groups.alloc();
+        if self.len() == 0 {
+            return Ok(RangeSet::empty(alloc));
+        }
         let (groups, len) = mapped_groups(alloc, self.groups.as_slice(), changes, mapped)?;
         Ok(RangeSet { groups, len })
     }
@@ -264,12 +269,12 @@ fn set_of<T: RangeValue>(ranges: Vec<Ranged<T>>) -> Result<RangeSet<T>, AllocErr
 fn in_groups<T: RangeValue>(
     alloc: Global,
     chunks: Vec<Placed<T>>,
-) -> Result<(Vec<PlacedGroup<T>>, usize), AllocError>
+) -> Result<(GroupList<T>, usize), AllocError>
     requires chunks { AreChunks T.rules chunks.items }
     requires order { first_fault T.rules (flat chunks.items) ≡ None }
     requires room { length (flat chunks.items) < 2 ^ 64 }
-    ensures groups { IfOk result (λ made. AreGroupsOf T.rules made.0.items made.1) }
-    ensures ranges { IfOk result (λ made. flat (spread made.0.items) ≡ flat chunks.items) }
+    ensures groups { IfOk result (λ made. AreGroupsOf T.rules made.0 made.1) }
+    ensures ranges { IfOk result (λ made. flat (spread made.0) ≡ flat chunks.items) }
 {
     let mut builder = GroupBuilder::new(alloc);
     builder.put_all(chunks)?;
@@ -340,43 +345,4 @@ fn same_last<T: RangeValue>(left: Option<RangeRef<'_, T>>, right: Option<RangeRe
         (None, None) => true,
         _ => false,
     }
-}
-
-/// Whether both have the same ranges.
-fn same_ranges<'a, 'b, T: RangeValue>(left: Iter<'a, T>, right: Iter<'b, T>) -> bool
-    ensures { IsTrue result ↔ (left.entry ≡ right.entry) }
-{
-    let mut left = left;
-    let mut right = right;
-    loop {
-        match (left.next(), right.next()) {
-            (Some(a), Some(b)) => {
-                if !a.same(&b) {
-                    return false;
-                }
-            }
-            (None, None) => return true,
-            _ => return false,
-        }
-    }
-}
-
-/// The same groups once more, shared. `Err`: out of memory.
-fn shared<T: RangeValue>(
-    alloc: Global,
-    groups: &[PlacedGroup<T>],
-) -> Result<Vec<PlacedGroup<T>>, AllocError>
-    requires { AreGroups T.rules groups.now }
-    ensures same { IfOk result (λ v. spread v.items ≡ spread groups.now) }
-    ensures groups { IfOk result (λ v. AreGroups T.rules v.items) }
-{
-    let mut copies = Vec::with_capacity(alloc, groups.len())?;
-    for placed in groups {
-        let group = placed.group.clone()?;
-        copies.push(PlacedGroup {
-            start: placed.start,
-            group,
-        })?;
-    }
-    Ok(copies)
 }

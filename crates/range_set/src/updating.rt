@@ -8,6 +8,7 @@ use crate::chunk::{FEW_RANGES, MAX_RANGES, Placed};
 use crate::chunk_builder::ChunkBuilder;
 use crate::group::{PlacedGroup, in_three};
 use crate::group_builder::GroupBuilder;
+use crate::group_list::GroupList;
 use crate::moving::put_sorted;
 use crate::opening::opened;
 use crate::range_ref::RangeRef;
@@ -23,15 +24,15 @@ pub(crate) fn added_groups<T: RangeValue>(
     alloc: Global,
     groups: &[PlacedGroup<T>],
     add: Vec<Ranged<T>>,
-) -> Result<(Vec<PlacedGroup<T>>, usize), AllocError>
+) -> Result<(GroupList<T>, usize), AllocError>
     requires groups { AreGroups T.rules groups.now }
     requires order { first_fault T.rules (flat (spread groups.now)) ≡ None }
     requires added { first_fault T.rules add.items ≡ None }
     requires some { 1 ≤ length add.items }
     requires room { length (flat (spread groups.now)) + length add.items < 2 ^ 64 }
-    ensures groups { IfOk result (λ made. AreGroupsOf T.rules made.0.items made.1) }
-    ensures order { IfOk result (λ made. first_fault T.rules (flat (spread made.0.items)) ≡ None) }
-    ensures ranges { IfOk result (λ made. flat (spread made.0.items) ≡ updated T.rules (λ _. true) (flat (spread groups.now)) add.items) }
+    ensures groups { IfOk result (λ made. AreGroupsOf T.rules made.0 made.1) }
+    ensures order { IfOk result (λ made. first_fault T.rules (flat (spread made.0)) ≡ None) }
+    ensures ranges { IfOk result (λ made. flat (spread made.0) ≡ updated T.rules (λ _. true) (flat (spread groups.now)) add.items) }
 {
     let (before, middle, after) = parted_around(groups, add.as_slice());
     let chunks = opened(alloc, middle)?;
@@ -264,6 +265,7 @@ fn keep_each<T: RangeValue, F: Fn(&RangeRef<'_, T>) -> bool>(
     ensures kept { IfOk result (λ _. (p : _) → AnswersAs F.Fn keep.now p → run.new.items ≡ run.old.items ++ filter p (map (shift placed.now.start) placed.now.chunk.value.ranges.items)) }
     ensures part { IfOk result (λ _. KeepsPart (map (shift placed.now.start) placed.now.chunk.value.ranges.items) run.old.items run.new.items) }
 {
+    run.reserve(placed.chunk.ranges.len())?;
     for range in &placed.chunk.ranges {
         let range = RangeRef {
             from: range.from + placed.start,

@@ -1,14 +1,29 @@
 // The kit of the shipped rules: combiners and comparers.
-ghost use Rattle.std.specs.Prelude.{◌≡◌, IfOk, OnErr};
+ghost use Rattle.std.specs.Prelude.{◌≡◌, Bool, IfOk, OnErr};
+ghost use Rattle.std.specs.Borrow.{Bor};
 ghost use Rattle.values.specs.Shipped.{shipped};
 ghost use Rattle.values.specs.Stored.{Combines, Compares};
+ghost use Rattle.values.specs.declared.val.Val.{Val};
 
 use crate::gate::Before;
 use crate::kit_user::KitUser;
 use crate::reading::lend_reading;
-use shipped_rules::{Shipped, combine, compare, each_or_none};
+use shipped_rules::{Shipped, combine, compare, each_or_none, is_reflexive};
 use std::alloc::{AllocError, Global};
 use values::{CombineBox, Combiner, CompareBox, Comparer, Meanings, Sort, Val};
+
+/// The comparer of a number with its rule, stored as one that says 'same' of every value and itself where that is known.
+fn comparer(number: u32, rule: CompareBox) -> Comparer<Shipped>
+    requires callable { (p q : Bor Val) → CompareBox.pre rule p q }
+    requires meant { (p q : Bor Val) (r : Bool) → CompareBox.post rule p q r → r ≡ shipped.compare number p.now q.now }
+    ensures { Compares shipped result }
+{
+    if is_reflexive(number) {
+        Comparer::reflexive(number, rule)
+    } else {
+        Comparer::new(number, rule)
+    }
+}
 
 /// What a user makes of the kit of the shipped rules, with this before them. `Err`: out of memory, and the user is as before.
 pub(crate) fn lend_combining<U: KitUser>(
@@ -50,7 +65,7 @@ pub(crate) fn lend_combining<U: KitUser>(
                     ensures { result ≡ shipped.compare number old.now new.now }
                 { compare(number, old, new) },
             )?;
-            Ok(Comparer::<Shipped>::new(number, rule))
+            Ok(comparer(number, rule))
         },
     );
     lend_reading(alloc, before, user, combiners, comparers)

@@ -1,5 +1,5 @@
 // The kit of the shipped rules: list computers and updaters.
-ghost use Rattle.std.specs.Prelude.{◌≡◌, All, IfOk, OnErr};
+ghost use Rattle.std.specs.Prelude.{◌≡◌, All, IfOk, OnErr, unwrap_or};
 ghost use Rattle.values.specs.Shipped.{shipped};
 ghost use Rattle.values.specs.Stored.{Combines, Compares, Computes, ComputesLists, Creates, Updates};
 
@@ -59,8 +59,8 @@ pub(crate) fn lend_listing<U: KitUser>(
             let before = before.same()?;
             let rule: UpdateBox = Box::new(
                 alloc,
-                move |old: &Val, view: &UpdateView| -> Result<Val, AllocError>
-                    ensures { IfOk result (λ v. v ≡ shipped.update number old.now view.now.transaction view.now.deps) }
+                move |old: &Val, view: &UpdateView| -> Result<Option<Val>, AllocError>
+                    ensures { IfOk result (λ answer. unwrap_or answer old.now ≡ shipped.update number old.now view.now.transaction view.now.deps) }
                 {
                     before.pass(Sort::Update, number)?;
                     update(alloc, number, old, view)

@@ -32,7 +32,7 @@ within-ends n r e =
     let k = both (nat_le r.from n) (nat_le r.to n) e in let c : nat_le r.from n ≡ true = k.0 in let d : nat_le r.to n ≡ true = k.1 in
     (grind (arith, nat_tests), grind (arith, nat_tests))
 
-filter-within : (n : ℕ) (rs : DecoRanges) → Within n (filter (is_within n) rs)
+pub filter-within : (n : ℕ) (rs : DecoRanges) → Within n (filter (is_within n) rs)
 filter-within n [] = tt
 filter-within n (r ∷ rs) = at (is_within n r) refl (filter-within n rs)
   where

@@ -1,1 +1,2 @@
 pub mod InsideSets
+pub mod Staying

@@ -23,3 +23,12 @@ last-is old ps = last-found old None ps
 
 pub last-push : (ps : List PlainData) (p : PlainData) → last_of (ps ++ p ∷ []) ≡ Some p
 last-push ps p = fold-append (λ found p. Some p) None ps (p ∷ [])
+
+some-found : (p : PlainData) (ps qs : List PlainData) → fold (λ found p. Some p) (Some p) ps ≡ None → qs ≡ []
+some-found p [] qs e = cc
+some-found p (q ∷ ps) qs e = some-found q ps qs e
+
+-- where there is no last one, there is none
+pub none-last : (ps : List PlainData) → last_of ps ≡ None → ps ≡ []
+none-last [] e = refl
+none-last (p ∷ ps) e = some-found p ps (p ∷ ps) e

@@ -124,7 +124,7 @@ fn sets_of(alloc: Global, inputs: &[Val]) -> Result<Vec<DecoSet>, AllocError>
 }
 
 /// The set that a value is, or an empty one.
-pub(crate) fn set_of(alloc: Global, value: &Val) -> Result<DecoSet, AllocError>
+fn set_of(alloc: Global, value: &Val) -> Result<DecoSet, AllocError>
     ensures { IfOk result (λ set. set ≡ ranges_in value.now) }
 {
     match value {

@@ -1,5 +1,6 @@
-ghost use Rattle.std.specs.Prelude.{◌≡◌};
+ghost use Rattle.std.specs.Prelude.{◌≡◌, IsTrue, true};
 ghost use Rattle.values.specs.Comparing.{compare, equal_scalars, is_scalar};
+ghost use Rattle.values.specs.declared.val.Val.{Val};
 
 use cm_plain::Plain;
 use values::Val;
@@ -14,6 +15,13 @@ pub fn compare(number: u32, old: &Val, new: &Val) -> bool
         3 => is_scalar(old) && old.same(new),
         _ => false,
     }
+}
+
+/// Whether the comparer of a number is known to say 'same' of every value and itself.
+pub fn is_reflexive(number: u32) -> bool
+    ensures { IsTrue result → (v : Val) → compare number v v ≡ true }
+{
+    number == 1
 }
 
 /// Whether it is plain data and no list.

@@ -22,7 +22,7 @@ mod stepping;
 mod updating;
 
 pub use combining::combine;
-pub use comparing::compare;
+pub use comparing::{compare, is_reflexive};
 pub use computing::compute;
 pub use creating::create;
 pub use effect_mapping::map_effect;

@@ -1,5 +1,6 @@
-ghost use Rattle.std.specs.Prelude.{◌≡◌, ◌≤◌, [], IfOk, IfSome, Some, cond, length, option_copied, option_map};
+ghost use Rattle.std.specs.Prelude.{◌≡◌, ◌≤◌, [], IfOk, IfSome, IsTrue, Some, cond, length, option_copied, option_map, unwrap_or};
 ghost use Rattle.std.specs.List.{list_any};
+ghost use Rattle.change_desc.specs.Ranges.{changes_nothing};
 ghost use Rattle.change_desc.specs.Sections.{lengths, spelled};
 ghost use Rattle.decoration.specs.Sides.{deco_rules};
 ghost use Rattle.range_set.specs.Mapping.{EndWithin, map_ranges};
@@ -9,7 +10,6 @@ ghost use Rattle.values.specs.Updating.{is_unit, is_within, kept_within, line_at
 ghost use Rattle.values.specs.Views.{IsTransaction};
 ghost use Rattle.values.specs.declared.shown_effect.ShownEffect.{ShownEffect};
 
-use crate::combining::set_of;
 use crate::reading::{number_in, pair_in, place_in, places_in};
 use cm_plain::Plain;
 use decoration::{Deco, DecoSet, Inclusive, Style, place_line};
@@ -19,8 +19,18 @@ use std::alloc::{AllocError, Global};
 use values::{ShownEffect, TrView, UpdateView, Val};
 
 /// The fourth shipped updater: the old set over the changes, emptied where an effect is Unit, and then the marks that effects
-/// make. `Err`: out of memory.
-pub(crate) fn marks(alloc: Global, old: &Val, view: &UpdateView) -> Result<Val, AllocError>
+/// make; `None` where it is the old set. `Err`: out of memory.
+pub(crate) fn marks(alloc: Global, old: &Val, view: &UpdateView) -> Result<Option<Val>, AllocError>
+    ensures { IfOk result (λ answer. unwrap_or answer old.now ≡ marks old.now view.now.transaction view.now.deps) }
+{
+    match view.transaction.effects() {
+        [] => moved(alloc, old, &view.transaction),
+        [_, ..] => Ok(Some(marked(alloc, old, view)?)),
+    }
+}
+
+/// The old set over the changes, emptied where an effect is Unit, and then the marks that effects make.
+fn marked(alloc: Global, old: &Val, view: &UpdateView) -> Result<Val, AllocError>
     ensures { IfOk result (λ v. v ≡ marks old.now view.now.transaction view.now.deps) }
 {
     let transaction = &view.transaction;
@@ -34,9 +44,23 @@ pub(crate) fn marks(alloc: Global, old: &Val, view: &UpdateView) -> Result<Val, 
     Ok(Val::Ranges(set))
 }
 
-/// The fifth shipped updater: the old set over the changes, and then the line decorations that effects make. `Err`: out of
-/// memory.
-pub(crate) fn marked_lines(alloc: Global, old: &Val, view: &UpdateView) -> Result<Val, AllocError>
+/// The fifth shipped updater: the old set over the changes, and then the line decorations that effects make; `None` where it is
+/// the old set. `Err`: out of memory.
+pub(crate) fn marked_lines(
+    alloc: Global,
+    old: &Val,
+    view: &UpdateView,
+) -> Result<Option<Val>, AllocError>
+    ensures { IfOk result (λ answer. unwrap_or answer old.now ≡ marked_lines old.now view.now.transaction view.now.deps) }
+{
+    match view.transaction.effects() {
+        [] => moved(alloc, old, &view.transaction),
+        [_, ..] => Ok(Some(lined(alloc, old, view)?)),
+    }
+}
+
+/// The old set over the changes, and then the line decorations that effects make.
+fn lined(alloc: Global, old: &Val, view: &UpdateView) -> Result<Val, AllocError>
     ensures { IfOk result (λ v. v ≡ marked_lines old.now view.now.transaction view.now.deps) }
 {
     let mapped = mapped_set(alloc, old, &view.transaction)?;
@@ -47,6 +71,41 @@ pub(crate) fn marked_lines(alloc: Global, old: &Val, view: &UpdateView) -> Resul
         view.transaction.effects(),
     )?;
     Ok(Val::Ranges(set))
+}
+
+/// The old set over the changes, where no effect adds to it; `None` where it is the old set. `Err`: out of memory.
+fn moved(alloc: Global, old: &Val, transaction: &TrView) -> Result<Option<Val>, AllocError>
+    ensures { IfOk result (λ answer. unwrap_or answer old.now ≡ Val.Ranges (mapped_set transaction.now (ranges_in old.now))) }
+{
+    let mapped = mapped_set(alloc, old, transaction)?;
+    if stays(old, &mapped, transaction) {
+        return Ok(None);
+    }
+    Ok(Some(Val::Ranges(mapped)))
+}
+
+/// Whether a value is a set that its transaction leaves as it is, which has become `mapped`: the changes are empty, and no range is
+/// dropped.
+fn stays(old: &Val, mapped: &DecoSet, transaction: &TrView) -> bool
+    requires { mapped.now ≡ mapped_set transaction.now (ranges_in old.now) }
+    ensures { IsTrue result → old.now ≡ Val.Ranges mapped.now }
+{
+    match old {
+        Val::Ranges(set) => transaction.changes().is_empty() && keeps_all(set, mapped, transaction),
+        _ => false,
+    }
+}
+
+/// Whether empty changes drop no range of a set.
+fn keeps_all(set: &DecoSet, mapped: &DecoSet, transaction: &TrView) -> bool
+    requires mapped { mapped.now ≡ mapped_set transaction.now set.now }
+    requires nothing { IsTrue (changes_nothing transaction.now.changes) }
+    ensures { IsTrue result → mapped.now ≡ set.now }
+{
+    // The proof takes from these lines that the set stands in order, and that the changes are of the start document.
+    set.known();
+    transaction.known();
+    mapped.len() == set.len()
 }
 
 /// The old set over the changes, or none where an effect is Unit.
@@ -81,14 +140,39 @@ fn is_unit(value: &Val) -> bool
     }
 }
 
-/// A set over the changes of a transaction, without the ranges that end past the start document.
+/// The set that a value is, or an empty one, over the changes of a transaction, without the ranges that end past the start
+/// document.
 fn mapped_set(alloc: Global, old: &Val, transaction: &TrView) -> Result<DecoSet, AllocError>
     ensures { IfOk result (λ set. set ≡ mapped_set transaction.now (ranges_in old.now)) }
 {
+    match old {
+        Val::Ranges(set) => mapped_inside(alloc, set, transaction),
+        _ => Ok(RangeSet::empty(alloc)),
+    }
+}
+
+/// A set over the changes of a transaction, without the ranges that end past the start document.
+fn mapped_inside(alloc: Global, set: &DecoSet, transaction: &TrView) -> Result<DecoSet, AllocError>
+    ensures { IfOk result (λ mapped. mapped ≡ mapped_set transaction.now set.now) }
+{
     transaction.known();
-    let set = set_of(alloc, old)?;
-    let kept = kept_within(alloc, &set, transaction.start().len())?;
+    let len = transaction.start().len();
+    if set.ends_within(len) {
+        return mapped_whole(set, transaction);
+    }
+    let kept = kept_within(alloc, set, len)?;
     mapped(&kept, transaction)
+}
+
+/// A set in the start document over the changes, where no range is left out.
+fn mapped_whole(set: &DecoSet, transaction: &TrView) -> Result<DecoSet, AllocError>
+    requires known { IsTransaction transaction.now }
+    requires inside { EndWithin (length transaction.now.start) set.now }
+    ensures { IfOk result (λ mapped. mapped ≡ mapped_set transaction.now set.now) }
+{
+    // The proof takes from this line that the set stands in order.
+    set.known();
+    mapped(set, transaction)
 }
 
 /// A set in the start document over the changes.
@@ -105,24 +189,12 @@ fn mapped(set: &DecoSet, transaction: &TrView) -> Result<DecoSet, AllocError>
 fn kept_within(alloc: Global, set: &DecoSet, len: u32) -> Result<DecoSet, AllocError>
     ensures { IfOk result (λ kept. kept ≡ kept_within len set.now) }
 {
-    if set.ends_within(len) {
-        return unchanged(set, len);
-    }
     let kept = set.update(Vec::new(alloc), |range| is_within(range, len));
     match kept {
         Ok(kept) => Ok(kept),
         Err(RangeError::NoMemory) => Err(AllocError),
         Err(_) => unreachable!(),
     }
-}
-
-/// A set that lies in a document of this length, once more.
-fn unchanged(set: &DecoSet, len: u32) -> Result<DecoSet, AllocError>
-    requires { EndWithin len set.now }
-    ensures { IfOk result (λ same. same ≡ kept_within len set.now) }
-{
-    set.known();
-    set.try_copy()
 }
 
 /// Whether a range lies in a document of this length.

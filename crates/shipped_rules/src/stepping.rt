@@ -1,4 +1,4 @@
-ghost use Rattle.std.specs.Prelude.{◌≡◌, IfOk, Some, None, cond, codes, option_copied};
+ghost use Rattle.std.specs.Prelude.{◌≡◌, IfOk, Some, None, cond, codes, option_copied, unwrap_or};
 ghost use Rattle.std.specs.Option.{option_and_then};
 ghost use Rattle.history.specs.Steps.{step};
 ghost use Rattle.transaction.specs.Annotations.{annotation_of, is_kind};
@@ -35,16 +35,21 @@ const AFTER: [char; 5] = ['a', 'f', 't', 'e', 'r'];
 
 const FULL: [char; 4] = ['f', 'u', 'l', 'l'];
 
-/// The sixth shipped updater: the history after the transaction (Reference Manual, history). `Err`: out of memory.
-pub(crate) fn next_history(alloc: Global, old: &Val, view: &UpdateView) -> Result<Val, AllocError>
-    ensures { IfOk result (λ v. v ≡ next_history old.now view.now.transaction view.now.deps) }
+/// The sixth shipped updater: the history after the transaction (Reference Manual, history); `None` where the old value is none.
+/// `Err`: out of memory.
+pub(crate) fn next_history(
+    alloc: Global,
+    old: &Val,
+    view: &UpdateView,
+) -> Result<Option<Val>, AllocError>
+    ensures { IfOk result (λ answer. unwrap_or answer old.now ≡ next_history old.now view.now.transaction view.now.deps) }
 {
     match old {
         Val::History(history) => {
             let next = stepped(alloc, history, view)?;
-            Ok(Val::History(next))
+            Ok(Some(Val::History(next)))
         }
-        _ => old.try_copy(alloc),
+        _ => Ok(None),
     }
 }
 

@@ -1,9 +1,10 @@
-ghost use Rattle.std.specs.Prelude.{◌≡◌, ◌++◌, IfOk, map, option_copied};
+ghost use Rattle.std.specs.Prelude.{◌≡◌, ◌++◌, [], IfOk, IsTrue, map, option_copied, unwrap_or};
 ghost use Rattle.cm_plain.specs.Plain.{datum_of};
 ghost use Rattle.values.specs.Reading.{item, items_in};
 ghost use Rattle.values.specs.Updating.{collected, counted_up, last_effect, number_or_zero, plain_values, update};
 ghost use Rattle.shipped_rules.specs.Items.{AreItems};
 ghost use Rattle.shipped_rules.specs.Effects.{last_of};
+ghost use Rattle.cm_plain.specs.declared.plain.Plain.TheVariants as plain;
 
 use crate::combining::{item_of, listed};
 use crate::marking::{marked_lines, marks};
@@ -13,33 +14,38 @@ use cm_plain::Plain;
 use std::alloc::{AllocError, Global};
 use values::{ShownEffect, UpdateView, Val};
 
-/// What the updater of a number makes of a field's old value, a transaction, and what the field reads in the new state. `Err`: out
-/// of memory.
-pub fn update(alloc: Global, number: u32, old: &Val, view: &UpdateView) -> Result<Val, AllocError>
-    ensures { IfOk result (λ v. v ≡ update number old.now view.now.transaction view.now.deps) }
+/// What the updater of a number makes of a field's old value, a transaction, and what the field reads in the new state; `None` where
+/// it is the old value. A new value may be equal to the old one. `Err`: out of memory.
+pub fn update(
+    alloc: Global,
+    number: u32,
+    old: &Val,
+    view: &UpdateView,
+) -> Result<Option<Val>, AllocError>
+    ensures { IfOk result (λ answer. unwrap_or answer old.now ≡ update number old.now view.now.transaction view.now.deps) }
 {
     match number {
-        1 => old.try_copy(alloc),
-        2 => counted_up(alloc, old, view),
+        1 => Ok(None),
+        2 => Ok(counted_up(old, view)),
         3 => last_effect(alloc, old, view),
         4 => marks(alloc, old, view),
         5 => marked_lines(alloc, old, view),
         6 => next_history(alloc, old, view),
         7 => collected(alloc, old, view),
-        8 => first_plain(alloc, &view.deps),
-        _ => first_plain(alloc, &view.deps),
+        8 => Ok(Some(first_plain(alloc, &view.deps)?)),
+        _ => Ok(Some(first_plain(alloc, &view.deps)?)),
     }
 }
 
-/// The second shipped updater: the old number and 1 more where the changes aren't empty; it stops at the end of 64 bits.
-/// `Err`: out of memory.
-fn counted_up(alloc: Global, old: &Val, view: &UpdateView) -> Result<Val, AllocError>
-    ensures { IfOk result (λ v. v ≡ counted_up old.now view.now.transaction view.now.deps) }
+/// The second shipped updater: the old number and 1 more where the changes aren't empty, and else `None`; it stops at the end of
+/// 64 bits.
+fn counted_up(old: &Val, view: &UpdateView) -> Option<Val>
+    ensures { unwrap_or result old.now ≡ counted_up old.now view.now.transaction view.now.deps }
 {
     if view.transaction.changes().is_empty() {
-        return old.try_copy(alloc);
+        return None;
     }
-    Ok(Val::Plain(Plain::Int(number_or_zero(old).saturating_add(1))))
+    Some(Val::Plain(Plain::Int(number_or_zero(old).saturating_add(1))))
 }
 
 /// The number that a value is, or 0.
@@ -52,13 +58,13 @@ fn number_or_zero(value: &Val) -> i64
     }
 }
 
-/// The third shipped updater: the value of the last listened effect that is plain, else the old one. `Err`: out of memory.
-fn last_effect(alloc: Global, old: &Val, view: &UpdateView) -> Result<Val, AllocError>
-    ensures { IfOk result (λ v. v ≡ last_effect old.now view.now.transaction view.now.deps) }
+/// The third shipped updater: the value of the last listened effect that is plain; `None` where none is. `Err`: out of memory.
+fn last_effect(alloc: Global, old: &Val, view: &UpdateView) -> Result<Option<Val>, AllocError>
+    ensures { IfOk result (λ answer. unwrap_or answer old.now ≡ last_effect old.now view.now.transaction view.now.deps) }
 {
     match last_plain(view.transaction.effects()) {
-        Some(plain) => Ok(Val::Plain(plain.try_copy(alloc)?)),
-        None => old.try_copy(alloc),
+        Some(plain) => Ok(Some(Val::Plain(plain.try_copy(alloc)?))),
+        None => Ok(None),
     }
 }
 
@@ -75,13 +81,44 @@ fn last_plain(effects: &[ShownEffect]) -> Option<&Plain>
     last
 }
 
-/// The seventh shipped updater: the items of the old list, and then the plain values of the listened effects. `Err`: out of
-/// memory.
-fn collected(alloc: Global, old: &Val, view: &UpdateView) -> Result<Val, AllocError>
-    ensures { IfOk result (λ v. v ≡ collected old.now view.now.transaction view.now.deps) }
+/// The seventh shipped updater: the items of the old list, and then the plain values of the listened effects; `None` where the old
+/// value is a list and no listened effect is plain. `Err`: out of memory.
+fn collected(alloc: Global, old: &Val, view: &UpdateView) -> Result<Option<Val>, AllocError>
+    ensures { IfOk result (λ answer. unwrap_or answer old.now ≡ collected old.now view.now.transaction view.now.deps) }
+{
+    let effects = view.transaction.effects();
+    if collects_nothing(old, effects) {
+        return Ok(None);
+    }
+    Ok(Some(with_collected(alloc, old, effects)?))
+}
+
+/// Whether a value is a list, and no effect adds an item to it.
+fn collects_nothing(old: &Val, effects: &[ShownEffect]) -> bool
+    ensures { IsTrue result → old.now ≡ Val.Plain (plain.List (items_in old.now ++ map item (plain_values effects.now))) }
+{
+    match old {
+        Val::Plain(Plain::List(_)) => has_no_plain(effects),
+        _ => false,
+    }
+}
+
+/// Whether no effect has a plain value.
+fn has_no_plain(effects: &[ShownEffect]) -> bool
+    ensures { IsTrue result → plain_values effects.now ≡ [] }
+{
+    match last_plain(effects) {
+        Some(_) => false,
+        None => true,
+    }
+}
+
+/// The items of the old list, and then the plain values of effects. `Err`: out of memory.
+fn with_collected(alloc: Global, old: &Val, effects: &[ShownEffect]) -> Result<Val, AllocError>
+    ensures { IfOk result (λ v. v ≡ Val.Plain (plain.List (items_in old.now ++ map item (plain_values effects.now)))) }
 {
     let items = items_in(alloc, old)?;
-    let items = with_values(alloc, items, view.transaction.effects())?;
+    let items = with_values(alloc, items, effects)?;
     Ok(listed(items))
 }
 

@@ -1,5 +1,5 @@
 -- What is kept of a stored rule: it may be called on every input of its shapes, and its answers there are its number's meaning.
-use Rattle.std.specs.Prelude.{◌≡◌, ℕ, ◌≤◌, Bool, List, All, Option, Result}
+use Rattle.std.specs.Prelude.{◌≡◌, ℕ, ◌≤◌, Bool, true, IsTrue, List, All, Option, Result, unwrap_or}
 use Rattle.std.specs.Fn.{Mut}
 use denote.Param.Callables.{Sure}
 use Rattle.std.specs.Borrow.{Bor}
@@ -41,6 +41,7 @@ module _ {M X : Type 0} {F : X → Type 0} where
   pub record Compares {g : Mut ((x : X) × F x) (Bor Val × (Bor Val × Unit {0})) Bool} (rules : Rules) (c : Comparer M X F g) : Type 0 where
     pub callable : (p q : Bor Val) → Sure (g.pre (c.rule.vtable, c.rule.value) (p, (q, tt)))
     pub answers : (p q : Bor Val) (r : Bool) → g.post (c.rule.vtable, c.rule.value) (p, (q, tt)) r → r ≡ rules.compare c.number p.now q.now
+    pub reflexive : IsTrue c.reflexive → (v : Val) → rules.compare c.number v v ≡ true
 
   pub record Computes {g : Mut ((x : X) × F x) (Bor DepsView × Unit {0}) (Result Val AllocError)} (rules : Rules) (c : Computer M X F g) : Type 0 where
     pub callable : (p : Bor DepsView) → AreDeps p.now → Sure (g.pre (c.rule.vtable, c.rule.value) (p, tt))
@@ -54,10 +55,10 @@ module _ {M X : Type 0} {F : X → Type 0} where
     pub callable : (p : Bor DepsView) → AreDeps p.now → Sure (g.pre (c.rule.vtable, c.rule.value) (p, tt))
     pub gives : (p : Bor DepsView) (r : Result Val AllocError) → AreDeps p.now → g.post (c.rule.vtable, c.rule.value) (p, tt) r → ForOk r (λ v. v ≡ rules.create c.number p.now)
 
-  pub record Updates {g : Mut ((x : X) × F x) (Bor Val × (Bor UpdateView × Unit {0})) (Result Val AllocError)} (rules : Rules) (c : Updater M X F g) : Type 0 where
+  pub record Updates {g : Mut ((x : X) × F x) (Bor Val × (Bor UpdateView × Unit {0})) (Result (Option Val) AllocError)} (rules : Rules) (c : Updater M X F g) : Type 0 where
     pub callable : (p : Bor Val) (q : Bor UpdateView) → IsUpdate (rules.update_shape c.number) p.now q.now → Sure (g.pre (c.rule.vtable, c.rule.value) (p, (q, tt)))
-    pub gives : (p : Bor Val) (q : Bor UpdateView) (r : Result Val AllocError) → IsUpdate (rules.update_shape c.number) p.now q.now
-        → g.post (c.rule.vtable, c.rule.value) (p, (q, tt)) r → ForOk r (λ v. v ≡ rules.update c.number p.now q.now.transaction q.now.deps)
+    pub gives : (p : Bor Val) (q : Bor UpdateView) (r : Result (Option Val) AllocError) → IsUpdate (rules.update_shape c.number) p.now q.now
+        → g.post (c.rule.vtable, c.rule.value) (p, (q, tt)) r → ForOk r (λ answer. unwrap_or answer p.now ≡ rules.update c.number p.now q.now.transaction q.now.deps)
 
   pub record MapsEffects {g : Mut ((x : X) × F x) (Val × (Bor (List (Section ℕ)) × Unit {0})) (Result (Option Val) AllocError)} (rules : Rules) (c : EffectMap M X F g) : Type 0 where
     pub callable : (v : Val) (d : Bor (List (Section ℕ))) → IsInRange v → AreWithin d.now → Sure (g.pre (c.rule.vtable, c.rule.value) (v, (d, tt)))

@@ -46,7 +46,7 @@ module _ {M X Y Z V W U S R Q : Type 0}
     {g : Mut ((yy : Y) × G yy) (Bor Val × (Bor Val × Unit {0})) Bool}
     {h : Mut ((zz : Z) × H zz) (Bor DepsView × Unit {0}) (Result Val AllocError)}
     {i : Mut ((vv : V) × I vv) (Bor DepsView × Unit {0}) (Result (List Val) AllocError)}
-    {j : Mut ((ww : W) × J ww) (Bor Val × (Bor UpdateView × Unit {0})) (Result Val AllocError)}
+    {j : Mut ((ww : W) × J ww) (Bor Val × (Bor UpdateView × Unit {0})) (Result (Option Val) AllocError)}
     {k : Mut ((uu : U) × K uu) (Val × (Bor (List (Section ℕ)) × Unit {0})) (Result (Option Val) AllocError)}
     {l : Mut ((ss : S) × L ss) (Bor TransactionView × (Bor Val × Unit {0})) (Result Guarding AllocError)}
     {m : Mut ((rr : R) × N rr) (Bor TransactionView × (Bor Val × Unit {0})) (Result Filtering AllocError)}

@@ -11,6 +11,7 @@ pub type CompareBox = Box<dyn Fn(&Val, &Val) -> bool>;
 #[derive(Drop)]
 pub struct Comparer<M> {
     number: u32,
+    reflexive: bool,
     rule: CompareBox,
     meanings: PhantomData<M>,
     // This says nothing: it names the box's predicates, so that clauses can speak of them.
@@ -18,7 +19,7 @@ pub struct Comparer<M> {
 }
 
 impl<M: Meanings> Comparer<M> {
-    ghost use Rattle.std.specs.Prelude.{◌≡◌, Bool, true};
+    ghost use Rattle.std.specs.Prelude.{◌≡◌, Bool, IsTrue, true};
     ghost use Rattle.std.specs.Borrow.{Bor};
     ghost use Rattle.transaction.specs.Numbers.{IsNumber};
     ghost use Rattle.values.specs.declared.val.Val.{Val};
@@ -33,6 +34,24 @@ impl<M: Meanings> Comparer<M> {
     {
         Comparer {
             number,
+            reflexive: false,
+            rule,
+            meanings: PhantomData,
+        }
+    }
+
+    /// The same of a number that says 'same' of every value and itself.
+    pub fn reflexive(number: u32, rule: CompareBox) -> Comparer<M>
+        requires callable { (p q : Bor Val) → CompareBox.pre rule p q }
+        requires meant { (p q : Bor Val) (r : Bool) → CompareBox.post rule p q r → r ≡ M.rules.compare number p.now q.now }
+        requires reflexive { (v : Val) → M.rules.compare number v v ≡ true }
+        ensures number { result.number ≡ number }
+        ensures compares { Compares M.rules result }
+        ensures reflexive { IsTrue result.reflexive }
+    {
+        Comparer {
+            number,
+            reflexive: true,
             rule,
             meanings: PhantomData,
         }
@@ -43,6 +62,15 @@ impl<M: Meanings> Comparer<M> {
         ensures { result ≡ self.now.number }
     {
         self.number
+    }
+
+    /// Whether it is known to say 'same' of every value and itself.
+    pub fn is_reflexive(&self) -> bool
+        requires { Compares M.rules self.now }
+        ensures flag { result ≡ self.now.reflexive }
+        ensures same { IsTrue result → (v : Val) → M.rules.compare self.now.number v v ≡ true }
+    {
+        self.reflexive
     }
 
     /// Whether the values are known to be the same; then they are equal. Takes no memory.

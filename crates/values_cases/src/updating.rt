@@ -26,8 +26,10 @@ fn updates_by(
     view: &UpdateView,
     want: Made<'_>,
 ) -> Result<bool, Fail> {
-    let new = update(alloc, number, old, view)?;
-    is(alloc, &new, want)
+    match update(alloc, number, old, view)? {
+        Some(new) => is(alloc, &new, want),
+        None => is(alloc, old, want),
+    }
 }
 
 /// Whether an updater makes this of an old value over what is typed, effects and reads.
@@ -142,6 +144,51 @@ fn lines_are_marked(rt: HostRuntime) -> Result<(), Fail> {
     Ok(())
 }
 
+/// Whether an updater says that a value is as before.
+fn stays(
+    alloc: Global,
+    number: u32,
+    old: Made<'_>,
+    typed: Typed<'_>,
+    effects: Of<'_>,
+) -> Result<bool, Fail> {
+    let view = view_of(alloc, typed, effects, Note::None, NONE)?;
+    let old = value_of(alloc, old)?;
+    Ok(update(alloc, number, &old, &view)?.is_none())
+}
+
+#[test]
+fn what_stays_is_not_made_anew(rt: HostRuntime) -> Result<(), Fail> {
+    let inside = Made::Ranges(&[(0, 1), (1, 2)]);
+    let none = Of(&[]);
+    for (number, old, typed, effects, want) in &[
+        (1, Made::Int(3), TYPED, none, true),
+        (2, Made::Int(3), IDLE, none, true),
+        (2, Made::Int(3), TYPED, none, false),
+        (3, Made::Int(3), TYPED, none, true),
+        (3, Made::Int(3), TYPED, Of(&[Made::Int(3)]), false),
+        (4, inside, IDLE, none, true),
+        (4, inside, BEFORE, none, false),
+        (4, inside, IDLE, Of(&[Made::Unit]), false),
+        (4, Made::Ranges(&[(0, 1), (1, 9)]), IDLE, none, false),
+        (4, Made::Set(&[Drawn::Mark(1, 1)]), IDLE, none, false),
+        (4, Made::Int(3), IDLE, none, false),
+        (5, inside, IDLE, none, true),
+        (5, inside, IDLE, Of(&[Made::Int(0)]), false),
+        (6, Made::Int(3), TYPED, none, true),
+        (7, Made::Ints(&[5]), TYPED, Of(&[inside]), true),
+        (7, Made::Ints(&[5]), TYPED, Of(&[Made::Int(5)]), false),
+        (7, Made::Int(5), TYPED, none, false),
+        (8, Made::Int(5), IDLE, none, false),
+    ] {
+        assert!(rt;
+            stays(rt.alloc(), *number, *old, *typed, *effects)? == *want,
+            "at {number}"
+        );
+    }
+    Ok(())
+}
+
 /// The history after what is typed, with an annotation.
 fn stepped(
     alloc: Global,
@@ -151,7 +198,10 @@ fn stepped(
     read: Read<'_>,
 ) -> Result<Val, Fail> {
     let view = view_of(alloc, typed, Of(&[]), note, read)?;
-    Ok(update(alloc, 6, old, &view)?)
+    match update(alloc, 6, old, &view)? {
+        Some(next) => Ok(next),
+        None => Ok(old.try_copy(alloc)?),
+    }
 }
 
 /// How many Changes can be undone, and how many done again; `None` where the value is no history.

@@ -9,7 +9,7 @@ use Rattle.facet_slots.proofs.next.next_inputs.Given as goal
 abbrev pub invariant-loop-node : goal.invariant-loop-node
 invariant-loop-node g l = record {
   computed :
-      l.inputs ++ map (next_outputs g.M.Meanings.rules (scene_in l.draft.kept) l.draft.marks.moved (flags_in l.draft.marks) (values_in l.draft.kept) (nodes_before l.before) l.before.kept.now) (map (input_node l.node_defs) (drop l.node-index l.nodes))
+      l.inputs.items ++ map (next_outputs g.M.Meanings.rules (scene_in l.draft.kept) l.draft.marks.moved (flags_in l.draft.marks) (values_in l.draft.kept) (nodes_before l.before) l.before.kept.now) (map (input_node l.node_defs) (drop l.node-index l.nodes))
       ≡ map (next_outputs g.M.Meanings.rules (scene_in l.draft.kept) l.draft.marks.moved (flags_in l.draft.marks) (values_in l.draft.kept) (nodes_before l.before) l.before.kept.now) (map (input_node l.node_defs) l.nodes);
   changes :
       (l.changed || list_any (next_changed g.M.Meanings.rules (scene_in l.draft.kept) l.draft.marks.moved (flags_in l.draft.marks) (values_in l.draft.kept) l.facet.compare_input (nodes_before l.before) l.before.kept.now) (map (input_node l.node_defs) (drop l.node-index l.nodes)))

@@ -1,6 +1,5 @@
-use Rattle.std.proofs.Common.{arith, ◌≡◌, ◌≤◌, ◌<◌, ◌+◌, ◌∙◌, ℕ, List, slice_get, get_or, length, drop, sum_by, Some, ap, sym, subst}
+use Rattle.std.proofs.Common.{arith, ◌≡◌, ◌≤◌, ◌<◌, ◌+◌, ◌∙◌, ℕ, List, slice_get, length, drop, sum_by, Some, ap, sym, subst}
 use Rattle.configuration.specs.declared.vertex.Vertex.{Vertex}
-use Rattle.configuration.specs.declared.vertex.Vertex.TheVariants.{Facet}
 use Rattle.values.specs.declared.val.Val.{Val}
 use Rattle.facet_slots.specs.Setups.{order_of}
 use Rattle.facet_slots.specs.Scenes.{IsScene, SceneView}
@@ -13,87 +12,79 @@ use Rattle.facet_slots.specs.Due.{calls_due}
 use Rattle.facet_slots.specs.Nexts.{next_calls}
 use Rattle.facet_slots.specs.Lent.{flags_in, scene_in, setup_of, state_in, transition_of, values_in}
 use Rattle.facet_slots.specs.Found.{scene_of}
-use Rattle.facet_slots.proofs.Places.{sum-more, here-more, all-more}
+use Rattle.facet_slots.proofs.Places.{all-at, sum-more}
 use Rattle.facet_slots.proofs.Still.{scene-kept}
 use Rattle.facet_slots.proofs.Walking.{drafted-more, drafted-calls, drafted-values, drafted-kept}
 use Rattle.facet_slots.proofs.walk.kept_after.Goals as goal
 
 pub step-requires-clause-scene : goal.step-requires-clause-scene
-step-requires-clause-scene g c = subst IsScene (c.requires.scene ∙ sym c.loop-vertex.invariant.drafted.scene_is) c.requires.is_scene
+step-requires-clause-scene g c = subst IsScene (c.requires.scene ∙ sym c.loop-place.invariant.drafted.scene_is) c.requires.is_scene
 
 pub store-requires-clause-vertex : goal.store-requires-clause-vertex
 store-requires-clause-vertex g c =
     let order : List Vertex = order_of (setup_of c.args.setup.now) in
-    let reads : List Vertex = c.as_slice-vertex-items.result.now in
-    let same : reads ≡ order = c.as_slice-vertex-items.ensures.value ∙ c.in_ok-order.ensures in
-    let i = c.loop-vertex.vertex-index in
-    let inside : i < length order = omega (arith, ap length same) in
-    let vertex : Vertex = get_or reads i (Facet 0) in
-    let there : slice_get order i ≡ Some vertex = here-more order reads i (Facet 0) same inside in
-    let known : IsVertex (setup_of c.args.setup.now) vertex = all-more (IsVertex (setup_of c.args.setup.now)) order reads i (Facet 0) same inside c.requires.ordered.known in
+    let i = c.loop-place.place in
+    let inside : i < length order = omega (arith, c.order_len-place-end.ensures, c.loop-place-test.true) in
+    let vertex : Vertex = c.vertex_at-vertex.result in
+    let there : slice_get order i ≡ Some vertex = c.vertex_at-vertex.ensures in
+    let known : IsVertex (setup_of c.args.setup.now) vertex = all-at (IsVertex (setup_of c.args.setup.now)) order i vertex there c.requires.ordered.known in
     known
 
 pub returns-in_err-next-clause-cost : goal.returns-in_err-next-clause-cost
 returns-in_err-next-clause-cost g c =
     let order : List Vertex = order_of (setup_of c.args.setup.now) in
-    let reads : List Vertex = c.as_slice-vertex-items.result.now in
-    let same : reads ≡ order = c.as_slice-vertex-items.ensures.value ∙ c.in_ok-order.ensures in
-    let i = c.loop-vertex.vertex-index in
-    let inside : i < length order = omega (arith, ap length same) in
-    let vertex : Vertex = get_or reads i (Facet 0) in
-    let there : slice_get order i ≡ Some vertex = here-more order reads i (Facet 0) same inside in
-    let known : IsVertex (setup_of c.args.setup.now) vertex = all-more (IsVertex (setup_of c.args.setup.now)) order reads i (Facet 0) same inside c.requires.ordered.known in
+    let i = c.loop-place.place in
+    let inside : i < length order = omega (arith, c.order_len-place-end.ensures, c.loop-place-test.true) in
+    let vertex : Vertex = c.vertex_at-vertex.result in
+    let there : slice_get order i ≡ Some vertex = c.vertex_at-vertex.ensures in
+    let known : IsVertex (setup_of c.args.setup.now) vertex = all-at (IsVertex (setup_of c.args.setup.now)) order i vertex there c.requires.ordered.known in
     let due : Vertex → ℕ = (calls_due g.M.Meanings.rules (transition_of c.args.transition.now) (change_of g.M.Meanings.rules (transition_of c.args.transition.now) (state_in c.args.old_setup.now c.args.old.now) (setup_of c.args.setup.now)) (flags_of g.M.Meanings.rules (change_of g.M.Meanings.rules (transition_of c.args.transition.now) (state_in c.args.old_setup.now c.args.old.now) (setup_of c.args.setup.now)))) in
-    let one : sum_by due (drop i order) ≡ due vertex + sum_by due (drop (i + 1) order) = sum-more due order reads i (Facet 0) same inside in
-    let calls : ℕ = next_calls g.M.Meanings.rules (transition_of c.args.transition.now) (setup_of c.args.setup.now) (scene_in c.loop-vertex.draft.kept) c.loop-vertex.draft.marks.moved (flags_in c.loop-vertex.draft.marks) (values_in c.loop-vertex.draft.kept) (state_in c.args.old_setup.now c.args.old.now) (held_inputs c.args.old.now.inputs.items) vertex in
+    let one : sum_by due (drop i order) ≡ due vertex + sum_by due (drop (i + 1) order) = sum-more due order i vertex there in
+    let calls : ℕ = next_calls g.M.Meanings.rules (transition_of c.args.transition.now) (setup_of c.args.setup.now) (scene_in c.loop-place.draft.kept) c.loop-place.draft.marks.moved (flags_in c.loop-place.draft.marks) (values_in c.loop-place.draft.kept) (state_in c.args.old_setup.now c.args.old.now) (held_inputs c.args.old.now.inputs.items) vertex in
     let paid : calls ≡ due vertex = drafted-calls g.M.Meanings.rules g.met.M.Meanings.lawful (transition_of c.args.transition.now) (setup_of c.args.old_setup.now) (scene_in c.args.old.now) c.args.old.now.shelf.facets.items c.args.old.now.shelf.fields.items c.args.old.now.inputs.items c.requires.kept (setup_of c.args.setup.now) c.requires.ordered c.requires.lawful c.requires.follows.agree (scene-kept (scene_in c.args.old.now) c.requires.old_scene (transition_of c.args.transition.now) c.requires.made)
-    (scene_in c.loop-vertex.draft.kept) c.loop-vertex.draft.marks.moved (values_in c.loop-vertex.draft.kept) (flags_in c.loop-vertex.draft.marks) (held_inputs c.loop-vertex.draft.kept.inputs.items) i c.loop-vertex.invariant.drafted vertex inside there known in
-    let called : c.step.new.calls ≤ c.loop-vertex.calls + calls = c.step.ensures.cost in
-    omega (arith, c.loop-vertex.invariant.cost, one, paid, called)
+    (scene_in c.loop-place.draft.kept) c.loop-place.draft.marks.moved (values_in c.loop-place.draft.kept) (flags_in c.loop-place.draft.marks) (held_inputs c.loop-place.draft.kept.inputs.items) i c.loop-place.invariant.drafted vertex inside there known in
+    let called : c.step.new.calls ≤ c.loop-place.calls + calls = c.step.ensures.cost in
+    omega (arith, c.loop-place.invariant.cost, one, paid, called)
 
-pub loop-vertex-preserved : goal.loop-vertex-preserved
-loop-vertex-preserved g c =
+pub loop-place-preserved : goal.loop-place-preserved
+loop-place-preserved g c =
     let order : List Vertex = order_of (setup_of c.args.setup.now) in
-    let reads : List Vertex = c.as_slice-vertex-items.result.now in
-    let same : reads ≡ order = c.as_slice-vertex-items.ensures.value ∙ c.in_ok-order.ensures in
-    let i = c.loop-vertex.vertex-index in
-    let inside : i < length order = omega (arith, ap length same) in
-    let vertex : Vertex = get_or reads i (Facet 0) in
-    let there : slice_get order i ≡ Some vertex = here-more order reads i (Facet 0) same inside in
-    let known : IsVertex (setup_of c.args.setup.now) vertex = all-more (IsVertex (setup_of c.args.setup.now)) order reads i (Facet 0) same inside c.requires.ordered.known in
+    let i = c.loop-place.place in
+    let inside : i < length order = omega (arith, c.order_len-place-end.ensures, c.loop-place-test.true) in
+    let vertex : Vertex = c.vertex_at-vertex.result in
+    let there : slice_get order i ≡ Some vertex = c.vertex_at-vertex.ensures in
+    let known : IsVertex (setup_of c.args.setup.now) vertex = all-at (IsVertex (setup_of c.args.setup.now)) order i vertex there c.requires.ordered.known in
     let due : Vertex → ℕ = (calls_due g.M.Meanings.rules (transition_of c.args.transition.now) (change_of g.M.Meanings.rules (transition_of c.args.transition.now) (state_in c.args.old_setup.now c.args.old.now) (setup_of c.args.setup.now)) (flags_of g.M.Meanings.rules (change_of g.M.Meanings.rules (transition_of c.args.transition.now) (state_in c.args.old_setup.now c.args.old.now) (setup_of c.args.setup.now)))) in
-    let one : sum_by due (drop i order) ≡ due vertex + sum_by due (drop (i + 1) order) = sum-more due order reads i (Facet 0) same inside in
-    let calls : ℕ = next_calls g.M.Meanings.rules (transition_of c.args.transition.now) (setup_of c.args.setup.now) (scene_in c.loop-vertex.draft.kept) c.loop-vertex.draft.marks.moved (flags_in c.loop-vertex.draft.marks) (values_in c.loop-vertex.draft.kept) (state_in c.args.old_setup.now c.args.old.now) (held_inputs c.args.old.now.inputs.items) vertex in
+    let one : sum_by due (drop i order) ≡ due vertex + sum_by due (drop (i + 1) order) = sum-more due order i vertex there in
+    let calls : ℕ = next_calls g.M.Meanings.rules (transition_of c.args.transition.now) (setup_of c.args.setup.now) (scene_in c.loop-place.draft.kept) c.loop-place.draft.marks.moved (flags_in c.loop-place.draft.marks) (values_in c.loop-place.draft.kept) (state_in c.args.old_setup.now c.args.old.now) (held_inputs c.args.old.now.inputs.items) vertex in
     let paid : calls ≡ due vertex = drafted-calls g.M.Meanings.rules g.met.M.Meanings.lawful (transition_of c.args.transition.now) (setup_of c.args.old_setup.now) (scene_in c.args.old.now) c.args.old.now.shelf.facets.items c.args.old.now.shelf.fields.items c.args.old.now.inputs.items c.requires.kept (setup_of c.args.setup.now) c.requires.ordered c.requires.lawful c.requires.follows.agree (scene-kept (scene_in c.args.old.now) c.requires.old_scene (transition_of c.args.transition.now) c.requires.made)
-    (scene_in c.loop-vertex.draft.kept) c.loop-vertex.draft.marks.moved (values_in c.loop-vertex.draft.kept) (flags_in c.loop-vertex.draft.marks) (held_inputs c.loop-vertex.draft.kept.inputs.items) i c.loop-vertex.invariant.drafted vertex inside there known in
-    let called : c.step.new.calls ≤ c.loop-vertex.calls + calls = c.step.ensures.cost in
+    (scene_in c.loop-place.draft.kept) c.loop-place.draft.marks.moved (values_in c.loop-place.draft.kept) (flags_in c.loop-place.draft.marks) (held_inputs c.loop-place.draft.kept.inputs.items) i c.loop-place.invariant.drafted vertex inside there known in
+    let called : c.step.new.calls ≤ c.loop-place.calls + calls = c.step.ensures.cost in
     record {
       drafted = drafted-more g.M.Meanings.rules g.met.M.Meanings.lawful (transition_of c.args.transition.now) (setup_of c.args.old_setup.now) (scene_in c.args.old.now) c.args.old.now.shelf.facets.items c.args.old.now.shelf.fields.items c.args.old.now.inputs.items c.requires.kept (setup_of c.args.setup.now) c.requires.ordered c.requires.lawful c.requires.follows.agree (scene-kept (scene_in c.args.old.now) c.requires.old_scene (transition_of c.args.transition.now) c.requires.made)
-          (scene_in c.loop-vertex.draft.kept) c.loop-vertex.draft.marks.moved (values_in c.loop-vertex.draft.kept) (flags_in c.loop-vertex.draft.marks) (held_inputs c.loop-vertex.draft.kept.inputs.items) i c.loop-vertex.invariant.drafted vertex inside there known
+          (scene_in c.loop-place.draft.kept) c.loop-place.draft.marks.moved (values_in c.loop-place.draft.kept) (flags_in c.loop-place.draft.marks) (held_inputs c.loop-place.draft.kept.inputs.items) i c.loop-place.invariant.drafted vertex inside there known
           c.in_ok-next.next.value c.in_ok-next.next.flag c.in_ok-next.next.inputs c.in_ok-next.ensures.next
           (scene_in c.store.new.draft.kept) c.store.new.draft.marks.moved (values_in c.store.new.draft.kept) (flags_in c.store.new.draft.marks) (held_inputs c.store.new.draft.kept.inputs.items)
           c.store.ensures.scene c.store.ensures.moved c.store.ensures.value c.store.ensures.flag c.store.ensures.inputs;
       room = c.store.ensures.room;
       flag_room = c.store.ensures.flags;
-      cost = omega (arith, c.loop-vertex.invariant.cost, one, paid, called);
+      cost = omega (arith, c.loop-place.invariant.cost, one, paid, called);
     }
 
 pub returns-clause-values : goal.returns-clause-values
 returns-clause-values g c =
-    let same = c.as_slice-vertex-items.ensures.value ∙ c.in_ok-order.ensures in
-    let all : length (order_of (setup_of c.args.setup.now)) ≤ c.loop-vertex.vertex-index = omega (arith, ap length same) in
+    let all : length (order_of (setup_of c.args.setup.now)) ≤ c.loop-place.place = omega (arith, c.order_len-place-end.ensures, c.loop-place-test.false) in
     drafted-values g.M.Meanings.rules g.met.M.Meanings.lawful (transition_of c.args.transition.now) (setup_of c.args.old_setup.now) (scene_in c.args.old.now) c.args.old.now.shelf.facets.items c.args.old.now.shelf.fields.items c.args.old.now.inputs.items c.requires.kept (setup_of c.args.setup.now) c.requires.ordered c.requires.lawful c.requires.follows.agree (scene-kept (scene_in c.args.old.now) c.requires.old_scene (transition_of c.args.transition.now) c.requires.made)
-    (scene_in c.loop-vertex.draft.kept) c.loop-vertex.draft.marks.moved c.loop-vertex.draft.kept.shelf.facets.items c.loop-vertex.draft.kept.shelf.fields.items c.loop-vertex.draft.kept.inputs.items (flags_in c.loop-vertex.draft.marks) c.loop-vertex.vertex-index all c.loop-vertex.invariant.drafted c.loop-vertex.invariant.room
+    (scene_in c.loop-place.draft.kept) c.loop-place.draft.marks.moved c.loop-place.draft.kept.shelf.facets.items c.loop-place.draft.kept.shelf.fields.items c.loop-place.draft.kept.inputs.items (flags_in c.loop-place.draft.marks) c.loop-place.place all c.loop-place.invariant.drafted c.loop-place.invariant.room
     ∙ ap (λ (s : SceneView). values_of g.M.Meanings.rules (setup_of c.args.setup.now) s (rule_of g.M.Meanings.rules (transition_of c.args.transition.now) (state_in c.args.old_setup.now c.args.old.now))) (sym c.requires.scene)
 
 pub returns-clause-kept : goal.returns-clause-kept
 returns-clause-kept g c =
-    let same = c.as_slice-vertex-items.ensures.value ∙ c.in_ok-order.ensures in
-    let all : length (order_of (setup_of c.args.setup.now)) ≤ c.loop-vertex.vertex-index = omega (arith, ap length same) in
-    subst (λ (s : SceneView). IsKept g.M.Meanings.rules (setup_of c.args.setup.now) s c.loop-vertex.draft.kept.shelf.facets.items c.loop-vertex.draft.kept.shelf.fields.items c.loop-vertex.draft.kept.inputs.items) (sym c.loop-vertex.invariant.drafted.scene_is)
+    let all : length (order_of (setup_of c.args.setup.now)) ≤ c.loop-place.place = omega (arith, c.order_len-place-end.ensures, c.loop-place-test.false) in
+    subst (λ (s : SceneView). IsKept g.M.Meanings.rules (setup_of c.args.setup.now) s c.loop-place.draft.kept.shelf.facets.items c.loop-place.draft.kept.shelf.fields.items c.loop-place.draft.kept.inputs.items) (sym c.loop-place.invariant.drafted.scene_is)
     (drafted-kept g.M.Meanings.rules g.met.M.Meanings.lawful (transition_of c.args.transition.now) (setup_of c.args.old_setup.now) (scene_in c.args.old.now) c.args.old.now.shelf.facets.items c.args.old.now.shelf.fields.items c.args.old.now.inputs.items c.requires.kept (setup_of c.args.setup.now) c.requires.ordered c.requires.lawful c.requires.follows.agree (scene-kept (scene_in c.args.old.now) c.requires.old_scene (transition_of c.args.transition.now) c.requires.made)
-    (scene_in c.loop-vertex.draft.kept) c.loop-vertex.draft.marks.moved c.loop-vertex.draft.kept.shelf.facets.items c.loop-vertex.draft.kept.shelf.fields.items c.loop-vertex.draft.kept.inputs.items (flags_in c.loop-vertex.draft.marks) c.loop-vertex.vertex-index all c.loop-vertex.invariant.drafted c.loop-vertex.invariant.room
+    (scene_in c.loop-place.draft.kept) c.loop-place.draft.marks.moved c.loop-place.draft.kept.shelf.facets.items c.loop-place.draft.kept.shelf.fields.items c.loop-place.draft.kept.inputs.items (flags_in c.loop-place.draft.marks) c.loop-place.place all c.loop-place.invariant.drafted c.loop-place.invariant.room
     (subst IsScene c.requires.scene c.requires.is_scene) c.requires.made c.requires.follows)
 
 pub returns-clause-scene : goal.returns-clause-scene
-returns-clause-scene g c = c.loop-vertex.invariant.drafted.scene_is ∙ sym c.requires.scene
+returns-clause-scene g c = c.loop-place.invariant.drafted.scene_is ∙ sym c.requires.scene

@@ -7,11 +7,11 @@ use Rattle.facet_slots.specs.Lent.{flags_in, scene_in, setup_of, state_in, trans
 use Rattle.facet_slots.proofs.Walking.{IsDrafted}
 use Rattle.facet_slots.proofs.walk.kept_after.Given as goal
 
-abbrev pub invariant-loop-vertex : goal.invariant-loop-vertex
-invariant-loop-vertex g l = record {
-  drafted : IsDrafted g.M.Meanings.rules (transition_of l.transition) (state_in l.old_setup l.old) (setup_of l.setup) (scene_in l.draft.kept) l.draft.marks.moved (values_in l.draft.kept) (flags_in l.draft.marks) (held_inputs l.draft.kept.inputs.items) l.vertex-index;
+abbrev pub invariant-loop-place : goal.invariant-loop-place
+invariant-loop-place g l = record {
+  drafted : IsDrafted g.M.Meanings.rules (transition_of l.transition) (state_in l.old_setup l.old) (setup_of l.setup) (scene_in l.draft.kept) l.draft.marks.moved (values_in l.draft.kept) (flags_in l.draft.marks) (held_inputs l.draft.kept.inputs.items) l.place;
   room : HasRoomIn l.setup l.draft.kept;
   flag_room : HasFlagRoomIn l.setup l.draft.marks;
-  cost : l.calls + sum_by (calls_due g.M.Meanings.rules (transition_of l.transition) (change_of g.M.Meanings.rules (transition_of l.transition) (state_in l.old_setup l.old) (setup_of l.setup)) (flags_of g.M.Meanings.rules (change_of g.M.Meanings.rules (transition_of l.transition) (state_in l.old_setup l.old) (setup_of l.setup)))) (drop l.vertex-index (order_of (setup_of l.setup)))
+  cost : l.calls + sum_by (calls_due g.M.Meanings.rules (transition_of l.transition) (change_of g.M.Meanings.rules (transition_of l.transition) (state_in l.old_setup l.old) (setup_of l.setup)) (flags_of g.M.Meanings.rules (change_of g.M.Meanings.rules (transition_of l.transition) (state_in l.old_setup l.old) (setup_of l.setup)))) (drop l.place (order_of (setup_of l.setup)))
       ≤ l.initial.calls + sum_by (calls_due g.M.Meanings.rules (transition_of l.transition) (change_of g.M.Meanings.rules (transition_of l.transition) (state_in l.old_setup l.old) (setup_of l.setup)) (flags_of g.M.Meanings.rules (change_of g.M.Meanings.rules (transition_of l.transition) (state_in l.old_setup l.old) (setup_of l.setup)))) (order_of (setup_of l.setup));
 }

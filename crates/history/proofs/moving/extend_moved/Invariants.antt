@@ -8,7 +8,7 @@ use Rattle.history.proofs.moving.extend_moved.Given as goal
 abbrev pub invariant-loop-item : goal.invariant-loop-item
 invariant-loop-item l = record {
   lead_on : LeadOn (old_size l.after) l.rest;
-  gives : l.to.items ++ items_over l.after l.rest ≡ l.fn.to.items ++ items_over l.fn.over l.items;
+  gives : l.to.items ++ items_over l.after l.rest ≡ l.fn.to.items ++ items_over l.fn.over l.fn.items;
 }
 
 abbrev pub decreases-loop-item : goal.decreases-loop-item

@@ -58,4 +58,4 @@ returns-clause-ranges g c =
     let all = c.in_ok-share_moved-2.ensures.ranges
     ∙ (ap (λ rs. rs ++ z) (ap flat c.in_ok-put_all.ensures.ranges ∙ (flat-append (grouped c.share_moved.new.builder) c.args.chunks.items ∙ ap (λ rs. rs ++ m) first))
     ∙ append_assoc a m z) in
-    IfOk-weaker c.finish.result (λ made. spread made.0.items ≡ grouped c.share_moved-2.new.builder) (λ made. flat (spread made.0.items) ≡ a ++ (m ++ z)) (λ made e. ap flat e ∙ all) c.finish.ensures.ranges
+    IfOk-weaker c.finish.result (λ made. spread made.0 ≡ grouped c.share_moved-2.new.builder) (λ made. flat (spread made.0) ≡ a ++ (m ++ z)) (λ made e. ap flat e ∙ all) c.finish.ensures.ranges

@@ -17,7 +17,7 @@ overflow_add-range g c =
     let i = c.loop-range.range-index in
     let start = c.args.placed.now.start in
     let items = c.args.placed.now.chunk.value.ranges.items in
-    let same = c.deref-range-items.ensures.value ∙ ap (λ (ch : Chunk g.row.T.Denot). ch.ranges.items) c.deref.ensures in
+    let same = c.deref-range-items.ensures.value ∙ ap (λ (ch : Chunk g.row.T.Denot). ch.ranges.items) c.deref-2.ensures in
     let l : i < length items = subst (λ (xs : List (Ranged g.row.T.Denot)). i < length xs) same c.loop-range-test.true in
     let is : r ≡ get_or items i r = subst (λ (xs : List (Ranged g.row.T.Denot)). r ≡ get_or xs i r) same c.range-item.is in
     let fits = item_fits g.T.RangeValue.rules start c.args.placed.now.chunk.value i r c.requires.chunk l is in
@@ -29,7 +29,7 @@ overflow_add-range-in-loop-range g c =
     let i = c.loop-range.range-index in
     let start = c.args.placed.now.start in
     let items = c.args.placed.now.chunk.value.ranges.items in
-    let same = c.deref-range-items.ensures.value ∙ ap (λ (ch : Chunk g.row.T.Denot). ch.ranges.items) c.deref.ensures in
+    let same = c.deref-range-items.ensures.value ∙ ap (λ (ch : Chunk g.row.T.Denot). ch.ranges.items) c.deref-2.ensures in
     let l : i < length items = subst (λ (xs : List (Ranged g.row.T.Denot)). i < length xs) same c.loop-range-test.true in
     let is : r ≡ get_or items i r = subst (λ (xs : List (Ranged g.row.T.Denot)). r ≡ get_or xs i r) same c.range-item.is in
     let fits = item_fits g.T.RangeValue.rules start c.args.placed.now.chunk.value i r c.requires.chunk l is in
@@ -41,7 +41,7 @@ moved-requires g c =
     let i = c.loop-range.range-index in
     let start = c.args.placed.now.start in
     let items = c.args.placed.now.chunk.value.ranges.items in
-    let same = c.deref-range-items.ensures.value ∙ ap (λ (ch : Chunk g.row.T.Denot). ch.ranges.items) c.deref.ensures in
+    let same = c.deref-range-items.ensures.value ∙ ap (λ (ch : Chunk g.row.T.Denot). ch.ranges.items) c.deref-2.ensures in
     let l : i < length items = subst (λ (xs : List (Ranged g.row.T.Denot)). i < length xs) same c.loop-range-test.true in
     let is : r ≡ get_or items i r = subst (λ (xs : List (Ranged g.row.T.Denot)). r ≡ get_or xs i r) same c.range-item.is in
     let size = ap old_size c.loop-range.invariant.desc in
@@ -63,17 +63,17 @@ loop-range-preserved g c =
     let start = c.args.placed.now.start in
     let items = c.args.placed.now.chunk.value.ranges.items in
     let before = c.loop-range.invariant in
-    let same = c.deref-range-items.ensures.value ∙ ap (λ (ch : Chunk g.row.T.Denot). ch.ranges.items) c.deref.ensures in
+    let same = c.deref-range-items.ensures.value ∙ ap (λ (ch : Chunk g.row.T.Denot). ch.ranges.items) c.deref-2.ensures in
     let l : i < length items = subst (λ (xs : List (Ranged g.row.T.Denot)). i < length xs) same c.loop-range-test.true in
     let is : r ≡ get_or items i r = subst (λ (xs : List (Ranged g.row.T.Denot)). r ≡ get_or xs i r) same c.range-item.is in
     let f = moved rules c.args.walker.now.desc in
     let o = c.in_ok-moved.ensures.value ∙ ap (λ d. moved rules d (shift start r)) before.desc in
-    let more : c.match-branch-2.run.items ≡ c.loop-range.run.items ++ cons_option c.in_ok-moved.field-0 [] = elim c.match-branch-2.branch [
+    let more : c.match-branch-3.run.items ≡ c.loop-range.run.items ++ cons_option c.in_ok-moved.field-0 [] = elim c.match-branch-3.branch [
       | in-Some+in_ok-push-in-Some w ↦ ap (λ v. v.items) w.run-is ∙ (w.in_ok-push-in-Some.ensures.items ∙ ap (λ o. c.loop-range.run.items ++ cons_option o []) (sym w.in-Some.is))
       | in-None w ↦ ap (λ v. v.items) w.run-is ∙ (sym (append-nil c.loop-range.run.items) ∙ ap (λ o. c.loop-range.run.items ++ cons_option o []) (sym w.in-None.is))
     ] in
     record {
-      run = each_more f start items c.args.run.now.items c.loop-range.run.items c.match-branch-2.run.items i r c.in_ok-moved.field-0 l is o before.run more;
+      run = each_more f start items c.args.run.now.items c.loop-range.run.items c.match-branch-3.run.items i r c.in_ok-moved.field-0 l is o before.run more;
       desc = ap (λ (w : Walk). w.desc) c.moved.ensures.walk ∙ before.desc;
       walk = λ later h. subst (λ (w : Walk). Ascend w.reached (map (shift start) (drop (i + 1) items) ++ later)) (sym c.moved.ensures.walk)
           (ascend_more _ start items later i r l is (before.walk later h));

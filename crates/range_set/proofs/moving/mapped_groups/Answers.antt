@@ -1,10 +1,8 @@
-use Rattle.std.proofs.Common.{◌≡◌, ◌++◌, List, length, filter_map, ap, subst, sym, ◌∙◌, arith}
+use Rattle.std.proofs.Common.{◌≡◌, ◌++◌, length, filter_map, ap, subst, sym, ◌∙◌, arith}
 use Rattle.std.proofs.lemmas.Result.{IfOk-weaker}
 use Rattle.change_desc.specs.Sections.{old_size}
-use Rattle.range_set.specs.Order.{first_fault}
-use Rattle.range_set.specs.Mapping.{EndWithin, map_ranges, most_mapped, moved}
+use Rattle.range_set.specs.Mapping.{map_ranges, moved}
 use Rattle.range_set.specs.PrivateChunks.{Ascend, flat, spread}
-use Rattle.range_set.specs.declared.chunk.Placed.{Placed}
 use Rattle.range_set.proofs.Each.{end_within, within}
 use Rattle.range_set.proofs.RangeOrder.{rises-no_fault}
 use Rattle.range_set.proofs.Sharing.{have_parts, map_parts}
@@ -16,39 +14,35 @@ parted-requires-clause-ascend g c =
     let rules = g.T.RangeValue.rules in
     rises_ascend rules (flat (spread c.args.groups.now)) (rises-no_fault rules (flat (spread c.args.groups.now)) c.requires.order)
 
-pub opened-requires : goal.opened-requires
-opened-requires g c =
+pub map_opened-requires-clause-groups : goal.map_opened-requires-clause-groups
+map_opened-requires-clause-groups g c =
     (have_parts g.T.RangeValue.rules c.args.groups.now c.parted.result.0.now c.parted.result.1.now c.parted.result.2.now c.parted.ensures.parts c.requires.groups c.requires.order).second
 
-pub map_chunks-requires-clause-order : goal.map_chunks-requires-clause-order
-map_chunks-requires-clause-order g c =
+pub map_opened-requires-clause-order : goal.map_opened-requires-clause-order
+map_opened-requires-clause-order g c =
     let rules = g.T.RangeValue.rules in
     let parts = have_parts rules c.args.groups.now c.parted.result.0.now c.parted.result.1.now c.parted.result.2.now c.parted.ensures.parts c.requires.groups c.requires.order in
-    let same = ap (λ (ps : List (Placed g.row.T.Denot)). flat ps) c.deref-2.ensures.value ∙ c.in_ok-chunks.ensures.ranges in
-    ap (first_fault rules) same ∙ parts.order
+    parts.order
 
-pub map_chunks-requires-clause-inside : goal.map_chunks-requires-clause-inside
-map_chunks-requires-clause-inside g c =
+pub map_opened-requires-clause-inside : goal.map_opened-requires-clause-inside
+map_opened-requires-clause-inside g c =
     let rules = g.T.RangeValue.rules in
     let d = c.args.changes.now in
     let gs = c.args.groups.now in
     let parts = have_parts rules gs c.parted.result.0.now c.parted.result.1.now c.parted.result.2.now c.parted.ensures.parts c.requires.groups c.requires.order in
     let mapped = map_parts rules d gs c.parted.result.0.now c.parted.result.1.now c.parted.result.2.now parts c.parted.ensures.before c.parted.ensures.after (within (old_size d) (flat (spread gs)) c.requires.inside) in
-    let same = ap (λ (ps : List (Placed g.row.T.Denot)). flat ps) c.deref-2.ensures.value ∙ c.in_ok-chunks.ensures.ranges in
-    subst (EndWithin (old_size d)) (sym same) (end_within (old_size d) (flat (spread c.parted.result.1.now)) mapped.inside_second)
+    end_within (old_size d) (flat (spread c.parted.result.1.now)) mapped.inside_second
 
-pub returns-in_err-chunks-2-clause-cost : goal.returns-in_err-chunks-2-clause-cost
-returns-in_err-chunks-2-clause-cost g c =
+pub returns-in_err-chunks-clause-cost : goal.returns-in_err-chunks-clause-cost
+returns-in_err-chunks-clause-cost g c =
     let rules = g.T.RangeValue.rules in
     let d = c.args.changes.now in
     let gs = c.args.groups.now in
     let parts = have_parts rules gs c.parted.result.0.now c.parted.result.1.now c.parted.result.2.now c.parted.ensures.parts c.requires.groups c.requires.order in
     let mapped = map_parts rules d gs c.parted.result.0.now c.parted.result.1.now c.parted.result.2.now parts c.parted.ensures.before c.parted.ensures.after (within (old_size d) (flat (spread gs)) c.requires.inside) in
-    let same = ap (λ (ps : List (Placed g.row.T.Denot)). flat ps) c.deref-2.ensures.value ∙ c.in_ok-chunks.ensures.ranges in
-    let n = ap (most_mapped rules d) same in
     let m = mapped.cost in
-    let l = c.map_chunks.ensures.cost in
-    omega (arith, n, m, l)
+    let l = c.map_opened.ensures.cost in
+    omega (arith, m, l)
 
 pub joined-requires-clause-before : goal.joined-requires-clause-before
 joined-requires-clause-before g c =
@@ -87,8 +81,7 @@ joined-requires-clause-order g c =
     let gs = c.args.groups.now in
     let parts = have_parts rules gs c.parted.result.0.now c.parted.result.1.now c.parted.result.2.now c.parted.ensures.parts c.requires.groups c.requires.order in
     let mapped = map_parts rules d gs c.parted.result.0.now c.parted.result.1.now c.parted.result.2.now parts c.parted.ensures.before c.parted.ensures.after (within (old_size d) (flat (spread gs)) c.requires.inside) in
-    let same = ap (λ (ps : List (Placed g.row.T.Denot)). flat ps) c.deref-2.ensures.value ∙ c.in_ok-chunks.ensures.ranges in
-    subst (λ rs. Ascend 0 (filter_map (moved rules d) (flat (spread c.parted.result.0.now)) ++ rs)) (sym (c.in_ok-chunks-2.ensures.ranges ∙ ap (map_ranges rules d) same)) mapped.order
+    subst (λ rs. Ascend 0 (filter_map (moved rules d) (flat (spread c.parted.result.0.now)) ++ rs)) (sym c.in_ok-chunks.ensures.ranges) mapped.order
 
 pub joined-requires-clause-room : goal.joined-requires-clause-room
 joined-requires-clause-room g c =
@@ -97,8 +90,7 @@ joined-requires-clause-room g c =
     let gs = c.args.groups.now in
     let parts = have_parts rules gs c.parted.result.0.now c.parted.result.1.now c.parted.result.2.now c.parted.ensures.parts c.requires.groups c.requires.order in
     let mapped = map_parts rules d gs c.parted.result.0.now c.parted.result.1.now c.parted.result.2.now parts c.parted.ensures.before c.parted.ensures.after (within (old_size d) (flat (spread gs)) c.requires.inside) in
-    let same = ap (λ (ps : List (Placed g.row.T.Denot)). flat ps) c.deref-2.ensures.value ∙ c.in_ok-chunks.ensures.ranges in
-    let n = ap length (c.in_ok-chunks-2.ensures.ranges ∙ ap (map_ranges rules d) same) in
+    let n = ap length c.in_ok-chunks.ensures.ranges in
     let m = mapped.few in
     let k = parts.room in
     let l = c.requires.room in
@@ -114,9 +106,8 @@ returns-clause-ranges g c =
     let z = flat (spread c.parted.result.2.now) in
     let parts = have_parts rules gs c.parted.result.0.now c.parted.result.1.now c.parted.result.2.now c.parted.ensures.parts c.requires.groups c.requires.order in
     let mapped = map_parts rules d gs c.parted.result.0.now c.parted.result.1.now c.parted.result.2.now parts c.parted.ensures.before c.parted.ensures.after (within (old_size d) (flat (spread gs)) c.requires.inside) in
-    let same = ap (λ (ps : List (Placed g.row.T.Denot)). flat ps) c.deref-2.ensures.value ∙ c.in_ok-chunks.ensures.ranges in
-    let all = ap (λ rs. filter_map f x ++ (rs ++ filter_map f z)) (c.in_ok-chunks-2.ensures.ranges ∙ ap (map_ranges rules d) same) ∙ sym mapped.goes in
-    IfOk-weaker c.joined.result (λ made. flat (spread made.0.items) ≡ filter_map f x ++ (flat c.in_ok-chunks-2.chunks.items ++ filter_map f z)) (λ made. flat (spread made.0.items) ≡ map_ranges rules d (flat (spread gs)))
+    let all = ap (λ rs. filter_map f x ++ (rs ++ filter_map f z)) c.in_ok-chunks.ensures.ranges ∙ sym mapped.goes in
+    IfOk-weaker c.joined.result (λ made. flat (spread made.0) ≡ filter_map f x ++ (flat c.in_ok-chunks.chunks.items ++ filter_map f z)) (λ made. flat (spread made.0) ≡ map_ranges rules d (flat (spread gs)))
     (λ made e. e ∙ all) c.joined.ensures.ranges
 
 pub returns-clause-cost : goal.returns-clause-cost
@@ -126,8 +117,6 @@ returns-clause-cost g c =
     let gs = c.args.groups.now in
     let parts = have_parts rules gs c.parted.result.0.now c.parted.result.1.now c.parted.result.2.now c.parted.ensures.parts c.requires.groups c.requires.order in
     let mapped = map_parts rules d gs c.parted.result.0.now c.parted.result.1.now c.parted.result.2.now parts c.parted.ensures.before c.parted.ensures.after (within (old_size d) (flat (spread gs)) c.requires.inside) in
-    let same = ap (λ (ps : List (Placed g.row.T.Denot)). flat ps) c.deref-2.ensures.value ∙ c.in_ok-chunks.ensures.ranges in
-    let n = ap (most_mapped rules d) same in
     let m = mapped.cost in
-    let l = c.map_chunks.ensures.cost in
-    omega (arith, n, m, l)
+    let l = c.map_opened.ensures.cost in
+    omega (arith, m, l)

@@ -164,7 +164,7 @@ returns-clause-order g c =
     ∙ (flat-append (spread x ++ c.in_ok-chunks-2.chunks.items) (spread z)
     ∙ (ap (λ rs. rs ++ flat (spread z)) (flat-append (spread x) c.in_ok-chunks-2.chunks.items)
     ∙ (append_assoc (flat (spread x)) (flat c.in_ok-chunks-2.chunks.items) (flat (spread z)) ∙ ap (λ rs. flat (spread x) ++ (rs ++ flat (spread z))) made))) in
-    IfOk-weaker c.finish.result (λ made. spread made.0.items ≡ grouped c.share_all-2.new.self) (λ made. first_fault rules (flat (spread made.0.items)) ≡ None)
+    IfOk-weaker c.finish.result (λ made. spread made.0 ≡ grouped c.share_all-2.new.self) (λ made. first_fault rules (flat (spread made.0)) ≡ None)
     (λ made e. ap (first_fault rules) (ap flat e ∙ all) ∙ added.none) c.finish.ensures.ranges
 
 pub returns-clause-ranges : goal.returns-clause-ranges
@@ -187,5 +187,5 @@ returns-clause-ranges g c =
     ∙ (flat-append (spread x ++ c.in_ok-chunks-2.chunks.items) (spread z)
     ∙ (ap (λ rs. rs ++ flat (spread z)) (flat-append (spread x) c.in_ok-chunks-2.chunks.items)
     ∙ (append_assoc (flat (spread x)) (flat c.in_ok-chunks-2.chunks.items) (flat (spread z)) ∙ ap (λ rs. flat (spread x) ++ (rs ++ flat (spread z))) made))) in
-    IfOk-weaker c.finish.result (λ made. spread made.0.items ≡ grouped c.share_all-2.new.self) (λ made. flat (spread made.0.items) ≡ updated rules (λ _. true) (flat (spread gs)) add)
+    IfOk-weaker c.finish.result (λ made. spread made.0 ≡ grouped c.share_all-2.new.self) (λ made. flat (spread made.0) ≡ updated rules (λ _. true) (flat (spread gs)) add)
     (λ made e. ap flat e ∙ (all ∙ sym added.goes)) c.finish.ensures.ranges

@@ -9,6 +9,6 @@ abbrev pub invariant-loop-range : goal.invariant-loop-range
 invariant-loop-range g l =
     let seen = map (shift l.placed.start) (take l.range-index l.placed.chunk.value.ranges.items) in
     record {
-      kept : (p : Ranged g.row.T.Denot → Bool) → AnswersAs g.F.Fn l.keep p → l.run.items ≡ l.initial.run.items ++ filter p seen;
-      part : KeepsPart seen l.initial.run.items l.run.items;
+      kept : (p : Ranged g.row.T.Denot → Bool) → AnswersAs g.F.Fn l.keep p → l.run.items ≡ l.fn.run.items ++ filter p seen;
+      part : KeepsPart seen l.fn.run.items l.run.items;
     }

@@ -1,7 +1,11 @@
-use Rattle.std.proofs.Common.{inr}
+use Rattle.std.proofs.Common.{inr, rules}
 use Rattle.facet_slots.specs.Slotted.{plain}
-use Rattle.state.proofs.Steps.{new-defs, paid-found, step-is, step-paid}
+use Rattle.state.proofs.Steps.{new-defs, paid-found, specs-refused, step-is, step-paid}
 use Rattle.state.proofs.updated.updated.Goals as goal
+
+pub returns-in_err-draft-clause-refused : goal.returns-in_err-draft-clause-refused
+returns-in_err-draft-clause-refused g c =
+    search (rules, specs-refused g.M.Meanings.rules c.args.registry.now (plain c.args.slots.now) c.args.specs.items)
 
 pub returns-in_err-slots-clause-paid : goal.returns-in_err-slots-clause-paid
 returns-in_err-slots-clause-paid g c =

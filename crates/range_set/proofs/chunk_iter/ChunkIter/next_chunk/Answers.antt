@@ -1,8 +1,9 @@
-use Rattle.std.proofs.Common.{◌≡◌, ◌++◌, List, map, ap, subst, sym, ◌∙◌}
-use Rattle.range_set.specs.PrivateChunks.{AreLeft, move, spread}
+use Rattle.std.proofs.Common.{◌≡◌, ◌+◌, ◌++◌, List, map, ap, subst, sym, ◌∙◌}
+use Rattle.range_set.specs.PrivateChunks.{AreLeft, IsNextChunk, move, spread}
+use Rattle.range_set.specs.declared.chunk.Chunk.{Chunk}
 use Rattle.range_set.specs.declared.chunk.Placed.{Placed}
 use Rattle.range_set.specs.declared.group.Group.{Group}
-use Rattle.range_set.proofs.Groups.{left_open}
+use Rattle.range_set.proofs.Groups.{left_open, next_chunk}
 use Rattle.range_set.proofs.chunk_iter.ChunkIter.next_chunk.Goals as goal
 
 pub loop-next-preserved : goal.loop-next-preserved
@@ -17,3 +18,14 @@ loop-next-preserved g c =
       same = ap (λ ps. map (move next.start) ps ++ spread others) list ∙ (sym entered.0 ∙ c.loop-next.invariant.same);
       left = subst (λ (ps : List (Placed g.row.T.Denot)). AreLeft rules next.start ps others) (sym list) entered.1.1;
     }
+
+pub returns-in-Some-clause-next : goal.returns-in-Some-clause-next
+returns-in-Some-clause-next g c =
+    let rules = g.T.RangeValue.rules in
+    let at = c.loop-next.self-inside in
+    let next = c.in-Some.next.now in
+    let others = c.in-Some.others.now in
+    let left = map (move at.base) others ++ spread at.groups.now in
+    let first = next_chunk rules at.base at.chunks.now at.groups.now next others c.in-Some.ensures.cases.0 c.loop-next.invariant.left in
+    subst (λ (ch : Chunk g.row.T.Denot). IsNextChunk c.args.self.now (at.base + next.start) ch left) (sym c.deref.ensures)
+    (subst (λ (ps : List (Placed g.row.T.Denot)). IsNextChunk ps (at.base + next.start) next.chunk.value left) (c.loop-next.invariant.same ∙ c.self.view_is) first)

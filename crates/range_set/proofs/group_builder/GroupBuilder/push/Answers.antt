@@ -10,8 +10,9 @@ pub returns-clause-ranges : goal.returns-clause-ranges
 returns-clause-ranges g c =
     let room = c.make_room.new.self in
     ap (λ ps. spread room.done.items ++ ps) c.in_ok-put.ensures.chunks
+    ∙ (ap (λ ps. spread room.done.items ++ (map (move room.start) ps ++ c.args.placed ∷ [])) c.reserve.ensures.items
     ∙ (sym (append_assoc (spread room.done.items) (map (move room.start) room.growing.chunks.items) (c.args.placed ∷ []))
-    ∙ ap (λ ps. ps ++ c.args.placed ∷ []) c.in_ok-make_room.ensures.ranges)
+    ∙ ap (λ ps. ps ++ c.args.placed ∷ []) c.in_ok-make_room.ensures.ranges))
 
 pub put-requires-clause-room : goal.put-requires-clause-room
 put-requires-clause-room g c =
@@ -20,8 +21,9 @@ put-requires-clause-room g c =
     let same = ap (λ ps. length (flat ps)) c.in_ok-make_room.ensures.ranges in
     let parts = ap length (flat-append (spread room.done.items) (map (move room.start) list)) ∙ length-append (flat (spread room.done.items)) (flat (map (move room.start) list)) in
     let moved = length_moved g.T.RangeValue.rules room.start list in
+    let kept = ap (λ ps. length (flat ps)) c.reserve.ensures.items in
     let most = c.requires.room in
-    omega (arith, same, parts, moved, most)
+    omega (arith, same, parts, moved, kept, most)
 
 pub returns-clause-builder : goal.returns-clause-builder
 returns-clause-builder g c =

@@ -6,10 +6,10 @@ use Rattle.range_set.proofs.Under.{rises_ascend}
 use Rattle.range_set.proofs.range_set.RangeSet.between.Goals as goal
 
 pub over-requires : goal.over-requires
-over-requires g c = subst (λ (gs : List (PlacedGroup g.row.T.Denot)). AreGroups g.T.RangeValue.rules gs) (sym c.as_slice.ensures.value) c.self.invariant.sound.groups
+over-requires g c = subst (λ (gs : List (PlacedGroup g.row.T.Denot)). AreGroups g.T.RangeValue.rules gs) (sym c.as_slice.ensures) c.self.invariant.sound.groups
 
 pub among-requires : goal.among-requires
 among-requires g c =
     let rules = g.T.RangeValue.rules in
-    let ranges = flat (spread c.self.inside.groups.items) in
-    subst (Ascend 0) (sym (c.over.ensures ∙ ap (λ (gs : List (PlacedGroup g.row.T.Denot)). flat (spread gs)) c.as_slice.ensures.value)) (rises_ascend rules ranges (rises-no_fault rules ranges c.self.invariant.order))
+    let ranges = flat (spread c.self.inside.groups) in
+    subst (Ascend 0) (sym (c.over.ensures ∙ ap (λ (gs : List (PlacedGroup g.row.T.Denot)). flat (spread gs)) c.as_slice.ensures)) (rises_ascend rules ranges (rises-no_fault rules ranges c.self.invariant.order))

@@ -11,11 +11,11 @@ use Rattle.range_set.proofs.range_set.RangeSet.map_steps.Goals as goal
 pub mapped_groups-requires : goal.mapped_groups-requires
 mapped_groups-requires g c =
     let rules = g.T.RangeValue.rules in
-    let e = c.as_slice.ensures.value in
+    let e = c.as_slice.ensures in
     let shown = ap (λ (gs : List (PlacedGroup g.row.T.Denot)). flat (spread gs)) e ∙ c.self.view_is in
     let count = ap length shown in
-    let len = c.len-len.ensures in
-    let fits = c.len-len.type_inv in
+    let len = c.len.ensures in
+    let fits = c.len.type_inv in
     record {
       groups = subst (AreGroups rules) (sym e) c.self.invariant.sound.groups;
       order = ap (λ (gs : List (PlacedGroup g.row.T.Denot)). first_fault rules (flat (spread gs))) e ∙ c.self.invariant.order;
