@@ -1,2 +1,3 @@
+pub mod IdleSteps
 pub mod InsideSets
 pub mod Staying

@@ -1,19 +1,26 @@
 -- What a history is told of a transaction, where the start document may be of any height.
-use Rattle.std.specs.Prelude.{◌≡◌, ℕ, ℤ, List, refl}
+use Rattle.std.specs.Prelude.{◌≡◌, ℕ, ℤ, List, [], true, false, None, codes, refl}
 use Rattle.std.proofs.Common.{ap, ◌∙◌}
-use Rattle.line_tree.specs.Text.{TextView}
+use Rattle.change_desc.specs.Ranges.{changes_nothing}
 use Rattle.history.specs.declared.case.Case.{Case}
 use Rattle.history.specs.declared.case.Case.TheVariants.{Undo, Redo, UndoSelection, RedoSelection, Unchanged, Unrecorded, Recorded}
 use Rattle.history.specs.declared.lists.Lists.{Lists}
 use Rattle.history.specs.declared.step_input.StepInput.{StepInput}
 use Rattle.history.specs.Steps.{case_of, cut_to, in_case, start_of, step}
 use Rattle.values.specs.Views.{TransactionView}
-use Rattle.values.specs.Updating.{history_input}
+use Rattle.values.specs.Updating.{history_input, number_note}
 
 -- the same as what the table tells, but for the height of the start document
 pub record IsInput (t : TransactionView) (bounds : ℤ × ℤ) (i : StepInput) : Type 0 where
   pub document : i.document.characters ≡ t.start
   pub same : record i { document = record { characters = t.start; height = 0 } } ≡ history_input t bounds
+
+-- Idle: the transaction changes nothing, has no effect to undo, gives no selection, and doesn't say that it comes from the history.
+pub record IsIdle (t : TransactionView) : Type 0 where
+  pub changes : changes_nothing t.changes ≡ true
+  pub effects : t.inverted ≡ []
+  pub given : t.given ≡ false
+  pub from : number_note (codes "fromHistory") t ≡ None
 
 -- with a start document of these characters
 abbrev with_characters : StepInput → List ℕ → StepInput

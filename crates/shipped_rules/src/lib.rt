@@ -16,6 +16,7 @@ mod listing;
 mod making;
 mod marking;
 mod reading;
+mod resting;
 mod shapes;
 mod shipped;
 mod stepping;

@@ -6,6 +6,7 @@ ghost use Rattle.values.specs.Updating.{bool_in, history_bounds, history_input, 
 ghost use Rattle.shipped_rules.specs.Stepping.{IsInput};
 
 use crate::reading::{first_read, pair_in};
+use crate::resting::rests;
 use change_set::ChangeSet;
 use cm_plain::{KeptEffect, Plain, Str};
 use history::{History, Isolation, StepInput};
@@ -27,7 +28,7 @@ const ISOLATE: [char; 14] = [
     'i', 's', 'o', 'l', 'a', 't', 'e', 'H', 'i', 's', 't', 'o', 'r', 'y',
 ];
 
-const FROM_HISTORY: [char; 11] = ['f', 'r', 'o', 'm', 'H', 'i', 's', 't', 'o', 'r', 'y'];
+pub(crate) const FROM_HISTORY: [char; 11] = ['f', 'r', 'o', 'm', 'H', 'i', 's', 't', 'o', 'r', 'y'];
 
 const BEFORE: [char; 6] = ['b', 'e', 'f', 'o', 'r', 'e'];
 
@@ -35,8 +36,8 @@ const AFTER: [char; 5] = ['a', 'f', 't', 'e', 'r'];
 
 const FULL: [char; 4] = ['f', 'u', 'l', 'l'];
 
-/// The sixth shipped updater: the history after the transaction (Reference Manual, history); `None` where the old value is none.
-/// `Err`: out of memory.
+/// The sixth shipped updater: the history after the transaction (Reference Manual, history); `None` where the old value is none, or
+/// rests. `Err`: out of memory.
 pub(crate) fn next_history(
     alloc: Global,
     old: &Val,
@@ -45,12 +46,24 @@ pub(crate) fn next_history(
     ensures { IfOk result (λ answer. unwrap_or answer old.now ≡ next_history old.now view.now.transaction view.now.deps) }
 {
     match old {
-        Val::History(history) => {
-            let next = stepped(alloc, history, view)?;
-            Ok(Some(Val::History(next)))
-        }
+        Val::History(history) => stepped_unless_resting(alloc, history, view),
         _ => Ok(None),
     }
+}
+
+/// A history after the transaction; `None` where it rests.
+fn stepped_unless_resting(
+    alloc: Global,
+    history: &History,
+    view: &UpdateView,
+) -> Result<Option<Val>, AllocError>
+    ensures { IfOk result (λ answer. unwrap_or answer (Val.History history.now) ≡ Val.History (step history.now (history_input view.now.transaction (history_bounds view.now.deps)))) }
+{
+    if rests(history, &view.transaction, history_bounds(&view.deps)) {
+        return Ok(None);
+    }
+    let next = stepped(alloc, history, view)?;
+    Ok(Some(Val::History(next)))
 }
 
 /// A history after the transaction.
@@ -180,7 +193,7 @@ fn is_kind(annotation: &Annotation, kind: &[char]) -> bool
 }
 
 /// The number that the first annotation of a kind says, if it is one.
-fn number_note(annotations: &[Annotation], kind: &[char]) -> Option<i64>
+pub(crate) fn number_note(annotations: &[Annotation], kind: &[char]) -> Option<i64>
     ensures { result ≡ option_and_then int_in (annotation_of kind.now annotations.now) }
 {
     match annotation_of(annotations, kind) {

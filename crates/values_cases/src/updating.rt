@@ -295,3 +295,37 @@ fn a_history_joins_within_its_delay(rt: HostRuntime) -> Result<(), Fail> {
     assert!(rt; second(rt.alloc(), Made::Unit)? == Some((1, 0)));
     Ok(())
 }
+
+/// The text `abc`, and nothing replaced.
+const STILL: Typed<'static> = Typed {
+    start: "abc",
+    from: 0,
+    to: 0,
+    insert: "",
+};
+
+/// Whether a history of one Change is said to be as before after what is typed, with an annotation and a depth.
+fn rests(alloc: Global, typed: Typed<'_>, note: Note<'_>, depth: i64) -> Result<bool, Fail> {
+    let old = once(alloc, Made::Ints(&[5, 0]))?;
+    let bounds = [depth, 0];
+    let reads = [Some(Made::Ints(&bounds))];
+    let view = view_of(alloc, typed, Of(&[]), note, Read::Values(&reads))?;
+    Ok(update(alloc, 6, &old, &view)?.is_none())
+}
+
+#[test]
+fn a_history_rests_where_nothing_is_for_it(rt: HostRuntime) -> Result<(), Fail> {
+    for (typed, note, depth, want) in &[
+        (STILL, Note::None, 1, true),
+        (STILL, Note::Of("time", Made::Int(7)), 1, true),
+        (STILL, Note::Of("addToHistory", Made::Bool(false)), 1, true),
+        (STILL, Note::Of("fromHistory", Made::Int(2)), 1, false),
+        (STILL, Note::Undoes(1), 1, false),
+        (STILL, Note::None, 0, false),
+        (MORE, Note::None, 1, false),
+        (IDLE, Note::None, 1, false),
+    ] {
+        assert!(rt; rests(rt.alloc(), *typed, *note, *depth)? == *want);
+    }
+    Ok(())
+}
