@@ -118,8 +118,8 @@ fn thousand(alloc: Global, most: u32, at: u32) -> Result<Option<bool>, Fail> {
 fn chunks_that_no_change_meets_are_shared(rt: HostRuntime) -> Result<(), Fail> {
     assert!(rt; thousand(rt.alloc(), 0, 15_000)? == Some(true));
     assert!(rt; thousand(rt.alloc(), 0, 5)? == Some(true));
-    assert!(rt; thousand(rt.alloc(), 64, 505)? == Some(true));
-    assert!(rt; thousand(rt.alloc(), 63, 505)? == None);
+    assert!(rt; thousand(rt.alloc(), 32, 165)? == Some(true));
+    assert!(rt; thousand(rt.alloc(), 31, 165)? == None);
     Ok(())
 }
 
@@ -221,20 +221,20 @@ fn has_more(
 fn chunks_that_an_update_leaves_are_shared(rt: HostRuntime) -> Result<(), Fail> {
     assert!(rt; has_update(rt.alloc(), 1000, 0, 15_000)? == Some((1001, true)));
     assert!(rt; has_update(rt.alloc(), 1000, 0, 5)? == Some((1001, true)));
-    assert!(rt; has_update(rt.alloc(), 1000, 64, 500)? == Some((1000, true)));
-    assert!(rt; has_update(rt.alloc(), 1000, 63, 500)? == None);
-    // 70 points stand in two chunks of 35, neither of which is small
+    assert!(rt; has_update(rt.alloc(), 1000, 32, 160)? == Some((1000, true)));
+    assert!(rt; has_update(rt.alloc(), 1000, 31, 160)? == None);
+    // 70 points stand in chunks of 32, 19 and 19, none of which is small
     assert!(rt; has_update(rt.alloc(), 70, 0, 15_000)? == Some((71, true)));
     Ok(())
 }
 
 #[test]
 fn chunks_without_an_added_range_are_shared(rt: HostRuntime) -> Result<(), Fail> {
-    // 20,000 points stand in five groups, the first chunk of which has points 1 to 64
+    // 20,000 points stand in ten groups, the first chunk of which has points 1 to 32
     assert!(rt; has_more(rt.alloc(), 20_000, 0, 300_000, false)? == Some((20_001, true)));
     assert!(rt; has_more(rt.alloc(), 20_000, 0, 5, false)? == Some((20_001, true)));
-    assert!(rt; has_more(rt.alloc(), 20_000, 64, 505, false)? == Some((20_001, true)));
-    assert!(rt; has_more(rt.alloc(), 20_000, 63, 505, false)? == None);
+    assert!(rt; has_more(rt.alloc(), 20_000, 32, 165, false)? == Some((20_001, true)));
+    assert!(rt; has_more(rt.alloc(), 20_000, 31, 165, false)? == None);
     assert!(rt; has_more(rt.alloc(), 20_000, 0, 300_000, true)? == Some((20_002, true)));
     assert!(rt; has_more(rt.alloc(), 0, 0, 5, false)? == Some((1, true)));
     Ok(())

@@ -19,9 +19,9 @@ use Rattle.history.proofs.Cuts.{few-kept}
 use Rattle.selection.specs.Selections.{SelectionView}
 use Rattle.values.specs.Updating.{history_input}
 use Rattle.values.specs.Views.{TransactionView}
-use Rattle.shipped_rules.specs.Stepping.{IsIdle}
+use Rattle.shipped_rules.specs.Stepping.{HasNothingForHistory}
 
--- a step of no changes and no effects, which doesn't come from the history
+-- the case of a step that says this of where it comes from, and is idle or not
 abbrev case_from : Lists → StepInput → Option ℤ → Bool → Case
 case_from h i from idle =
     cond (is_from (pos 0) from && is_newest i.changes h.done) Undo
@@ -30,6 +30,7 @@ case_from h i from idle =
     (cond (is_from (pos 3) from && changes_nothing i.changes && begins_with_select h.undone) RedoSelection
     (cond idle Unchanged (cond (is_some from || is_false i.add_to_history) Unrecorded Recorded)))))
 
+-- a step of no changes and no effects, which doesn't come from the history
 idle_case : (h : Lists) (i : StepInput) → changes_nothing i.changes ≡ true → i.effects ≡ [] → i.from_history ≡ None → case_of h i ≡ Unchanged
 idle_case h i c e f =
     ap (λ from. case_from h i from (is_idle_step i)) f
@@ -51,8 +52,8 @@ idle_step h i c e g f l k =
     ∙ (ap (λ case. cut_to i.min_depth (in_case case h i)) (idle_case h i c e f)
     ∙ (ap (λ given. cut_to i.min_depth (with_given h i given)) g ∙ k))
 
-pub rests : (h : Lists) (t : TransactionView) (bounds : ℤ × ℤ) → IsIdle t → leads_from (length t.start) h ≡ true → cut_to bounds.0 h ≡ h → step h (history_input t bounds) ≡ h
-rests h t bounds is l k =
+pub stays : (h : Lists) (t : TransactionView) (bounds : ℤ × ℤ) → HasNothingForHistory t → leads_from (length t.start) h ≡ true → cut_to bounds.0 h ≡ h → step h (history_input t bounds) ≡ h
+stays h t bounds is l k =
     idle_step h (history_input t bounds) is.changes is.effects (ap (λ b. cond b (Some t.selection) None) is.given) is.from l k
 
 -- lists of Changes alone

@@ -1,4 +1,4 @@
--- What a history is told of a transaction, where the start document may be of any height.
+-- What a history is told of a transaction, where the start document may be of any height, and which transactions have nothing for it.
 use Rattle.std.specs.Prelude.{◌≡◌, ℕ, ℤ, List, [], true, false, None, codes, refl}
 use Rattle.std.proofs.Common.{ap, ◌∙◌}
 use Rattle.change_desc.specs.Ranges.{changes_nothing}
@@ -15,8 +15,9 @@ pub record IsInput (t : TransactionView) (bounds : ℤ × ℤ) (i : StepInput) :
   pub document : i.document.characters ≡ t.start
   pub same : record i { document = record { characters = t.start; height = 0 } } ≡ history_input t bounds
 
--- Idle: the transaction changes nothing, has no effect to undo, gives no selection, and doesn't say that it comes from the history.
-pub record IsIdle (t : TransactionView) : Type 0 where
+-- Nothing for a history: the transaction changes nothing, has no effect to undo, gives no selection, and has no number under
+-- 'fromHistory'.
+pub record HasNothingForHistory (t : TransactionView) : Type 0 where
   pub changes : changes_nothing t.changes ≡ true
   pub effects : t.inverted ≡ []
   pub given : t.given ≡ false

@@ -5,8 +5,8 @@ ghost use Rattle.transaction.specs.Annotations.{annotation_of, is_kind};
 ghost use Rattle.values.specs.Updating.{bool_in, history_bounds, history_input, int_in, isolation_of, next_history, text_in, text_note};
 ghost use Rattle.shipped_rules.specs.Stepping.{IsInput};
 
+use crate::history_staying::history_stays;
 use crate::reading::{first_read, pair_in};
-use crate::resting::rests;
 use change_set::ChangeSet;
 use cm_plain::{KeptEffect, Plain, Str};
 use history::{History, Isolation, StepInput};
@@ -36,8 +36,8 @@ const AFTER: [char; 5] = ['a', 'f', 't', 'e', 'r'];
 
 const FULL: [char; 4] = ['f', 'u', 'l', 'l'];
 
-/// The sixth shipped updater: the history after the transaction (Reference Manual, history); `None` where the old value is none, or
-/// rests. `Err`: out of memory.
+/// The sixth shipped updater: the history after the transaction (Reference Manual, history); `None` where the old value is no
+/// history, or one that the transaction is seen to leave as it is. `Err`: out of memory.
 pub(crate) fn next_history(
     alloc: Global,
     old: &Val,
@@ -46,20 +46,20 @@ pub(crate) fn next_history(
     ensures { IfOk result (λ answer. unwrap_or answer old.now ≡ next_history old.now view.now.transaction view.now.deps) }
 {
     match old {
-        Val::History(history) => stepped_unless_resting(alloc, history, view),
+        Val::History(history) => stepped_unless_it_stays(alloc, history, view),
         _ => Ok(None),
     }
 }
 
-/// A history after the transaction; `None` where it rests.
-fn stepped_unless_resting(
+/// A history after the transaction; `None` where it is seen to stay as it is.
+fn stepped_unless_it_stays(
     alloc: Global,
     history: &History,
     view: &UpdateView,
 ) -> Result<Option<Val>, AllocError>
     ensures { IfOk result (λ answer. unwrap_or answer (Val.History history.now) ≡ Val.History (step history.now (history_input view.now.transaction (history_bounds view.now.deps)))) }
 {
-    if rests(history, &view.transaction, history_bounds(&view.deps)) {
+    if history_stays(history, &view.transaction, history_bounds(&view.deps)) {
         return Ok(None);
     }
     let next = stepped(alloc, history, view)?;

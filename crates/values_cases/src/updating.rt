@@ -1,6 +1,6 @@
 // Updaters by number.
 use crate::made::{Drawn, Made, Of, is, value_of};
-use crate::views::{IDLE, Note, Read, TYPED, Typed, deps_of, shown};
+use crate::views::{IDLE, Note, Read, TYPED, Typed, deps_of, given, shown};
 use shipped_rules::update;
 use std::alloc::Global;
 use std::test::*;
@@ -304,28 +304,144 @@ const STILL: Typed<'static> = Typed {
     insert: "",
 };
 
-/// Whether a history of one Change is said to be as before after what is typed, with an annotation and a depth.
-fn rests(alloc: Global, typed: Typed<'_>, note: Note<'_>, depth: i64) -> Result<bool, Fail> {
-    let old = once(alloc, Made::Ints(&[5, 0]))?;
+/// Whether an updater says that a history is as before after what is typed, with effects, an annotation and a depth.
+fn is_left(
+    alloc: Global,
+    old: &Val,
+    typed: Typed<'_>,
+    effects: Of<'_>,
+    note: Note<'_>,
+    depth: i64,
+) -> Result<bool, Fail> {
     let bounds = [depth, 0];
     let reads = [Some(Made::Ints(&bounds))];
-    let view = view_of(alloc, typed, Of(&[]), note, Read::Values(&reads))?;
-    Ok(update(alloc, 6, &old, &view)?.is_none())
+    let view = view_of(alloc, typed, effects, note, Read::Values(&reads))?;
+    Ok(update(alloc, 6, old, &view)?.is_none())
 }
 
 #[test]
-fn a_history_rests_where_nothing_is_for_it(rt: HostRuntime) -> Result<(), Fail> {
-    for (typed, note, depth, want) in &[
-        (STILL, Note::None, 1, true),
-        (STILL, Note::Of("time", Made::Int(7)), 1, true),
-        (STILL, Note::Of("addToHistory", Made::Bool(false)), 1, true),
-        (STILL, Note::Of("fromHistory", Made::Int(2)), 1, false),
-        (STILL, Note::Undoes(1), 1, false),
-        (STILL, Note::None, 0, false),
-        (MORE, Note::None, 1, false),
-        (IDLE, Note::None, 1, false),
+fn a_history_stays_where_nothing_is_for_it(rt: HostRuntime) -> Result<(), Fail> {
+    let once = once(rt.alloc(), Made::Ints(&[5, 0]))?;
+    let none = Of(&[]);
+    for (typed, effects, note, depth, want) in &[
+        (STILL, none, Note::None, 1, true),
+        (STILL, none, Note::None, 100, true),
+        (STILL, none, Note::None, 0, false),
+        (STILL, none, Note::None, -1, false),
+        (STILL, Of(&[Made::Int(1)]), Note::None, 1, true),
+        (STILL, none, Note::Of("time", Made::Int(7)), 1, true),
+        (
+            STILL,
+            none,
+            Note::Of("userEvent", Made::Text("input")),
+            1,
+            true,
+        ),
+        (
+            STILL,
+            none,
+            Note::Of("isolateHistory", Made::Text("full")),
+            1,
+            true,
+        ),
+        (
+            STILL,
+            none,
+            Note::Of("addToHistory", Made::Bool(false)),
+            1,
+            true,
+        ),
+        (
+            STILL,
+            none,
+            Note::Of("fromHistory", Made::Text("0")),
+            1,
+            true,
+        ),
+        (STILL, none, Note::Of("fromHistory", Made::Int(2)), 1, false),
+        (STILL, none, Note::Undoes(1), 1, false),
+        (MORE, none, Note::None, 1, false),
+        // a history that doesn't lead from the text `ab`
+        (IDLE, none, Note::None, 1, false),
     ] {
-        assert!(rt; rests(rt.alloc(), *typed, *note, *depth)? == *want);
+        assert!(rt; is_left(rt.alloc(), &once, *typed, *effects, *note, *depth)? == *want);
     }
+    Ok(())
+}
+
+/// The text `abcd`, and nothing replaced.
+const STILL_MORE: Typed<'static> = Typed {
+    start: "abcd",
+    from: 0,
+    to: 0,
+    insert: "",
+};
+
+/// The text `abcd` without its last character.
+const LESS: Typed<'static> = Typed {
+    start: "abcd",
+    from: 3,
+    to: 4,
+    insert: "",
+};
+
+#[test]
+fn a_history_of_several_changes_stays(rt: HostRuntime) -> Result<(), Fail> {
+    let alloc = rt.alloc();
+    let bounds = Made::Ints(&[5, 0]);
+    let none = Of(&[]);
+    let empty = value_of(alloc, Made::History)?;
+    assert!(rt; !is_left(alloc, &empty, IDLE, none, Note::None, 5)?);
+    let once = once(alloc, bounds)?;
+    let twice = timed(alloc, &once, MORE, 100, bounds)?;
+    assert!(rt; is_left(alloc, &twice, STILL_MORE, none, Note::None, 2)?);
+    assert!(rt; !is_left(alloc, &twice, STILL_MORE, none, Note::None, 1)?);
+    let undone = stepped(
+        alloc,
+        &twice,
+        LESS,
+        Note::Of("fromHistory", Made::Int(0)),
+        NONE,
+    )?;
+    assert!(rt; depth(&undone) == Some((1, 1)));
+    assert!(rt; is_left(alloc, &undone, STILL, none, Note::None, 1)?);
+    Ok(())
+}
+
+/// Whether an updater says that a history is as before where a cursor is given in the text `abc`.
+fn is_left_by_a_cursor(alloc: Global, old: &Val, head: u32) -> Result<bool, Fail> {
+    let transaction = given(alloc, STILL, head, Of(&[]), Note::None)?;
+    let deps = deps_of(alloc, NONE)?;
+    let view = UpdateView { transaction, deps };
+    Ok(update(alloc, 6, old, &view)?.is_none())
+}
+
+/// The history after a cursor is given in the text `abc`.
+fn after_a_cursor(alloc: Global, old: &Val, head: u32) -> Result<Val, Fail> {
+    let transaction = given(alloc, STILL, head, Of(&[]), Note::None)?;
+    let deps = deps_of(alloc, NONE)?;
+    let view = UpdateView { transaction, deps };
+    match update(alloc, 6, old, &view)? {
+        Some(next) => Ok(next),
+        None => Ok(old.try_copy(alloc)?),
+    }
+}
+
+/// How many items can be undone, and how many done again; `None` where the value is no history.
+fn items(value: &Val) -> Option<(usize, usize)> {
+    match value {
+        Val::History(history) => Some(history.items()),
+        _ => None,
+    }
+}
+
+#[test]
+fn a_history_hears_of_a_selection(rt: HostRuntime) -> Result<(), Fail> {
+    let alloc = rt.alloc();
+    let once = once(alloc, Made::Ints(&[5, 0]))?;
+    assert!(rt; !is_left_by_a_cursor(alloc, &once, 0)?);
+    let selected = after_a_cursor(alloc, &once, 2)?;
+    assert!(rt; items(&selected) == Some((2, 0)));
+    assert!(rt; !is_left(alloc, &selected, STILL, Of(&[]), Note::None, 5)?);
     Ok(())
 }

@@ -3,26 +3,26 @@ ghost use Rattle.std.specs.Prelude.{◌≡◌, ◌≤◌, IsTrue, length, true};
 ghost use Rattle.history.specs.Items.{change_count};
 ghost use Rattle.history.specs.Steps.{cut_to, kept_count, step};
 ghost use Rattle.values.specs.Updating.{history_input};
-ghost use Rattle.shipped_rules.specs.Stepping.{IsIdle};
+ghost use Rattle.shipped_rules.specs.Stepping.{HasNothingForHistory};
 
 use crate::stepping::{FROM_HISTORY, number_note};
 use history::History;
 use values::TrView;
 
-/// Whether a transaction leaves a history as it is, where this is told in few steps: it has nothing for a history, which leads
-/// from its start document, and the depth cuts nothing off. Takes no memory.
-pub(crate) fn rests(history: &History, transaction: &TrView, bounds: (i64, i64)) -> bool
+/// Whether a transaction leaves a history as it is, as far as the counts of its items and its newest Changes tell: the transaction
+/// has nothing for a history, the depth cuts nothing off, and the history leads from the start document. Takes no memory.
+pub(crate) fn history_stays(history: &History, transaction: &TrView, bounds: (i64, i64)) -> bool
     ensures { IsTrue result → step history.now (history_input transaction.now bounds) ≡ history.now }
 {
-    is_idle(transaction)
-        && history.leads_from(transaction.start().len())
+    has_nothing_for_history(transaction)
         && is_uncut(history, bounds.0)
+        && history.leads_from(transaction.start().len())
 }
 
 /// Whether a transaction has nothing for a history: it changes nothing, has no effect to undo, gives no selection, and doesn't say
 /// that it comes from the history.
-fn is_idle(transaction: &TrView) -> bool
-    ensures { IsTrue result → IsIdle transaction.now }
+fn has_nothing_for_history(transaction: &TrView) -> bool
+    ensures { IsTrue result → HasNothingForHistory transaction.now }
 {
     transaction.changes().is_empty()
         && transaction.inverted().is_empty()
@@ -30,7 +30,8 @@ fn is_idle(transaction: &TrView) -> bool
         && number_note(transaction.annotations(), &FROM_HISTORY).is_none()
 }
 
-/// Whether all items of a history are Changes, of which some can be undone, but no more than the depth keeps.
+/// Whether all items of a history are Changes, at least one of which can be undone, and no more than the depth keeps. Where none can,
+/// no call of `history` tells that the group is closed, as it then has to be.
 fn is_uncut(history: &History, depth: i64) -> bool
     ensures { IsTrue result → cut_to depth history.now ≡ history.now }
 {
@@ -43,9 +44,9 @@ fn has_changes_alone(history: &History) -> bool
     ensures done { IsTrue result → length history.now.done ≡ change_count history.now.done }
     ensures undone { IsTrue result → length history.now.undone ≡ change_count history.now.undone }
 {
-    let (done, undone) = history.items();
-    let (changes, undone_changes) = history.depth();
-    done == changes && undone == undone_changes
+    let (items, undone_items) = history.items();
+    let (done, undone) = history.depth();
+    items == done && undone_items == undone
 }
 
 /// Whether a depth keeps so many Changes.
