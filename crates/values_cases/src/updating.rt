@@ -304,71 +304,6 @@ const STILL: Typed<'static> = Typed {
     insert: "",
 };
 
-/// Whether an updater says that a history is as before after what is typed, with effects, an annotation and a depth.
-fn is_left(
-    alloc: Global,
-    old: &Val,
-    typed: Typed<'_>,
-    effects: Of<'_>,
-    note: Note<'_>,
-    depth: i64,
-) -> Result<bool, Fail> {
-    let bounds = [depth, 0];
-    let reads = [Some(Made::Ints(&bounds))];
-    let view = view_of(alloc, typed, effects, note, Read::Values(&reads))?;
-    Ok(update(alloc, 6, old, &view)?.is_none())
-}
-
-#[test]
-fn a_history_stays_where_nothing_is_for_it(rt: HostRuntime) -> Result<(), Fail> {
-    let once = once(rt.alloc(), Made::Ints(&[5, 0]))?;
-    let none = Of(&[]);
-    for (typed, effects, note, depth, want) in &[
-        (STILL, none, Note::None, 1, true),
-        (STILL, none, Note::None, 100, true),
-        (STILL, none, Note::None, 0, false),
-        (STILL, none, Note::None, -1, false),
-        (STILL, Of(&[Made::Int(1)]), Note::None, 1, true),
-        (STILL, none, Note::Of("time", Made::Int(7)), 1, true),
-        (
-            STILL,
-            none,
-            Note::Of("userEvent", Made::Text("input")),
-            1,
-            true,
-        ),
-        (
-            STILL,
-            none,
-            Note::Of("isolateHistory", Made::Text("full")),
-            1,
-            true,
-        ),
-        (
-            STILL,
-            none,
-            Note::Of("addToHistory", Made::Bool(false)),
-            1,
-            true,
-        ),
-        (
-            STILL,
-            none,
-            Note::Of("fromHistory", Made::Text("0")),
-            1,
-            true,
-        ),
-        (STILL, none, Note::Of("fromHistory", Made::Int(2)), 1, false),
-        (STILL, none, Note::Undoes(1), 1, false),
-        (MORE, none, Note::None, 1, false),
-        // a history that doesn't lead from the text `ab`
-        (IDLE, none, Note::None, 1, false),
-    ] {
-        assert!(rt; is_left(rt.alloc(), &once, *typed, *effects, *note, *depth)? == *want);
-    }
-    Ok(())
-}
-
 /// The text `abcd`, and nothing replaced.
 const STILL_MORE: Typed<'static> = Typed {
     start: "abcd",
@@ -385,63 +320,127 @@ const LESS: Typed<'static> = Typed {
     insert: "",
 };
 
-#[test]
-fn a_history_of_several_changes_stays(rt: HostRuntime) -> Result<(), Fail> {
-    let alloc = rt.alloc();
+/// A history: without items, of one Change that leads to `abc`, of two that lead to `abcd`, of these where the second was undone,
+/// and of the one with a Select after it.
+#[derive(Clone, Copy)]
+enum Old {
+    Empty,
+    Once,
+    Twice,
+    Undone,
+    Selected,
+}
+
+fn twice(alloc: Global) -> Result<Val, Fail> {
     let bounds = Made::Ints(&[5, 0]);
-    let none = Of(&[]);
-    let empty = value_of(alloc, Made::History)?;
-    assert!(rt; !is_left(alloc, &empty, IDLE, none, Note::None, 5)?);
     let once = once(alloc, bounds)?;
-    let twice = timed(alloc, &once, MORE, 100, bounds)?;
-    assert!(rt; is_left(alloc, &twice, STILL_MORE, none, Note::None, 2)?);
-    assert!(rt; !is_left(alloc, &twice, STILL_MORE, none, Note::None, 1)?);
-    let undone = stepped(
-        alloc,
-        &twice,
-        LESS,
-        Note::Of("fromHistory", Made::Int(0)),
-        NONE,
-    )?;
-    assert!(rt; depth(&undone) == Some((1, 1)));
-    assert!(rt; is_left(alloc, &undone, STILL, none, Note::None, 1)?);
-    Ok(())
+    timed(alloc, &once, MORE, 100, bounds)
 }
 
-/// Whether an updater says that a history is as before where a cursor is given in the text `abc`.
-fn is_left_by_a_cursor(alloc: Global, old: &Val, head: u32) -> Result<bool, Fail> {
-    let transaction = given(alloc, STILL, head, Of(&[]), Note::None)?;
-    let deps = deps_of(alloc, NONE)?;
-    let view = UpdateView { transaction, deps };
-    Ok(update(alloc, 6, old, &view)?.is_none())
+fn undone(alloc: Global) -> Result<Val, Fail> {
+    let twice = twice(alloc)?;
+    let note = Note::Of("fromHistory", Made::Int(0));
+    stepped(alloc, &twice, LESS, note, NONE)
 }
 
-/// The history after a cursor is given in the text `abc`.
-fn after_a_cursor(alloc: Global, old: &Val, head: u32) -> Result<Val, Fail> {
+/// What an updater is shown where a cursor is given in the text `abc`.
+fn cursor_given(alloc: Global, head: u32) -> Result<UpdateView, Fail> {
     let transaction = given(alloc, STILL, head, Of(&[]), Note::None)?;
     let deps = deps_of(alloc, NONE)?;
-    let view = UpdateView { transaction, deps };
-    match update(alloc, 6, old, &view)? {
+    Ok(UpdateView { transaction, deps })
+}
+
+/// What the updater of histories makes of one of one Change where a cursor is given.
+fn after_a_cursor(alloc: Global, head: u32) -> Result<Option<Val>, Fail> {
+    let once = once(alloc, Made::Ints(&[5, 0]))?;
+    let view = cursor_given(alloc, head)?;
+    Ok(update(alloc, 6, &once, &view)?)
+}
+
+fn selected(alloc: Global) -> Result<Val, Fail> {
+    match after_a_cursor(alloc, 2)? {
         Some(next) => Ok(next),
-        None => Ok(old.try_copy(alloc)?),
+        None => Err("a history with a Select".into()),
+    }
+}
+
+fn old_of(alloc: Global, old: Old) -> Result<Val, Fail> {
+    match old {
+        Old::Empty => value_of(alloc, Made::History),
+        Old::Once => once(alloc, Made::Ints(&[5, 0])),
+        Old::Twice => twice(alloc),
+        Old::Undone => undone(alloc),
+        Old::Selected => selected(alloc),
     }
 }
 
 /// How many items can be undone, and how many done again; `None` where the value is no history.
-fn items(value: &Val) -> Option<(usize, usize)> {
-    match value {
-        Val::History(history) => Some(history.items()),
-        _ => None,
+fn items(alloc: Global, old: Old) -> Result<Option<(usize, usize)>, Fail> {
+    match old_of(alloc, old)? {
+        Val::History(history) => Ok(Some(history.items())),
+        _ => Ok(None),
     }
+}
+
+/// What is typed, the values of effects, an annotation, and the depth that is read.
+type Heard<'a> = (Typed<'a>, Of<'a>, Note<'a>, i64);
+
+/// Whether an updater says that a history is as before after this.
+fn is_left(alloc: Global, old: Old, heard: Heard<'_>) -> Result<bool, Fail> {
+    let (typed, effects, note, depth) = heard;
+    let bounds = [depth, 0];
+    let reads = [Some(Made::Ints(&bounds))];
+    let view = view_of(alloc, typed, effects, note, Read::Values(&reads))?;
+    let old = old_of(alloc, old)?;
+    Ok(update(alloc, 6, &old, &view)?.is_none())
+}
+
+/// No effects.
+const BARE: Of<'static> = Of(&[]);
+
+#[test]
+fn a_history_stays_where_nothing_is_for_it(rt: HostRuntime) -> Result<(), Fail> {
+    for (note, depth, want) in &[
+        (Note::None, 1, true),
+        (Note::None, 100, true),
+        (Note::None, 0, false),
+        (Note::None, -1, false),
+        (Note::Of("time", Made::Int(7)), 1, true),
+        (Note::Of("userEvent", Made::Text("input")), 1, true),
+        (Note::Of("isolateHistory", Made::Text("full")), 1, true),
+        (Note::Of("addToHistory", Made::Bool(false)), 1, true),
+        (Note::Of("fromHistory", Made::Text("0")), 1, true),
+        (Note::Of("fromHistory", Made::Int(2)), 1, false),
+        (Note::Undoes(1), 1, false),
+    ] {
+        assert!(rt; is_left(rt.alloc(), Old::Once, (STILL, BARE, *note, *depth))? == *want);
+    }
+    Ok(())
+}
+
+#[test]
+fn other_histories_stay(rt: HostRuntime) -> Result<(), Fail> {
+    for (old, typed, effects, depth, want) in &[
+        (Old::Once, STILL, Of(&[Made::Int(1)]), 1, true),
+        (Old::Once, MORE, BARE, 1, false),
+        // a history that doesn't lead from the text `ab`
+        (Old::Once, IDLE, BARE, 1, false),
+        (Old::Empty, IDLE, BARE, 5, false),
+        (Old::Twice, STILL_MORE, BARE, 2, true),
+        (Old::Twice, STILL_MORE, BARE, 1, false),
+        (Old::Undone, STILL, BARE, 1, true),
+        (Old::Selected, STILL, BARE, 5, false),
+    ] {
+        let heard = (*typed, *effects, Note::None, *depth);
+        assert!(rt; is_left(rt.alloc(), *old, heard)? == *want);
+    }
+    assert!(rt; items(rt.alloc(), Old::Undone)? == Some((1, 1)));
+    assert!(rt; items(rt.alloc(), Old::Selected)? == Some((2, 0)));
+    Ok(())
 }
 
 #[test]
 fn a_history_hears_of_a_selection(rt: HostRuntime) -> Result<(), Fail> {
-    let alloc = rt.alloc();
-    let once = once(alloc, Made::Ints(&[5, 0]))?;
-    assert!(rt; !is_left_by_a_cursor(alloc, &once, 0)?);
-    let selected = after_a_cursor(alloc, &once, 2)?;
-    assert!(rt; items(&selected) == Some((2, 0)));
-    assert!(rt; !is_left(alloc, &selected, STILL, Of(&[]), Note::None, 5)?);
+    assert!(rt; after_a_cursor(rt.alloc(), 0)?.is_some());
     Ok(())
 }
