@@ -1,4 +1,5 @@
 pub mod Draws
 pub mod Edits
 pub mod MadeLines
+pub mod Made
 pub mod Examples

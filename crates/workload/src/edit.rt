@@ -1,9 +1,9 @@
 ghost use Rattle.std.specs.Prelude.{◌≡◌, ◌+◌, ◌*◌, ◌<◌, ◌≤◌, ◌^◌};
-ghost use Rattle.workload.specs.Edits.{edit_of, length_after};
+ghost use Rattle.workload.specs.Edits.{HasShortText, edit_of, length_after};
 
 /// What a transaction does. Positions and sizes are in characters.
 #[derive(Clone, Copy, Drop)]
-pub(crate) enum Edit {
+pub enum Edit {
     /// A text is inserted: its size from 1 to 8, and the draw that chose its first letter.
     Insert { at: u32, size: u32, letter: u32 },
     /// The characters between two positions, which may be equal, are deleted.
@@ -18,6 +18,7 @@ pub(crate) fn chosen(len: u32, a: u32, b: u32, c: u32) -> Edit
     requires { len < 2 ^ 31 }
     ensures edit { result ≡ edit_of len a b c }
     ensures few { length_after len result ≤ len + 8 }
+    ensures short { HasShortText result }
 {
     let at = c % (len + 1);
     let more = b % 8;

@@ -2,13 +2,15 @@
 //! transactions and asks for a summary.
 //!
 //! The layer above may rely on this: `Workload::new` and `Workload::next` give exactly the lines of `made_lines` of
-//! specs/MadeLines, one after the other, the same at each run. A line is kept only while it is used.
+//! specs/MadeLines, one after the other, the same at each run. A transaction's line is given as what it does, and is not written.
 #![tactic(auto)]
 
 mod draws;
 mod edit;
-mod edit_line;
+mod made_line;
 mod progress;
 mod workload;
 
+pub use edit::Edit;
+pub use made_line::MadeLine;
 pub use workload::{MAX_TRANSACTIONS, Workload};

@@ -1,9 +1,9 @@
-ghost use Rattle.std.specs.Prelude.{◌≡◌, ◌+◌, ◌*◌, ◌<◌, ◌≤◌, [], ◌∷◌, List, ℕ, drop, IfOk, OnErr, MatchOption};
+ghost use Rattle.std.specs.Prelude.{◌≡◌, ◌+◌, ◌*◌, ◌<◌, ◌≤◌, [], ◌∷◌, List, ℕ, drop, IfSome, MatchOption};
 ghost use Rattle.workload.specs.MadeLines.{first_lines, made_lines, max_transactions};
+ghost use Rattle.workload.specs.Made.{IsShort, line_of};
 
-use crate::edit_line::edit_as_line;
+use crate::made_line::MadeLine;
 use crate::progress::{Progress, next_transaction};
-use std::alloc::{AllocError, Global};
 use std::marker::Model;
 
 /// The greatest number of transactions of a workload.
@@ -12,7 +12,6 @@ pub const MAX_TRANSACTIONS: u32 = 1_000_000;
 /// A made workload, which contracts see as the list of its lines that are still to come.
 #[derive(Drop)]
 pub struct Workload {
-    alloc: Global,
     first: u8,
     left: u32,
     progress: Progress,
@@ -32,12 +31,11 @@ impl Model for Workload {
 
 impl Workload {
     /// The workload of so many transactions, at most `MAX_TRANSACTIONS`.
-    pub fn new(alloc: Global, transactions: u32) -> Workload
+    pub fn new(transactions: u32) -> Workload
         requires { transactions ≤ max_transactions }
         ensures { result ≡ made_lines transactions }
     {
         Workload {
-            alloc,
             first: 0,
             left: transactions,
             progress: Progress {
@@ -49,29 +47,31 @@ impl Workload {
         }
     }
 
-    /// The next line, as UTF-8 without its LF. `None`: there is none left. `Err`: out of memory, which changes nothing.
-    pub fn next(&mut self) -> Result<Option<Vec<u8>>, AllocError>
-        ensures line { IfOk result (λ found. MatchOption found ((self.old ≡ []) × (self.new ≡ [])) (λ line. self.old ≡ line.items ∷ self.new)) }
-        ensures memory { OnErr result (self.new ≡ self.old) }
+    /// The next line. `None`: there is none left.
+    pub fn next(&mut self) -> Option<MadeLine>
+        ensures line { MatchOption result ((self.old ≡ []) × (self.new ≡ [])) (λ line. self.old ≡ line_of line ∷ self.new) }
+        ensures short { IfSome result IsShort }
     {
         if self.first < 4 {
-            let line = String::from_str(self.alloc, first_line(self.first))?;
+            let line = first_line(self.first);
             self.first += 1;
-            return Ok(Some(line.into_bytes()));
+            return Some(MadeLine::Text(line));
         }
         if self.left > 0 {
+            let time = 100 * self.progress.number;
             let next = next_transaction(self.progress);
-            let line = edit_as_line(self.alloc, 100 * self.progress.number, next.edit)?;
             self.left -= 1;
             self.progress = next.after;
-            return Ok(Some(line.into_bytes()));
+            return Some(MadeLine::Edit {
+                time,
+                edit: next.edit,
+            });
         }
         if self.ended {
-            return Ok(None);
+            return None;
         }
-        let line = String::from_str(self.alloc, "{\"summary\":{}}")?;
         self.ended = true;
-        Ok(Some(line.into_bytes()))
+        Some(MadeLine::Text("{\"summary\":{}}"))
     }
 }
 

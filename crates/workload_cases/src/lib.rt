@@ -2,4 +2,6 @@
 #![tactic(auto)]
 
 #[cfg(test)]
+mod edit_line;
+#[cfg(test)]
 mod made_lines;

@@ -1,4 +1,5 @@
 // The lines of workloads, as text.
+use crate::edit_line::written;
 use std::alloc::{AllocError, Global};
 use workload::{MAX_TRANSACTIONS, Workload};
 
@@ -23,29 +24,21 @@ const TRANSACTIONS: [&str; 8] = [
 ];
 
 /// Whether the next line is this one.
-fn is_next(workload: &mut Workload, want: &str) -> Result<bool, AllocError> {
-    match workload.next()? {
-        Some(line) => Ok(line.as_slice() == want.as_bytes()),
+fn is_next(alloc: Global, workload: &mut Workload, want: &str) -> Result<bool, AllocError> {
+    match workload.next() {
+        Some(line) => Ok(written(alloc, line)?.as_str() == want),
         None => Ok(false),
     }
 }
 
 /// Whether the next lines are these.
-fn are_next(workload: &mut Workload, want: &[&str]) -> Result<bool, AllocError> {
+fn are_next(alloc: Global, workload: &mut Workload, want: &[&str]) -> Result<bool, AllocError> {
     for line in want {
-        if !is_next(workload, line)? {
+        if !is_next(alloc, workload, line)? {
             return Ok(false);
         }
     }
     Ok(true)
-}
-
-/// Whether no line is left.
-fn is_at_end(workload: &mut Workload) -> Result<bool, AllocError> {
-    match workload.next()? {
-        Some(_) => Ok(false),
-        None => Ok(true),
-    }
 }
 
 /// Whether the lines of a workload are the first ones, these and the summary, and then none.
@@ -53,12 +46,12 @@ fn gives(alloc: Global, transactions: u32, want: &[&str]) -> Result<bool, AllocE
     if transactions > MAX_TRANSACTIONS {
         return Ok(false);
     }
-    let mut workload = Workload::new(alloc, transactions);
+    let mut workload = Workload::new(transactions);
     Ok(
-        are_next(&mut workload, &FIRST)?
-            && are_next(&mut workload, want)?
-            && is_next(&mut workload, "{\"summary\":{}}")?
-            && is_at_end(&mut workload)?,
+        are_next(alloc, &mut workload, &FIRST)?
+            && are_next(alloc, &mut workload, want)?
+            && is_next(alloc, &mut workload, "{\"summary\":{}}")?
+            && workload.next().is_none(),
     )
 }
 
