@@ -2,29 +2,31 @@ ghost use Rattle.std.specs.Prelude.{◌≤◌, IfErr, IfSome};
 ghost use Rattle.cm_outside.specs.Answering.{answerer_told};
 ghost use Rattle.cm_outside.specs.Faults.{Rose};
 ghost use Rattle.cm_outside.specs.Sink.{sink_told};
+ghost use Rattle.workload.specs.Made.{IsShort, line_of};
 ghost use Rattle.workload.specs.MadeLines.{made_lines, max_transactions};
 ghost use Rattle.made_run.specs.Run.{IsDueTo, Ran};
 ghost use Rattle.made_run.specs.Replying.{AnswersBy, RespondsBy};
 
+use crate::answers_made::AnswersMade;
 use cm_outside::{Sink, Status, StoreFault, write_whole};
-use line_run::Answers;
 use std::alloc::Global;
-use workload::Workload;
+use workload::{MadeLine, Workload};
 
-/// The reply to a line. `Err`: how the run ends, `StoreFault` or `NoMemory`.
-fn respond<W, D, A: Answers<W, D>>(
+/// The reply to a line that is given as a value. `Err`: how the run ends, `StoreFault` or `NoMemory`.
+fn respond<W, D, A: AnswersMade<W, D>>(
     with: &W,
     answers: &mut A,
     store: &mut D,
-    line: &[u8],
+    line: MadeLine,
 ) -> Result<String, Status>
-    requires { A.can_lend with.now }
+    requires lent { A.can_lend with.now }
+    requires short { IsShort line }
     ensures responds { IfSome (A.told answers.old store.old) (λ p.
-        RespondsBy A.machine line.now p (A.told answers.new store.new) result) }
+        RespondsBy A.machine (line_of line) p (A.told answers.new store.new) result) }
     ensures later { A.faults store.old ≤ A.faults store.new }
     ensures cause { IfErr result (λ status. IsDueTo status ⊥ (Rose (A.faults store.old) (A.faults store.new))) }
 {
-    match answers.answer(with, line, store) {
+    match answers.answer_made(with, line, store) {
         Ok(reply) => Ok(reply),
         Err(StoreFault::Failed) => Err(Status::StoreFault),
         Err(StoreFault::NoMemory) => Err(Status::NoMemory),
@@ -32,7 +34,7 @@ fn respond<W, D, A: Answers<W, D>>(
 }
 
 /// Has each line of a workload answered, in order, and gives the last reply. `Err`: how the run ends, `StoreFault` or `NoMemory`.
-fn last_reply<W, D, A: Answers<W, D>>(
+fn last_reply<W, D, A: AnswersMade<W, D>>(
     alloc: Global,
     with: &W,
     answers: &mut A,
@@ -47,13 +49,10 @@ fn last_reply<W, D, A: Answers<W, D>>(
 {
     let mut reply = String::new(alloc);
     'lines: loop {
-        let Ok(next) = workload.next() else {
-            return Err(Status::NoMemory);
-        };
-        let Some(line) = next else {
+        let Some(line) = workload.next() else {
             return Ok(reply);
         };
-        reply = respond(with, answers, store, line.as_slice())?;
+        reply = respond(with, answers, store, line)?;
     }
 }
 
@@ -64,7 +63,7 @@ fn last_reply<W, D, A: Answers<W, D>>(
 /// `WriteFault` a prefix of the reply was written, and else nothing. `NoMemory`: out of memory, and nothing was written. No
 /// other status comes.
 #[tactic(auto, using(crate::proofs::LastReplies::completes))]
-pub fn run_workload<W, D, A: Answers<W, D>, K: Sink>(
+pub fn run_workload<W, D, A: AnswersMade<W, D>, K: Sink>(
     alloc: Global,
     with: &W,
     answers: &mut A,
@@ -78,7 +77,7 @@ pub fn run_workload<W, D, A: Answers<W, D>, K: Sink>(
         (answerer_told A.told A.faults answers.new store.new) result (sink_told K.held K.faults sink.old)
         (sink_told K.held K.faults sink.new) }
 {
-    match last_reply(alloc, with, answers, store, Workload::new(alloc, count)) {
+    match last_reply(alloc, with, answers, store, Workload::new(count)) {
         Err(status) => status,
         Ok(reply) => match write_whole(sink, reply.as_bytes()) {
             Ok(()) => Status::Ok,
