@@ -1,0 +1,5 @@
+pub mod Texts
+pub mod Trees
+pub mod Reading
+pub mod Lines
+pub mod Commands
