@@ -1,4 +1,4 @@
-use Rattle.std.proofs.Common.{◌≡◌, ◌∷◌, [], ◌∙◌, MatchOption, string_bytes, sym, ap, subst, arith}
+use Rattle.std.proofs.Common.{◌≡◌, ◌∷◌, [], MatchOption, string_bytes, subst, arith}
 use Rattle.workload.specs.Made.{line_of}
 use Rattle.made_run.proofs.LastReplies.{goes_on}
 use Rattle.made_run.proofs.run.last_reply.Goals as goal
