@@ -11,6 +11,9 @@ ghost use Rattle.script.specs.declared.refusal.Refusal.TheVariants.{LineTooLong}
 ghost use Rattle.script.specs.Reading.{Gives};
 ghost use Rattle.screen.specs.Head.{ShowsHead};
 ghost use Rattle.values.specs.Whole.{IsWhole};
+ghost use Rattle.workload.specs.Edits.{HasShortText};
+ghost use Rattle.workload.specs.Made.{IsShort, line_of};
+ghost use Rattle.workload.specs.MadeLines.{edit_line};
 ghost use Rattle.session.specs.declared.outcome.Outcome.TheVariants as outcomes;
 ghost use Rattle.session.specs.Outcomes.{Done, done_by};
 ghost use Rattle.session.specs.Filing.{opened, with_file};
@@ -28,6 +31,8 @@ use crate::update::update;
 use cm_outside::{Store, StoreFault};
 use cm_plain::Str;
 use line_run::Answers;
+use made_requests::request_of;
+use made_run::AnswersMade;
 use names::{Names, Nodes, all_found, declare};
 use registry::Registry;
 use replies::{Answer, Reply, reply_text};
@@ -38,6 +43,7 @@ use std::alloc::{AllocError, Global};
 use std::marker::Model;
 use values::{Kit, Meanings};
 use viewport::Viewport;
+use workload::{Edit, MadeLine};
 
 /// The size of a session's first window.
 const ROWS: u32 = 24;
@@ -155,6 +161,46 @@ impl<M: Meanings> Session<M> {
     {
         match line_command(self.alloc, line) {
             Err(error) => told(refusal_text(self.alloc, error)),
+            Ok(request) => self.request(kit, store, request),
+        }
+    }
+
+    /// Does what the line of a made workload asks for that is given as a value, and gives the reply, as `line` does. The line of
+    /// a transaction is neither written nor read.
+    pub fn made_line<D: Store>(
+        &mut self,
+        kit: &Kit<M>,
+        store: &mut D,
+        line: MadeLine,
+    ) -> Result<String, StoreFault>
+        requires whole { IsWhole M.rules kit.now }
+        requires short { IsShort line }
+        ensures answered { IfSome (desk_of (plain_session self.old) (D.files store.old)) (λ d. Answered (machine M.rules) (line_of line) d (desk_of (plain_session self.new) (D.files store.new)) result) }
+        ensures later { D.faults store.old ≤ D.faults store.new }
+        ensures cause { result ≡ Err StoreFault.Failed → Rose (D.faults store.old) (D.faults store.new) }
+    {
+        match line {
+            MadeLine::Text(text) => self.line(kit, store, text.as_bytes()),
+            MadeLine::Edit { time, edit } => self.made_edit(kit, store, time, edit),
+        }
+    }
+
+    /// Does what a transaction's line asks for.
+    fn made_edit<D: Store>(
+        &mut self,
+        kit: &Kit<M>,
+        store: &mut D,
+        time: u32,
+        edit: Edit,
+    ) -> Result<String, StoreFault>
+        requires whole { IsWhole M.rules kit.now }
+        requires short { HasShortText edit }
+        ensures answered { IfSome (desk_of (plain_session self.old) (D.files store.old)) (λ d. Answered (machine M.rules) (edit_line time edit) d (desk_of (plain_session self.new) (D.files store.new)) result) }
+        ensures later { D.faults store.old ≤ D.faults store.new }
+        ensures cause { result ≡ Err StoreFault.Failed → Rose (D.faults store.old) (D.faults store.new) }
+    {
+        match request_of(self.alloc, time, edit) {
+            Err(_) => Err(StoreFault::NoMemory),
             Ok(request) => self.request(kit, store, request),
         }
     }
@@ -352,6 +398,17 @@ impl<M: Meanings, D: Store> Answers<Kit<M>, D> for Session<M> {
         ensures memory { OnErr result (desk_of (plain_session self.new) (D.files store.now) ≡ desk_of (plain_session self.old) (D.files store.now)) }
     {
         self.long_line()
+    }
+}
+
+impl<M: Meanings, D: Store> AnswersMade<Kit<M>, D> for Session<M> {
+    fn answer_made(
+        &mut self,
+        with: &Kit<M>,
+        line: MadeLine,
+        store: &mut D,
+    ) -> Result<String, StoreFault> {
+        self.made_line(with, store, line)
     }
 }
 
