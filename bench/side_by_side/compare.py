@@ -34,8 +34,9 @@ WHAT_EACH_DOES = """\
 Each program inserts, deletes and marks at the same places, keeps what undoing needs, and moves earlier marks over each change.
 None draws anything.
 
-ccm           reads each transaction as a line of JSON and makes its reply; keeps the 100 newest groups of changes to undo, joined
-              by the times of the workload; keeps a field of marks and one that counts, and the facet that the marks are provided to.
+ccm           makes each transaction's command, of which it is proved that reading the transaction's line of JSON gives it, and
+              makes the reply; keeps the 100 newest groups of changes to undo, joined by the times of the workload; keeps a field
+              of marks and one that counts, and the facet that the marks are provided to.
 CodeMirror 5  is called by a script in its own process, and finds a place by going through the lines; each change is a step to
               undo; each mark is an object. It has no fields and no facets, and there is no line to read or to answer.
 Neovim        is called by a script in its own process, and finds a place in its index of lines; the whole run is one step to undo;
