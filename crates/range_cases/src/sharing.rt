@@ -136,6 +136,46 @@ fn many_points_are_mapped(rt: HostRuntime) -> Result<(), Fail> {
     Ok(())
 }
 
+/// Whether a set is mapped over an insertion at 200: a span from 0 to a place, and then ten points to 100 that refuse to be copied.
+/// `None` where out of memory.
+fn mapped_under_span(alloc: Global, to: u32) -> Result<Option<usize>, Fail> {
+    let mut ranges = Vec::new(alloc);
+    ranges.push(Ranged {
+        from: 0,
+        to,
+        value: numbered(0, u32::MAX),
+    })?;
+    for index in 1..11u32 {
+        let place = index.wrapping_mul(10);
+        ranges.push(Ranged {
+            from: place,
+            to: place,
+            value: numbered(index, 0),
+        })?;
+    }
+    let set = RangeSet::of(ranges)?;
+    let sections = [
+        Section::Keep(200),
+        Section::Replace(0, 3),
+        Section::Keep(800),
+    ];
+    let changes = described(alloc, &sections)?;
+    if !set.ends_within(changes.len()) {
+        return Ok(None);
+    }
+    match mapped_twice::<Brand>(&set, &changes, Blank::new(1)) {
+        Ok((counted, _)) => Ok(Some(counted.len())),
+        Err(_) => Ok(None),
+    }
+}
+
+#[test]
+fn a_long_range_shares_no_chunk(rt: HostRuntime) -> Result<(), Fail> {
+    assert!(rt; mapped_under_span(rt.alloc(), 256)? == None);
+    assert!(rt; mapped_under_span(rt.alloc(), 257)? == Some(11));
+    Ok(())
+}
+
 /// A set of so many points without those at a place, with one more there: `None` where out of memory.
 fn updated_points(
     alloc: Global,

@@ -77,11 +77,6 @@ module _ {T : Type 0} where
   begins start n [] later some f h = absurd (omega arith)
   begins start n (r ∷ rs) later some f h = omega (arith, h.0, f)
 
-  pub get-moved : (by : ℕ) (ps : List (Placed T)) (i : ℕ) (p : Placed T) → i < length ps → p ≡ get_or ps i p → move by p ≡ get_or (map (move by) ps) i (move by p)
-  get-moved by [] i p l e = absurd (omega arith)
-  get-moved by (q ∷ ps) zero p l e = ap (move by) e
-  get-moved by (q ∷ ps) (suc i) p l e = get-moved by ps i p (omega arith) e
-
 module _ {T : Type 0} (rules : RangeRules T) where
   turned_any : (start : ℕ) (rs : List (Ranged T)) → list_any (is_turned rules) (map (shift start) rs) ≡ list_any (is_turned rules) rs
   turned_any start [] = refl
@@ -160,11 +155,6 @@ module _ {T : Type 0} (rules : RangeRules T) where
 
   pub group_ends : (start : ℕ) (group : Group T) → IsGroup rules start group → EndBy group.reach (flat group.chunks.items)
   group_ends start group h = let e = h.reach in end_by_greatest (flat group.chunks.items) group.reach (omega (arith, e))
-
-  -- chunks of which there are ranges
-  pub some_chunk : (ps : List (Placed T)) → 1 ≤ length (flat ps) → 1 ≤ length ps
-  some_chunk [] h = absurd (omega arith)
-  some_chunk (p ∷ ps) h = omega arith
 
   some_flat : (p : Placed T) (ps : List (Placed T)) → AreChunks rules (p ∷ ps) → 1 ≤ length (flat (p ∷ ps))
   some_flat p ps h =

@@ -70,16 +70,9 @@ module _ {T : Type 0} where
   }
 
 module _ {T : Type 0} (rules : RangeRules T) where
-  stand_nil : (chunk : List (Ranged T)) → StandBefore rules chunk []
-  stand_nil [] = tt
-  stand_nil (u ∷ chunk) = tt
-
   stand_push : (u : Ranged T) (us taken : List (Ranged T)) (x : Ranged T) → StandBefore rules (u ∷ us) taken → before rules x u ≡ true → StandBefore rules (u ∷ us) (taken ++ x ∷ [])
   stand_push u us [] x h e = (e, tt)
   stand_push u us (y ∷ taken) x h e = (h.0, stand_push u us taken x h.1 e)
-
-  pub takes_none : (chunk run added : List (Ranged T)) → TakesBefore rules chunk run added run added
-  takes_none chunk run added = record { taken = []; run = sym (append-nil run); added = refl; before = stand_nil chunk }
 
   pub takes_more : (chunk us old_run old_added run added after left : List (Ranged T)) (u x : Ranged T) → chunk ≡ u ∷ us → TakesBefore rules chunk old_run old_added run added
       → added ≡ x ∷ left → before rules x u ≡ true → after ≡ run ++ x ∷ [] → TakesBefore rules chunk old_run old_added after left

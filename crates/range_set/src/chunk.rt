@@ -6,13 +6,17 @@ use crate::ranged::Ranged;
 use std::alloc::{AllocError, Global};
 use std::rc::Rc;
 
-/// The greatest number of ranges of a chunk that is made. It is a quarter of what the count of mapped ranges allows, since a change maps
-/// each range of the chunks that it meets: mostly one or two.
+/// The greatest number of ranges of a chunk that is made: a quarter of what the count of mapped ranges allows. A change maps each
+/// range of the chunks that it meets, mostly one or two.
 pub(crate) const MAX_RANGES: usize = 32;
 
 /// The greatest number of ranges of a small chunk. No run of more ranges is cut into small chunks, and an update copies a small one
 /// where a run that isn't done stands before it, or an added range follows by the end of the next chunk.
 pub(crate) const FEW_RANGES: usize = 12;
+
+/// The greatest length, in characters, of a range that shares a chunk with others. A longer one has a chunk of its own: changes far
+/// away meet it, and would map the others with it.
+pub(crate) const MAX_SHARED_LEN: u32 = 256;
 
 /// Up to 128 ranges in order, whose places count from the start of the first.
 #[derive(Drop)]

@@ -1,7 +1,8 @@
 ghost use Rattle.std.specs.Prelude.{IfOk, false, [], ◌++◌, ◌+◌, ◌∷◌, ◌≡◌, ◌≤◌, ◌<◌, ◌^◌, length, map};
+ghost use Rattle.range_set.specs.Order.{AllForward};
 ghost use Rattle.range_set.specs.PrivateChunks.{AreChunks, BeginBy, IsBuilder, IsChunk, built, flat, shift};
 
-use crate::chunk::{Chunk, FEW_RANGES, MAX_RANGES, Placed};
+use crate::chunk::{Chunk, FEW_RANGES, MAX_RANGES, MAX_SHARED_LEN, Placed};
 use crate::range_value::RangeValue;
 use crate::ranged::Ranged;
 use std::alloc::{AllocError, Global};
@@ -37,15 +38,15 @@ impl<T: RangeValue> ChunkBuilder<T> {
         ensures builder { IfOk result (λ _. IsBuilder T.rules self.new) }
         ensures ranges { IfOk result (λ _. built self.new ≡ built self.old ++ range ∷ []) }
     {
-        self.make_room(range.from, left)?;
+        self.make_room(range.from, range.to - range.from, left)?;
         let more = MAX_RANGES.saturating_sub(self.growing.ranges.len());
         self.growing.ranges.reserve(more.min(left))?;
         self.growing.put(self.start, range)
     }
 
-    /// Makes the growing chunk one that a range can be put into that begins at `from`, the first of `left` that are still to
-    /// come of a run. `Err`: out of memory.
-    fn make_room(&mut self, from: u32, left: usize) -> Result<(), AllocError>
+    /// Makes the growing chunk one that a range of `len` characters can be put into that begins at `from`, the first of `left`
+    /// that are still to come of a run. `Err`: out of memory.
+    fn make_room(&mut self, from: u32, len: u32, left: usize) -> Result<(), AllocError>
         requires builder { IsBuilder T.rules self.old }
         requires after { BeginBy from (built self.old) }
         ensures builder { IfOk result (λ _. IsBuilder T.rules self.new) }
@@ -54,7 +55,9 @@ impl<T: RangeValue> ChunkBuilder<T> {
         ensures after { IfOk result (λ _. self.new.start ≤ from) }
         ensures first { IfOk result (λ _. self.new.growing.ranges.items ≡ [] → from ≡ self.new.start) }
     {
-        if is_full(self.growing.ranges.len(), left) {
+        if is_full(self.growing.ranges.len(), left)
+            || stands_alone(self.growing.ranges.as_slice(), len)
+        {
             seal(&mut self.done, self.start, &mut self.growing)?;
             self.start = from;
         } else if self.growing.ranges.is_empty() {
@@ -98,6 +101,17 @@ fn is_full(len: usize, left: usize) -> bool
 {
     len >= MAX_RANGES
         || (left <= len && len + left > MAX_RANGES && len + left <= MAX_RANGES + FEW_RANGES)
+}
+
+/// Whether a range of `len` characters doesn't share a chunk with some ranges, since it or the first of them is too long for that.
+fn stands_alone<T>(ranges: &[Ranged<T>], len: u32) -> bool
+    requires { AllForward ranges.now }
+    ensures { ranges.now ≡ [] → result ≡ false }
+{
+    match ranges.first() {
+        Some(first) => len > MAX_SHARED_LEN || first.to - first.from > MAX_SHARED_LEN,
+        None => false,
+    }
 }
 
 /// Ends the growing chunk, if it has ranges, and begins one without ranges. `Err`: out of memory.

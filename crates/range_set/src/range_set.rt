@@ -30,7 +30,7 @@ use std::sync::ledger::{Blank, Ledger};
 use steps::Steps;
 
 /// A set of ranges in order (Reference Manual: RangeSet): by their starts, then by their start sides, then as they were
-/// given. It is a list of groups of chunks of 1 to 64 ranges; sets share both, and copies of one share the list.
+/// given. It is a list of groups of chunks; sets share both, and copies of one share the list.
 #[derive(Drop)]
 pub struct RangeSet<T: RangeValue> {
     groups: GroupList<T>,
