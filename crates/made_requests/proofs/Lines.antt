@@ -8,7 +8,7 @@ use Rattle.std.specs.Fmt.{decimal}
 use Rattle.std.specs.List.{flat_map, range_with_len}
 use Rattle.std.specs.Str.{is_utf8}
 use Rattle.json.proofs.Printed.Utf8.{are_ascii, IsUtf8-are_ascii}
-use Rattle.workload.specs.Edits.{character, HasShortText}
+use Rattle.workload.specs.Edits.{character}
 use Rattle.workload.specs.MadeLines.{edit_line, insert_start, insert_end, delete_line, mark_line, written}
 use Rattle.workload.specs.declared.edit.Edit.{Edit}
 use Rattle.workload.specs.declared.edit.Edit.TheVariants.{Insert, Delete, Mark}
@@ -47,29 +47,29 @@ fixed bytes h = record { utf8 = IsUtf8-are_ascii bytes h; short = omega arith }
 within : {bytes : List ℕ} {n : ℕ} (most : ℕ) → Part bytes n → n ≤ most → Part bytes most
 within most p few = record { utf8 = p.utf8; short = omega (arith, p.short) }
 
-insert_part : (time at size letter : ℕ) → time < 2 ^ 32 → at < 2 ^ 32 → size ≤ 8 → Part (edit_line time (Insert at size letter)) 200
+insert_part : (time at size letter : ℕ) → time < 2 ^ 32 → at < 2 ^ 32 → size < 2 ^ 8 → Part (edit_line time (Insert at size letter)) 700
 insert_part time at size letter soon small few =
     let start : Part (insert_start at) 80 = within 80 (both (both (fixed (codes "{\"update\":[{\"changes\":[{\"from\":") refl) (number_part at (omega arith))) (fixed (codes ",\"insert\":\"") refl)) (omega arith) in
     let end : Part (insert_end time) 80 = within 80 (both (both (fixed (codes "\"}],\"annotations\":[{\"type\":\"time\",\"value\":") refl) (number_part time (omega arith))) (fixed (codes "}]}]}") refl)) (omega arith) in
-    within 200 (both (both start (text_part letter 0 size)) end) (omega arith)
+    within 700 (both (both start (text_part letter 0 size)) end) (omega arith)
 
-delete_part : (time from to : ℕ) → time < 2 ^ 32 → from < 2 ^ 32 → to < 2 ^ 32 → Part (delete_line time from to) 200
+delete_part : (time from to : ℕ) → time < 2 ^ 32 → from < 2 ^ 32 → to < 2 ^ 32 → Part (delete_line time from to) 700
 delete_part time from to soon a b =
-    within 200 (both (fixed (codes "{\"update\":[{\"changes\":[{\"from\":") refl) (both (number_part from (omega arith)) (both (fixed (codes ",\"to\":") refl) (both (number_part to (omega arith))
+    within 700 (both (fixed (codes "{\"update\":[{\"changes\":[{\"from\":") refl) (both (number_part from (omega arith)) (both (fixed (codes ",\"to\":") refl) (both (number_part to (omega arith))
     (both (fixed (codes "}],\"annotations\":[{\"type\":\"time\",\"value\":") refl) (both (number_part time (omega arith)) (fixed (codes "}]}]}") refl))))))) (omega arith)
 
-mark_part : (from to : ℕ) → from < 2 ^ 32 → to < 2 ^ 32 → Part (mark_line from to) 200
+mark_part : (from to : ℕ) → from < 2 ^ 32 → to < 2 ^ 32 → Part (mark_line from to) 700
 mark_part from to a b =
-    within 200 (both (fixed (codes "{\"update\":[{\"effects\":[{\"effect\":\"mark\",\"value\":[") refl) (both (number_part from (omega arith)) (both (fixed (codes ",") refl) (both (number_part to (omega arith))
+    within 700 (both (fixed (codes "{\"update\":[{\"effects\":[{\"effect\":\"mark\",\"value\":[") refl) (both (number_part from (omega arith)) (both (fixed (codes ",") refl) (both (number_part to (omega arith))
     (fixed (codes "]}]}]}") refl))))) (omega arith)
 
-line_part : (time : ℕ) (edit : Edit) → time < 2 ^ 32 → Fits edit → HasShortText edit → Part (edit_line time edit) 200
-line_part time (Insert at size letter) soon fits short = insert_part time at size letter soon fits short
-line_part time (Delete from to) soon fits short = delete_part time from to soon fits.0 fits.1
-line_part time (Mark from to) soon fits short = mark_part from to fits.0 fits.1
+line_part : (time : ℕ) (edit : Edit) → time < 2 ^ 32 → Fits edit → Part (edit_line time edit) 700
+line_part time (Insert at size letter) soon fits = insert_part time at size letter soon fits.0 fits.1
+line_part time (Delete from to) soon fits = delete_part time from to soon fits.0 fits.1
+line_part time (Mark from to) soon fits = mark_part from to fits.0 fits.1
 
-pub is_text : (time : ℕ) (edit : Edit) → time < 2 ^ 32 → Fits edit → HasShortText edit → is_utf8 (edit_line time edit) ≡ true
-is_text time edit soon fits short = is_utf8-from_IsUtf8 (edit_line time edit) (line_part time edit soon fits short).utf8
+pub is_text : (time : ℕ) (edit : Edit) → time < 2 ^ 32 → Fits edit → is_utf8 (edit_line time edit) ≡ true
+is_text time edit soon fits = is_utf8-from_IsUtf8 (edit_line time edit) (line_part time edit soon fits).utf8
 
-pub is_short : (time : ℕ) (edit : Edit) → time < 2 ^ 32 → Fits edit → HasShortText edit → length (edit_line time edit) ≤ 200
-is_short time edit soon fits short = (line_part time edit soon fits short).short
+pub is_short : (time : ℕ) (edit : Edit) → time < 2 ^ 32 → Fits edit → length (edit_line time edit) ≤ 700
+is_short time edit soon fits = (line_part time edit soon fits).short

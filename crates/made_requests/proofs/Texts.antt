@@ -79,5 +79,5 @@ pub made_more : (c index ch : ℕ) (before now : List ℕ) → before ≡ made_t
 made_more c index ch before now is same next =
     next ∙ ap₂ (λ (xs : List ℕ) (x : ℕ). xs ++ x ∷ []) is same ∙ sym (map-range_with_len_more (character c) 0 index index (omega arith))
 
-pub has_room : (c index size : ℕ) (text : List ℕ) → text ≡ made_text index c → index < size → size ≤ 8 → length text + 1 < 2 ^ 32
+pub has_room : (c index size : ℕ) (text : List ℕ) → text ≡ made_text index c → index < size → size < 2 ^ 8 → length text + 1 < 2 ^ 32
 has_room c index size text is more few = omega (arith, ap length is, made_size index c)

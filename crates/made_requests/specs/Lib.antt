@@ -1,1 +1,1 @@
-pub mod Specs
+pub mod PrivateRequests

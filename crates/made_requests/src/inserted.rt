@@ -1,4 +1,4 @@
-ghost use Rattle.std.specs.Prelude.{◌≡◌, ◌≤◌, [], IfOk};
+ghost use Rattle.std.specs.Prelude.{◌≡◌, [], IfOk};
 ghost use Rattle.workload.specs.Edits.{character, made_text};
 
 use change_set::InsertedText;
@@ -6,7 +6,7 @@ use line_tree::{Text, TextBuilder};
 use std::alloc::{AllocError, Global};
 
 /// The character at an index of a made text.
-fn character(letter: u32, index: u32) -> char
+fn character(letter: u32, index: u8) -> char
     ensures { result ≡ character letter index }
 {
     if index == 7 {
@@ -16,9 +16,8 @@ fn character(letter: u32, index: u32) -> char
     char::from(b'a' + number as u8)
 }
 
-/// The made text of a size up to 8, by the draw that chose its first letter. `Err`: out of memory.
-pub(crate) fn made_text(alloc: Global, size: u32, letter: u32) -> Result<InsertedText, AllocError>
-    requires { size ≤ 8 }
+/// The made text of a size, by the draw that chose its first letter. `Err`: out of memory.
+pub(crate) fn made_text(alloc: Global, size: u8, letter: u32) -> Result<InsertedText, AllocError>
     ensures { IfOk result (λ text. text ≡ made_text size letter) }
 {
     let mut builder = TextBuilder::new(alloc);

@@ -1,11 +1,10 @@
-ghost use Rattle.std.specs.Prelude.{◌≡◌, ◌≤◌, [], ◌∷◌, IfOk, Ok};
+ghost use Rattle.std.specs.Prelude.{◌≡◌, [], ◌∷◌, IfOk, Ok};
 ghost use Rattle.requests.specs.declared.request.Request.TheVariants as requests;
 ghost use Rattle.requests.specs.Requests.{request_named};
 ghost use Rattle.script.specs.Lines.{line_command};
-ghost use Rattle.workload.specs.Edits.{HasShortText};
-ghost use Rattle.workload.specs.MadeLines.{edit_line};
-ghost use Rattle.workload.specs.declared.edit.Edit.TheVariants.{Insert, Delete, Mark};
-ghost use Rattle.made_requests.specs.Specs.{changing, marking, positions, time_note};
+ghost use Rattle.workload.specs.MadeLines.{edit_line, mark_line};
+ghost use Rattle.workload.specs.declared.edit.Edit.TheVariants.{Insert, Delete};
+ghost use Rattle.made_requests.specs.PrivateRequests.{changing, positions, time_note};
 
 use crate::inserted::{made_text, no_text};
 use change_set::Change;
@@ -75,9 +74,9 @@ fn positions(alloc: Global, from: u32, to: u32) -> Result<Plain, AllocError>
     }
 }
 
-/// The update of one spec, which sets the effect `mark` of two positions. `Err`: out of memory.
-fn marking(alloc: Global, from: u32, to: u32) -> Result<Request, AllocError>
-    ensures { IfOk result (λ r. r ≡ requests.Update (marking from to ∷ [])) }
+/// The request of the line of a mark. `Err`: out of memory.
+fn mark(alloc: Global, from: u32, to: u32) -> Result<Request, AllocError>
+    ensures { IfOk result (λ r. line_command request_named (mark_line from to) ≡ Ok r) }
 {
     let value = positions(alloc, from, to)?;
     let effect = Str::of(alloc, &['m', 'a', 'r', 'k'])?;
@@ -101,10 +100,9 @@ fn insertion(
     alloc: Global,
     time: u32,
     at: u32,
-    size: u32,
+    size: u8,
     letter: u32,
 ) -> Result<Request, AllocError>
-    requires { size ≤ 8 }
     ensures { IfOk result (λ r. line_command request_named (edit_line time (Insert at size letter)) ≡ Ok r) }
 {
     let insert = made_text(alloc, size, letter)?;
@@ -127,22 +125,14 @@ fn deletion(alloc: Global, time: u32, from: u32, to: u32) -> Result<Request, All
     changing(alloc, time, Change::Span { from, to, insert })
 }
 
-/// The request of the line of a mark. `Err`: out of memory.
-fn mark(alloc: Global, time: u32, from: u32, to: u32) -> Result<Request, AllocError>
-    ensures { IfOk result (λ r. line_command request_named (edit_line time (Mark from to)) ≡ Ok r) }
-{
-    marking(alloc, from, to)
-}
-
 /// The request of the line of a transaction that does this edit at a time in milliseconds: what reading the line gives.
 /// `Err`: out of memory.
 pub fn request_of(alloc: Global, time: u32, edit: Edit) -> Result<Request, AllocError>
-    requires { HasShortText edit }
     ensures { IfOk result (λ r. line_command request_named (edit_line time edit) ≡ Ok r) }
 {
     match edit {
         Edit::Insert { at, size, letter } => insertion(alloc, time, at, size, letter),
         Edit::Delete { from, to } => deletion(alloc, time, from, to),
-        Edit::Mark { from, to } => mark(alloc, time, from, to),
+        Edit::Mark { from, to } => mark(alloc, from, to),
     }
 }

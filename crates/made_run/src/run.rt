@@ -2,8 +2,7 @@ ghost use Rattle.std.specs.Prelude.{◌≤◌, IfErr, IfSome};
 ghost use Rattle.cm_outside.specs.Answering.{answerer_told};
 ghost use Rattle.cm_outside.specs.Faults.{Rose};
 ghost use Rattle.cm_outside.specs.Sink.{sink_told};
-ghost use Rattle.workload.specs.Made.{IsShort, line_of};
-ghost use Rattle.workload.specs.MadeLines.{made_lines, max_transactions};
+ghost use Rattle.workload.specs.MadeLines.{line_of, made_lines, max_transactions};
 ghost use Rattle.made_run.specs.Run.{IsDueTo, Ran};
 ghost use Rattle.made_run.specs.Replying.{AnswersBy, RespondsBy};
 
@@ -19,8 +18,7 @@ fn respond<W, D, A: AnswersMade<W, D>>(
     store: &mut D,
     line: MadeLine,
 ) -> Result<String, Status>
-    requires lent { A.can_lend with.now }
-    requires short { IsShort line }
+    requires { A.can_lend with.now }
     ensures responds { IfSome (A.told answers.old store.old) (λ p.
         RespondsBy A.machine (line_of line) p (A.told answers.new store.new) result) }
     ensures later { A.faults store.old ≤ A.faults store.new }

@@ -11,9 +11,7 @@ ghost use Rattle.script.specs.declared.refusal.Refusal.TheVariants.{LineTooLong}
 ghost use Rattle.script.specs.Reading.{Gives};
 ghost use Rattle.screen.specs.Head.{ShowsHead};
 ghost use Rattle.values.specs.Whole.{IsWhole};
-ghost use Rattle.workload.specs.Edits.{HasShortText};
-ghost use Rattle.workload.specs.Made.{IsShort, line_of};
-ghost use Rattle.workload.specs.MadeLines.{edit_line};
+ghost use Rattle.workload.specs.MadeLines.{edit_line, line_of};
 ghost use Rattle.session.specs.declared.outcome.Outcome.TheVariants as outcomes;
 ghost use Rattle.session.specs.Outcomes.{Done, done_by};
 ghost use Rattle.session.specs.Filing.{opened, with_file};
@@ -167,14 +165,13 @@ impl<M: Meanings> Session<M> {
 
     /// Does what the line of a made workload asks for that is given as a value, and gives the reply, as `line` does. The line of
     /// a transaction is neither written nor read.
-    pub fn made_line<D: Store>(
+    fn made_line<D: Store>(
         &mut self,
         kit: &Kit<M>,
         store: &mut D,
         line: MadeLine,
     ) -> Result<String, StoreFault>
         requires whole { IsWhole M.rules kit.now }
-        requires short { IsShort line }
         ensures answered { IfSome (desk_of (plain_session self.old) (D.files store.old)) (λ d. Answered (machine M.rules) (line_of line) d (desk_of (plain_session self.new) (D.files store.new)) result) }
         ensures later { D.faults store.old ≤ D.faults store.new }
         ensures cause { result ≡ Err StoreFault.Failed → Rose (D.faults store.old) (D.faults store.new) }
@@ -185,7 +182,8 @@ impl<M: Meanings> Session<M> {
         }
     }
 
-    /// Does what a transaction's line asks for.
+    /// Does what the line of a transaction asks for that does an edit at a time in milliseconds, and gives the reply. `Failed` and
+    /// `NoMemory` are as in `line`.
     fn made_edit<D: Store>(
         &mut self,
         kit: &Kit<M>,
@@ -194,7 +192,6 @@ impl<M: Meanings> Session<M> {
         edit: Edit,
     ) -> Result<String, StoreFault>
         requires whole { IsWhole M.rules kit.now }
-        requires short { HasShortText edit }
         ensures answered { IfSome (desk_of (plain_session self.old) (D.files store.old)) (λ d. Answered (machine M.rules) (edit_line time edit) d (desk_of (plain_session self.new) (D.files store.new)) result) }
         ensures later { D.faults store.old ≤ D.faults store.new }
         ensures cause { result ≡ Err StoreFault.Failed → Rose (D.faults store.old) (D.faults store.new) }

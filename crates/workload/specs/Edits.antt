@@ -1,5 +1,5 @@
 -- What a transaction of the workload does, by three draws.
-use Rattle.std.specs.Prelude.{ℕ, ◌+◌, ◌-◌, ◌%◌, ◌≤◌, ◌==◌, List, length, map, min, if◌then◌else◌}
+use Rattle.std.specs.Prelude.{ℕ, ◌+◌, ◌-◌, ◌%◌, ◌==◌, List, length, map, min, if◌then◌else◌}
 use Rattle.std.specs.List.{range_with_len}
 use Rattle.workload.specs.Draws.{drawn, next_seed}
 use Rattle.workload.specs.declared.edit.Edit.{Edit}
@@ -25,12 +25,6 @@ character c index = if index == 7 then 10 else 97 + (c + index) % 26
 -- the text of a size from 1 to 8, by the draw that chose its first letter
 abbrev pub made_text : ℕ → ℕ → List ℕ
 made_text size c = map (character c) (range_with_len 0 size)
-
--- a text that is inserted has at most 8 characters
-abbrev pub HasShortText : Edit → Type 0
-HasShortText (Insert at size c) = size ≤ 8
-HasShortText (Delete from to) = Unit {0}
-HasShortText (Mark from to) = Unit {0}
 
 -- the length of a document of `len` characters after the edit
 abbrev pub length_after : ℕ → Edit → ℕ

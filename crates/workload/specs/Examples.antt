@@ -1,9 +1,10 @@
--- The first draws, and the texts of the first three transactions.
+-- The first draws, the texts of the first three transactions, and lines of each kind of transaction.
 use Rattle.std.specs.Prelude.{◌≡◌, [], ◌∷◌, codes, refl}
+use Rattle.std.specs.Fmt.{digits}
 use Rattle.workload.specs.Draws.{draws}
 use Rattle.workload.specs.Edits.{after, made_text, next_edit}
-use Rattle.workload.specs.MadeLines.{beginning}
-use Rattle.workload.specs.declared.edit.Edit.TheVariants.{Insert}
+use Rattle.workload.specs.MadeLines.{beginning, edit_line}
+use Rattle.workload.specs.declared.edit.Edit.TheVariants.{Insert, Delete, Mark}
 
 pub first_draws : draws 9 1 ≡ 16838 ∷ 5758 ∷ 10113 ∷ 17515 ∷ 31051 ∷ 5627 ∷ 23010 ∷ 7419 ∷ 16212 ∷ []
 first_draws = refl
@@ -29,3 +30,20 @@ third_text = refl
 -- the longest texts end with LF
 pub longest_text : made_text 8 0 ≡ codes "abcdefg\n"
 longest_text = refl
+
+-- the lines of the first transaction, of a deletion, of a mark, and of a text that ends with LF
+pub insertion_line : edit_line 100 (Insert 0 7 10113) ≡ codes "{\"update\":[{\"changes\":[{\"from\":0,\"insert\":\"zabcdef\"}],\"annotations\":[{\"type\":\"time\",\"value\":100}]}]}"
+unfolding digits
+insertion_line = refl
+
+pub deletion_line : edit_line 500 (Delete 17 21) ≡ codes "{\"update\":[{\"changes\":[{\"from\":17,\"to\":21}],\"annotations\":[{\"type\":\"time\",\"value\":500}]}]}"
+unfolding digits
+deletion_line = refl
+
+pub mark_line : edit_line 700 (Mark 6 13) ≡ codes "{\"update\":[{\"effects\":[{\"effect\":\"mark\",\"value\":[6,13]}]}]}"
+unfolding digits
+mark_line = refl
+
+pub broken_line : edit_line 800 (Insert 11 8 10311) ≡ codes "{\"update\":[{\"changes\":[{\"from\":11,\"insert\":\"pqrstuv\\n\"}],\"annotations\":[{\"type\":\"time\",\"value\":800}]}]}"
+unfolding digits
+broken_line = refl

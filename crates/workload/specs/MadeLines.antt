@@ -5,6 +5,8 @@ use Rattle.std.specs.List.{flat_map}
 use Rattle.workload.specs.Edits.{after, made_text, next_edit}
 use Rattle.workload.specs.declared.edit.Edit.{Edit}
 use Rattle.workload.specs.declared.edit.Edit.TheVariants.{Insert, Delete, Mark}
+use Rattle.workload.specs.declared.made_line.MadeLine.{MadeLine}
+use Rattle.workload.specs.declared.made_line.MadeLine.TheVariants as made
 use Rattle.workload.specs.declared.progress.Progress.{Progress}
 
 -- the lines before the transactions
@@ -51,6 +53,11 @@ abbrev pub edit_line : ℕ → Edit → List ℕ
 edit_line time (Insert at size letter) = insert_start at ++ written_text size letter ++ insert_end time
 edit_line time (Delete from to) = delete_line time from to
 edit_line time (Mark from to) = mark_line from to
+
+-- the line that a line given as a value is
+abbrev pub line_of : MadeLine → List ℕ
+line_of (made.Text text) = text.now
+line_of (made.Edit time edit) = edit_line time edit
 
 -- the lines of the next transactions, whose times are 100 milliseconds apart
 abbrev pub edit_lines : ℕ → Progress → List (List ℕ)

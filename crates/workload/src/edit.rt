@@ -1,11 +1,11 @@
 ghost use Rattle.std.specs.Prelude.{◌≡◌, ◌+◌, ◌*◌, ◌<◌, ◌≤◌, ◌^◌};
-ghost use Rattle.workload.specs.Edits.{HasShortText, edit_of, length_after};
+ghost use Rattle.workload.specs.Edits.{edit_of, length_after};
 
 /// What a transaction does. Positions and sizes are in characters.
-#[derive(Clone, Copy, Drop)]
+#[derive(Clone, Copy, Debug, PartialEq, Drop)]
 pub enum Edit {
-    /// A text is inserted: its size from 1 to 8, and the draw that chose its first letter.
-    Insert { at: u32, size: u32, letter: u32 },
+    /// A text is inserted: its size, in a workload from 1 to 8, and the draw that chose its first letter.
+    Insert { at: u32, size: u8, letter: u32 },
     /// The characters between two positions, which may be equal, are deleted.
     Delete { from: u32, to: u32 },
     /// The effect `mark` is set between two positions, which may be equal.
@@ -18,7 +18,6 @@ pub(crate) fn chosen(len: u32, a: u32, b: u32, c: u32) -> Edit
     requires { len < 2 ^ 31 }
     ensures edit { result ≡ edit_of len a b c }
     ensures few { length_after len result ≤ len + 8 }
-    ensures short { HasShortText result }
 {
     let at = c % (len + 1);
     let more = b % 8;
@@ -33,7 +32,7 @@ pub(crate) fn chosen(len: u32, a: u32, b: u32, c: u32) -> Edit
         },
         _ => Edit::Insert {
             at,
-            size: 1 + more,
+            size: 1 + more as u8,
             letter: c,
         },
     }
@@ -50,7 +49,7 @@ pub(crate) fn new_length(len: u32, edit: Edit) -> u32
             at: _,
             size,
             letter: _,
-        } => len + size,
+        } => len + u32::from(size),
         Edit::Delete { from, to } => len.saturating_sub(to.saturating_sub(from)),
         Edit::Mark { from: _, to: _ } => len,
     }

@@ -1,7 +1,7 @@
 use crate::edit::Edit;
 
 /// A line of a workload: its text, or what it does.
-#[derive(Clone, Copy, Drop)]
+#[derive(Clone, Copy, Debug, PartialEq, Drop)]
 pub enum MadeLine {
     /// A line before the transactions or the summary, without LF.
     Text(&'static str),

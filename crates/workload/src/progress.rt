@@ -1,5 +1,5 @@
 ghost use Rattle.std.specs.Prelude.{◌≡◌, ◌+◌, ◌*◌, ◌<◌, ◌≤◌, ◌^◌};
-ghost use Rattle.workload.specs.Edits.{HasShortText, after, next_edit};
+ghost use Rattle.workload.specs.Edits.{after, next_edit};
 
 use crate::draws::{next_number, value};
 use crate::edit::{Edit, chosen, new_length};
@@ -29,7 +29,6 @@ pub(crate) fn next_transaction(progress: Progress) -> Transaction
     ensures edit { result.edit ≡ next_edit progress }
     ensures after { result.after ≡ after progress }
     ensures length { result.after.length ≤ 8 * result.after.number }
-    ensures short { HasShortText result.edit }
 {
     let first = next_number(progress.seed);
     let second = next_number(first);

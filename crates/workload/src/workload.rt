@@ -1,6 +1,5 @@
-ghost use Rattle.std.specs.Prelude.{◌≡◌, ◌+◌, ◌*◌, ◌<◌, ◌≤◌, [], ◌∷◌, List, ℕ, drop, IfSome, MatchOption};
-ghost use Rattle.workload.specs.MadeLines.{first_lines, made_lines, max_transactions};
-ghost use Rattle.workload.specs.Made.{IsShort, line_of};
+ghost use Rattle.std.specs.Prelude.{◌≡◌, ◌+◌, ◌*◌, ◌<◌, ◌≤◌, [], ◌∷◌, List, ℕ, drop, MatchOption};
+ghost use Rattle.workload.specs.MadeLines.{first_lines, line_of, made_lines, max_transactions};
 
 use crate::made_line::MadeLine;
 use crate::progress::{Progress, next_transaction};
@@ -49,8 +48,7 @@ impl Workload {
 
     /// The next line. `None`: there is none left.
     pub fn next(&mut self) -> Option<MadeLine>
-        ensures line { MatchOption result ((self.old ≡ []) × (self.new ≡ [])) (λ line. self.old ≡ line_of line ∷ self.new) }
-        ensures short { IfSome result IsShort }
+        ensures { MatchOption result ((self.old ≡ []) × (self.new ≡ [])) (λ line. self.old ≡ line_of line ∷ self.new) }
     {
         if self.first < 4 {
             let line = first_line(self.first);

@@ -2,6 +2,4 @@
 #![tactic(auto)]
 
 #[cfg(test)]
-mod edit_line;
-#[cfg(test)]
 mod made_lines;

@@ -1,7 +1,7 @@
 use Rattle.std.proofs.Common.{[], ◌∷◌, List, ℕ, ap, arith}
 use Rattle.change_set.specs.declared.change.Change.TheVariants.{Span}
 use Rattle.requests.specs.declared.request.Request.TheVariants.{Update}
-use Rattle.made_requests.specs.Specs.{changing}
+use Rattle.made_requests.specs.PrivateRequests.{changing}
 use Rattle.made_requests.proofs.Commands.{deletion_line, is_read}
 use Rattle.made_requests.proofs.request.deletion.Goals as goal
 
