@@ -38,9 +38,9 @@ ccm           makes each transaction's command, of which it is proved that readi
               makes the reply; keeps the 100 newest groups of changes to undo, joined by the times of the workload; keeps a field
               of marks and one that counts, and the facet that the marks are provided to.
 CodeMirror 5  is called by a script in its own process, and finds a place by going through the lines; each change is a step to
-              undo; each mark is an object. It has no fields and no facets, and there is no line to read or to answer.
+              undo; each mark is an object. It has no fields and no facets, and it makes no replies.
 Neovim        is called by a script in its own process, and finds a place in its index of lines; the whole run is one step to undo;
-              each mark is an extmark. It has no fields and no facets, and there is no line to read or to answer."""
+              each mark is an extmark. It has no fields and no facets, and it makes no replies."""
 
 
 class Peer:
