@@ -37,7 +37,7 @@ fn last_reply<W, D, A: AnswersMade<W, D>>(
     with: &W,
     answers: &mut A,
     store: &mut D,
-    mut workload: Workload,
+    workload: Workload,
 ) -> Result<String, Status>
     requires { A.can_lend with.now }
     ensures answers { IfSome (A.told answers.old store.old) (λ p.
@@ -46,12 +46,10 @@ fn last_reply<W, D, A: AnswersMade<W, D>>(
     ensures cause { IfErr result (λ status. IsDueTo status ⊥ (Rose (A.faults store.old) (A.faults store.new))) }
 {
     let mut reply = String::new(alloc);
-    'lines: loop {
-        let Some(line) = workload.next() else {
-            return Ok(reply);
-        };
+    for line in workload {
         reply = respond(with, answers, store, line)?;
     }
+    Ok(reply)
 }
 
 /// Has each line of the made workload of `count` transactions answered, in order, with what is lent for each, and writes the reply

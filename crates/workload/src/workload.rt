@@ -1,4 +1,5 @@
-ghost use Rattle.std.specs.Prelude.{◌≡◌, ◌+◌, ◌*◌, ◌<◌, ◌≤◌, [], ◌∷◌, List, ℕ, drop, MatchOption};
+ghost use Rattle.std.specs.Prelude.{◌≡◌, ◌+◌, ◌*◌, ◌<◌, ◌≤◌, ◌∷◌, drop};
+ghost use Rattle.std.specs.Iterator.{YieldsFirstBy, item_count};
 ghost use Rattle.workload.specs.MadeLines.{first_lines, line_of, made_lines, max_transactions};
 
 use crate::made_line::MadeLine;
@@ -45,11 +46,16 @@ impl Workload {
             ended: false,
         }
     }
+}
 
-    /// The next line. `None`: there is none left.
-    pub fn next(&mut self) -> Option<MadeLine>
-        ensures { MatchOption result ((self.old ≡ []) × (self.new ≡ [])) (λ line. self.old ≡ line_of line ∷ self.new) }
-    {
+impl Iterator for Workload {
+    type Item = MadeLine;
+
+    ghost next_gives = { YieldsFirstBy line_of (λ w. w) };
+
+    ghost remaining = { item_count (λ w. w) };
+
+    fn next(&mut self) -> Option<MadeLine> {
         if self.first < 4 {
             let line = first_line(self.first);
             self.first += 1;
