@@ -1,10 +1,10 @@
 -- The request of a transaction's line.
-use Rattle.std.proofs.Common.{◌≡◌, ℕ, ◌^◌, ◌<◌, ◌≤◌, List, [], ◌∷◌, Some, None, length, true, false, nat_lt, refl, sym, ap, ◌∙◌, arith, codes}
+use Rattle.std.proofs.Common.{◌≡◌, ℕ, ◌^◌, ◌<◌, List, [], ◌∷◌, Some, None, length, true, false, nat_lt, refl, sym, ap, ◌∙◌, arith, codes}
 use Rattle.std.proofs.lemmas.Bool.{le-ltb, lt-ltb}
 use Rattle.std.specs.Prelude.{Result, Ok, Err, IfOk}
 use Rattle.std.specs.declared.alloc.AllocError.{AllocError}
 use Rattle.std.specs.Str.{chars}
-use Rattle.serde_json.specs.Data.{Data, unsigned, number, string, array, object, no_items, item, no_members, member}
+use Rattle.serde_json.specs.Data.{Data}
 use Rattle.script.specs.Reading.{members_at, number_member, required, number_at, text_at, text_member, only, list_of, items_at, each}
 use Rattle.script.specs.Values.{value_at}
 use Rattle.script.specs.Command.{change_of, given_selection_of, main_of, annotation_of, notes_of, flags_of}
