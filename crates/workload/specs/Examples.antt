@@ -32,18 +32,18 @@ pub longest_text : made_text 8 0 ≡ codes "abcdefg\n"
 longest_text = refl
 
 -- the lines of the first transaction, of a deletion, of a mark, and of a text that ends with LF
-pub insertion_line : edit_line 100 (Insert 0 7 10113) ≡ codes "{\"update\":[{\"changes\":[{\"from\":0,\"insert\":\"zabcdef\"}],\"annotations\":[{\"type\":\"time\",\"value\":100}]}]}"
+pub line_of_insertion : edit_line 100 (Insert 0 7 10113) ≡ codes "{\"update\":[{\"changes\":[{\"from\":0,\"insert\":\"zabcdef\"}],\"annotations\":[{\"type\":\"time\",\"value\":100}]}]}"
 unfolding digits
-insertion_line = refl
+line_of_insertion = refl
 
-pub deletion_line : edit_line 500 (Delete 17 21) ≡ codes "{\"update\":[{\"changes\":[{\"from\":17,\"to\":21}],\"annotations\":[{\"type\":\"time\",\"value\":500}]}]}"
+pub line_of_deletion : edit_line 500 (Delete 17 21) ≡ codes "{\"update\":[{\"changes\":[{\"from\":17,\"to\":21}],\"annotations\":[{\"type\":\"time\",\"value\":500}]}]}"
 unfolding digits
-deletion_line = refl
+line_of_deletion = refl
 
-pub mark_line : edit_line 700 (Mark 6 13) ≡ codes "{\"update\":[{\"effects\":[{\"effect\":\"mark\",\"value\":[6,13]}]}]}"
+pub line_of_mark : edit_line 700 (Mark 6 13) ≡ codes "{\"update\":[{\"effects\":[{\"effect\":\"mark\",\"value\":[6,13]}]}]}"
 unfolding digits
-mark_line = refl
+line_of_mark = refl
 
-pub broken_line : edit_line 800 (Insert 11 8 10311) ≡ codes "{\"update\":[{\"changes\":[{\"from\":11,\"insert\":\"pqrstuv\\n\"}],\"annotations\":[{\"type\":\"time\",\"value\":800}]}]}"
+pub line_of_text_with_break : edit_line 800 (Insert 11 8 10311) ≡ codes "{\"update\":[{\"changes\":[{\"from\":11,\"insert\":\"pqrstuv\\n\"}],\"annotations\":[{\"type\":\"time\",\"value\":800}]}]}"
 unfolding digits
-broken_line = refl
+line_of_text_with_break = refl
