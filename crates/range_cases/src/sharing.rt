@@ -136,24 +136,40 @@ fn many_points_are_mapped(rt: HostRuntime) -> Result<(), Fail> {
     Ok(())
 }
 
-/// Whether a set is mapped over an insertion at 200: a span from 0 to a place, and then ten points to 100 that refuse to be copied.
-/// `None` where out of memory.
-fn mapped_under_span(alloc: Global, to: u32) -> Result<Option<usize>, Fail> {
-    let mut ranges = Vec::new(alloc);
-    ranges.push(Ranged {
-        from: 0,
-        to,
-        value: numbered(0, u32::MAX),
-    })?;
+/// Ten points from a place on, ten characters apart, that refuse to be copied.
+fn push_still(ranges: &mut Vec<Ranged<Numbered>>, first: u32) -> Result<(), AllocError> {
     for index in 1..11u32 {
-        let place = index.wrapping_mul(10);
+        let place = first.wrapping_add(index.wrapping_mul(10));
         ranges.push(Ranged {
             from: place,
             to: place,
             value: numbered(index, 0),
         })?;
     }
-    let set = RangeSet::of(ranges)?;
+    Ok(())
+}
+
+/// A span of so many characters from 0 with such points from 10 on, or, where it isn't first, after such points from 10 to 100.
+fn span_and_points(alloc: Global, len: u32, is_first: bool) -> Result<RangeSet<Numbered>, Fail> {
+    let mut ranges = Vec::new(alloc);
+    let from = if is_first { 0 } else { 100 };
+    if !is_first {
+        push_still(&mut ranges, 0)?;
+    }
+    ranges.push(Ranged {
+        from,
+        to: from.wrapping_add(len),
+        value: numbered(0, u32::MAX),
+    })?;
+    if is_first {
+        push_still(&mut ranges, 0)?;
+    }
+    Ok(RangeSet::of(ranges)?)
+}
+
+/// How many ranges such a set has that is mapped over an insertion at 200: `None` where it can't be mapped.
+fn mapped_beside_span(alloc: Global, len: u32, is_first: bool) -> Result<Option<usize>, Fail> {
+    let set = span_and_points(alloc, len, is_first)?;
     let sections = [
         Section::Keep(200),
         Section::Replace(0, 3),
@@ -171,8 +187,10 @@ fn mapped_under_span(alloc: Global, to: u32) -> Result<Option<usize>, Fail> {
 
 #[test]
 fn a_long_range_shares_no_chunk(rt: HostRuntime) -> Result<(), Fail> {
-    assert!(rt; mapped_under_span(rt.alloc(), 256)? == None);
-    assert!(rt; mapped_under_span(rt.alloc(), 257)? == Some(11));
+    for is_first in [true, false] {
+        assert!(rt; mapped_beside_span(rt.alloc(), 256, is_first)? == None);
+        assert!(rt; mapped_beside_span(rt.alloc(), 257, is_first)? == Some(11));
+    }
     Ok(())
 }
 

@@ -1,4 +1,4 @@
-ghost use Rattle.std.specs.Prelude.{IfOk, [], map, ◌++◌, ◌+◌, ◌∷◌, ◌≡◌, ◌≤◌, ◌<◌, ◌^◌, length};
+ghost use Rattle.std.specs.Prelude.{IfOk, false, [], map, ◌++◌, ◌+◌, ◌∷◌, ◌≡◌, ◌≤◌, ◌<◌, ◌^◌, length};
 ghost use Rattle.range_set.specs.PrivateChunks.{IsChunk, shift};
 
 use crate::range_value::RangeValue;
@@ -10,8 +10,9 @@ use std::rc::Rc;
 /// range of the chunks that it meets, mostly one or two.
 pub(crate) const MAX_RANGES: usize = 32;
 
-/// The greatest number of ranges of a small chunk. No run of more ranges is cut into small chunks, and an update copies a small one
-/// where a run that isn't done stands before it, or an added range follows by the end of the next chunk.
+/// The greatest number of ranges of a small chunk. No run of more ranges is cut into small chunks, unless one of them is longer than
+/// `MAX_SHARED_LEN`, and an update copies a small one where a run that isn't done stands before it, or an added range follows by
+/// the end of the next chunk.
 pub(crate) const FEW_RANGES: usize = 12;
 
 /// The greatest length, in characters, of a range that shares a chunk with others. A longer one has a chunk of its own: changes far
@@ -74,5 +75,17 @@ impl<T: RangeValue> Chunk<T> {
         self.is_turned = self.is_turned || is_turned;
         self.has_point = self.has_point || is_point;
         Ok(())
+    }
+}
+
+/// Whether a range of `len` characters doesn't share a chunk with some ranges, since it or the first of them is too long for that.
+pub(crate) fn stands_alone<T>(ranges: &[Ranged<T>], len: u32) -> bool
+    ensures { ranges.now ≡ [] → result ≡ false }
+{
+    match ranges.first() {
+        Some(first) => {
+            len > MAX_SHARED_LEN || first.to.saturating_sub(first.from) > MAX_SHARED_LEN
+        }
+        None => false,
     }
 }

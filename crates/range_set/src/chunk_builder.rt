@@ -1,8 +1,7 @@
 ghost use Rattle.std.specs.Prelude.{IfOk, false, [], ◌++◌, ◌+◌, ◌∷◌, ◌≡◌, ◌≤◌, ◌<◌, ◌^◌, length, map};
-ghost use Rattle.range_set.specs.Order.{AllForward};
 ghost use Rattle.range_set.specs.PrivateChunks.{AreChunks, BeginBy, IsBuilder, IsChunk, built, flat, shift};
 
-use crate::chunk::{Chunk, FEW_RANGES, MAX_RANGES, MAX_SHARED_LEN, Placed};
+use crate::chunk::{Chunk, FEW_RANGES, MAX_RANGES, MAX_SHARED_LEN, Placed, stands_alone};
 use crate::range_value::RangeValue;
 use crate::ranged::Ranged;
 use std::alloc::{AllocError, Global};
@@ -38,8 +37,10 @@ impl<T: RangeValue> ChunkBuilder<T> {
         ensures builder { IfOk result (λ _. IsBuilder T.rules self.new) }
         ensures ranges { IfOk result (λ _. built self.new ≡ built self.old ++ range ∷ []) }
     {
-        self.make_room(range.from, range.to - range.from, left)?;
-        let more = MAX_RANGES.saturating_sub(self.growing.ranges.len());
+        let len = range.to - range.from;
+        self.make_room(range.from, len, left)?;
+        let most = if len > MAX_SHARED_LEN { 1 } else { MAX_RANGES };
+        let more = most.saturating_sub(self.growing.ranges.len());
         self.growing.ranges.reserve(more.min(left))?;
         self.growing.put(self.start, range)
     }
@@ -101,17 +102,6 @@ fn is_full(len: usize, left: usize) -> bool
 {
     len >= MAX_RANGES
         || (left <= len && len + left > MAX_RANGES && len + left <= MAX_RANGES + FEW_RANGES)
-}
-
-/// Whether a range of `len` characters doesn't share a chunk with some ranges, since it or the first of them is too long for that.
-fn stands_alone<T>(ranges: &[Ranged<T>], len: u32) -> bool
-    requires { AllForward ranges.now }
-    ensures { ranges.now ≡ [] → result ≡ false }
-{
-    match ranges.first() {
-        Some(first) => len > MAX_SHARED_LEN || first.to - first.from > MAX_SHARED_LEN,
-        None => false,
-    }
 }
 
 /// Ends the growing chunk, if it has ranges, and begins one without ranges. `Err`: out of memory.

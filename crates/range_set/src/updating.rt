@@ -4,7 +4,7 @@ ghost use Rattle.range_set.specs.PrivateChunks.{AreChunks, AreGroups, AreGroupsO
 ghost use Rattle.range_set.specs.PrivateUpdates.{BeginPast, BeginUnder, IsBeyond, KeepsPart, TakesBefore, last_start};
 ghost use Rattle.range_set.specs.Updating.{AnswersAs, updated};
 
-use crate::chunk::{FEW_RANGES, MAX_RANGES, Placed};
+use crate::chunk::{FEW_RANGES, MAX_RANGES, Placed, stands_alone};
 use crate::chunk_builder::ChunkBuilder;
 use crate::group::{PlacedGroup, in_three};
 use crate::group_builder::GroupBuilder;
@@ -202,8 +202,8 @@ fn is_apart<T: RangeValue>(
     is_beyond(placed, added) && !is_joined(placed, run, added, next)
 }
 
-/// Whether a chunk is a small one, and ranges of a run that isn't a full chunk stand before it, or an added range belongs after it
-/// and by the end of the next chunk. No contract speaks of this: it only decides which chunks are shared.
+/// Whether a chunk is a small one and no long range's own, and ranges of a run that isn't a full chunk stand before it, or an added
+/// range belongs after it and by the end of the next chunk. No contract speaks of this: it only decides which chunks are shared.
 fn is_joined<T: RangeValue>(
     placed: &Placed<T>,
     run: &[Ranged<T>],
@@ -211,7 +211,9 @@ fn is_joined<T: RangeValue>(
     next: Option<&Placed<T>>,
 ) -> bool {
     let is_open = !run.is_empty() && run.len() < MAX_RANGES;
-    placed.chunk.ranges.len() <= FEW_RANGES && (is_open || is_within_next(added, next))
+    placed.chunk.ranges.len() <= FEW_RANGES
+        && !stands_alone(placed.chunk.ranges.as_slice(), 0)
+        && (is_open || is_within_next(added, next))
 }
 
 /// Whether there is an added range, and it begins by the end of the next chunk or there is none.
