@@ -167,7 +167,18 @@ fn span_and_points(alloc: Global, len: u32, is_first: bool) -> Result<RangeSet<N
     Ok(RangeSet::of(ranges)?)
 }
 
-/// How many ranges such a set has that is mapped over an insertion at 200: `None` where it can't be mapped.
+/// How many ranges a mapped set has: `None` where it can't be mapped.
+fn mapped_len(set: &RangeSet<Numbered>, changes: &Desc) -> Option<usize> {
+    if !set.ends_within(changes.len()) {
+        return None;
+    }
+    match mapped_twice::<Brand>(set, changes, Blank::new(1)) {
+        Ok((counted, _)) => Some(counted.len()),
+        Err(_) => None,
+    }
+}
+
+/// The same of such a set and an insertion at 200.
 fn mapped_beside_span(alloc: Global, len: u32, is_first: bool) -> Result<Option<usize>, Fail> {
     let set = span_and_points(alloc, len, is_first)?;
     let sections = [
@@ -176,13 +187,7 @@ fn mapped_beside_span(alloc: Global, len: u32, is_first: bool) -> Result<Option<
         Section::Keep(800),
     ];
     let changes = described(alloc, &sections)?;
-    if !set.ends_within(changes.len()) {
-        return Ok(None);
-    }
-    match mapped_twice::<Brand>(&set, &changes, Blank::new(1)) {
-        Ok((counted, _)) => Ok(Some(counted.len())),
-        Err(_) => Ok(None),
-    }
+    Ok(mapped_len(&set, &changes))
 }
 
 #[test]
