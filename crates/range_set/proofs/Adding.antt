@@ -16,7 +16,7 @@ use Rattle.range_set.specs.declared.group.PlacedGroup.{PlacedGroup}
 use Rattle.range_set.proofs.Chunks.{ascend-prefix, ascend-rest, begin_by-next}
 use Rattle.range_set.proofs.Groups.{are_spread, flat-spread, flat_forward, spread_take}
 use Rattle.range_set.proofs.RangeOrder.{forward-append, forward-no_fault, no_fault_from, rises-no_fault}
-use Rattle.range_set.proofs.Sharing.{HaveParts}
+use Rattle.range_set.proofs.Parts.{HaveParts}
 use Rattle.range_set.proofs.Under.{any_both, rises_across, rises_ascend, rises_left, rises_right}
 use Rattle.range_set.proofs.Updates.{BeforeEach, Below, EachBefore, below_append, none_after, sort-swapped}
 

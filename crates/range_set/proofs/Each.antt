@@ -38,6 +38,27 @@ module _ {T : Type 0} where
   pub ascend_first : (n start : ℕ) (items : List (Ranged T)) (i : ℕ) (r : Ranged T) → i < length items → r ≡ get_or items i r → Ascend n (map (shift start) (drop i items) ++ []) → n ≤ r.from + start
   ascend_first n start items i r l is h = (subst (λ (ds : List (Ranged T)). Ascend n (map (shift start) ds ++ [])) (drop_at items i r l is) h).0
 
+  -- the first of some ranges begins at a place or before
+  abbrev pub FirstBy : ℕ → List (Ranged T) → Type 0
+  FirstBy a [] = ⊥
+  FirstBy a (r ∷ rs) = r.from ≤ a
+
+  pub first_from : (start a : ℕ) (items : List (Ranged T)) → FirstBy a (map (shift start) items) → start ≤ a
+  first_from start a [] h = absurd h
+  first_from start a (r ∷ items) h = omega (arith, h)
+
+  pub first_at : (start a : ℕ) (items : List (Ranged T)) (i : ℕ) (r : Ranged T) → i < length items → r ≡ get_or items i r → r.from + start ≤ a → FirstBy a (map (shift start) (drop i items))
+  first_at start a items i r l is h = subst (λ (ds : List (Ranged T)). FirstBy a (map (shift start) ds)) (sym (drop_at items i r l is)) h
+
+  -- what comes after a range begins no earlier than it
+  pub first_after : (n start a : ℕ) (items : List (Ranged T)) (i : ℕ) (r : Ranged T) → i < length items → r ≡ get_or items i r → Ascend n (map (shift start) (drop i items) ++ []) → FirstBy a (map (shift start) (drop (i + 1) items))
+      → r.from + start ≤ a
+  first_after n start a items i r l is h f = at (map (shift start) (drop (i + 1) items)) (ascend_more n start items [] i r l is h) f
+    where
+      at : (rs : List (Ranged T)) → Ascend (r.from + start) (rs ++ []) → FirstBy a rs → r.from + start ≤ a
+      at [] k f = absurd f
+      at (q ∷ rs) k f = omega (arith, k.0, f)
+
   -- each range lies in a text of this length
   abbrev pub Within : ℕ → List (Ranged T) → Type 0
   Within len [] = Unit {0}

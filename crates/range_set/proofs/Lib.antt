@@ -10,7 +10,8 @@ pub mod UpdateLoops
 pub mod ClearChunks
 pub mod Cost
 pub mod Walked
-pub mod Sharing
+pub mod Parts
+pub mod WalkedGroups
 pub mod Sets
 pub mod Same
 pub mod Adding

@@ -4,7 +4,6 @@ use Rattle.std.proofs.lemmas.List.{take_more}
 use Rattle.std.proofs.lemmas.List.Elements.{filter-append}
 use Rattle.std.specs.List.{filter, cons_option}
 use Rattle.std.specs.Prelude.{nat_lt, ◌==◌, int_lt, int_le, pos, filter_map, option_map, option_and_then}
-use Rattle.std.proofs.lemmas.Bool.Decides.{nat_tests}
 use Rattle.stable_order.specs.StableSort.{insert_by, stable_sort}
 use Rattle.stable_order.proofs.StableSort.{NoneBelow, NoneBelow-chain, Rises, Rises-stable_sort}
 use Rattle.change_desc.specs.declared.map_mode.MapMode.{MapMode}
@@ -24,9 +23,6 @@ AreForward (Some e) = nat_lt e.1 e.0 ≡ false
 forward_unless : (b : Bool) (p q : ℕ) → (b ≡ false → nat_lt q p ≡ false) → AreForward (cond b None (Some (p, q)))
 forward_unless true p q h = tt
 forward_unless false p q h = h refl
-
-same_forward : (p : ℕ) → nat_lt p p ≡ false
-same_forward p = grind (arith, nat_tests)
 
 or_first : (a b : Bool) → (a || b) ≡ false → a ≡ false
 or_first false b e = refl

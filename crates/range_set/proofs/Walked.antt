@@ -1,5 +1,5 @@
 -- One chunk after another, as they are mapped.
-use Rattle.std.proofs.Common.{◌≡◌, ℕ, zero, suc, ◌+◌, ◌<◌, ◌≤◌, Bool, true, false, ◌||◌, cond, List, [], ◌∷◌, ◌++◌, length, get_or, drop, map, filter_map, Some, refl, sym, ap, subst, ◌∙◌, arith}
+use Rattle.std.proofs.Common.{◌≡◌, ℕ, ◌+◌, ◌-◌, ◌<◌, ◌≤◌, Bool, true, false, ◌||◌, List, [], ◌∷◌, ◌++◌, length, map, filter_map, Some, refl, sym, ap, subst, ◌∙◌, arith}
 use Rattle.std.specs.List.{list_any}
 use Rattle.std.specs.Prelude.{IfSome}
 use Rattle.change_desc.specs.Sections.{counted, new_size, old_size}
@@ -16,10 +16,10 @@ use Rattle.range_set.specs.Mapping.{is_turned, moved}
 use Rattle.range_set.specs.PrivateChunks.{AreChunks, Ascend, BeginBy, first_start, flat, greatest_end, shift}
 use Rattle.range_set.specs.declared.ranged.Ranged.{Ranged}
 use Rattle.range_set.specs.declared.chunk.Placed.{Placed}
-use Rattle.range_set.proofs.Chunks.{ascend-less, ascend-rest, begin_by-next, end_by_greatest, length_shifted, rest_at}
+use Rattle.range_set.proofs.Chunks.{ascend-less, ascend-rest, begin_by-next, end_by_greatest, is_not_less, length_shifted, turned-shifted}
 use Rattle.range_set.proofs.Clear.{IsClear, Sections, clear_apart, clear_place, map_pos-clear, none-narrow}
 use Rattle.range_set.proofs.ClearChunks.{clear_each, clear_shifts}
-use Rattle.range_set.proofs.Cost.{allowance, chunk_affected}
+use Rattle.range_set.proofs.Cost.{chunk_affected}
 use Rattle.range_set.proofs.Each.{Within}
 use Rattle.range_set.proofs.Under.{ClearEach, IsUnder, StartIn, at_clear, rises_ascend, under_clear, under_each, under_init, under_order}
 
@@ -70,10 +70,6 @@ module _ {T : Type 0} (rules : RangeRules T) (d : Sections) where
       at (r ∷ rs) some f asc =
           let b = begin_by-next n (map (shift p.start) p.chunk.value.ranges.items) (shift q.start r) (map (shift q.start) rs ++ flat ps) asc in
           let k = begins_at (r.from + q.start) p.start p.chunk.value.ranges.items h.0.1 h.0.0.first b in omega (arith, k, f, s)
-
-  within_start : (len start : ℕ) (rs ys : List (Ranged T)) → 1 ≤ length rs → first_start rs ≡ 0 → Within len (map (shift start) rs ++ ys) → start ≤ len
-  within_start len start [] ys some f h = absurd (omega arith)
-  within_start len start (r ∷ rs) ys some f h = omega (arith, h.0.0, f)
 
   -- Chunks of which some are mapped: what is done and the run that is to be sorted, how far the walk came, and the replaced ranges
   -- that may still be met.
@@ -199,22 +195,40 @@ module _ {T : Type 0} (rules : RangeRules T) (d : Sections) where
         same = next_same whole p rest done run reached reps after h f;
       }
 
-  pub at_chunk : (whole : List (Ranged T)) (ps : List (Placed T)) (i : ℕ) (p : Placed T) (done run : List (Ranged T)) (reached : ℕ) (reps : List ChangedRange) → i < length ps → p ≡ get_or ps i p
-      → IsWalked whole (drop i ps) done run reached reps → IsWalked whole (p ∷ drop (i + 1) ps) done run reached reps
-  at_chunk whole ps i p done run reached reps l e h = subst (λ (qs : List (Placed T)). IsWalked whole qs done run reached reps) (rest_at ps i p l e) h
-
-  pub at_end : (whole : List (Ranged T)) (ps : List (Placed T)) (i : ℕ) (done run : List (Ranged T)) (reached : ℕ) (reps : List ChangedRange) → length ps ≤ i
-      → IsWalked whole (drop i ps) done run reached reps → IsUnder rules d whole done run []
-  at_end whole ps i done run reached reps l h = subst (λ (qs : List (Placed T)). IsUnder rules d whole done run (flat qs)) (none ps i l) h.under
-    where
-      none : (ps : List (Placed T)) (i : ℕ) → length ps ≤ i → drop i ps ≡ []
-      none [] zero l = refl
-      none [] (suc i) l = refl
-      none (q ∷ ps) zero l = absurd (omega arith)
-      none (q ∷ ps) (suc i) l = none ps i (omega arith)
-
-  pub allowance_at : (ps : List (Placed T)) (i : ℕ) (p : Placed T) (b : Bool) → i < length ps → p ≡ get_or ps i p → chunk_affected rules d p ≡ b → allowance rules d (drop i ps) ≡ cond b 128 0 + allowance rules d (drop (i + 1) ps)
-  allowance_at ps i p b l e a = ap (allowance rules d) (rest_at ps i p l e) ∙ ap (λ x. cond x 128 0 + allowance rules d (drop (i + 1) ps)) a
-
   pub run_forward : (whole done run later : List (Ranged T)) → IsUnder rules d whole done run later → AllForward run
   run_forward whole done run later h = subst AllForward (sym h.run_is) (forward_filtered rules (moved rules d) (forward_moved rules d) h.sources)
+
+  -- what a range gives that no change meets
+  pub record IsClearRange (r : Ranged T) : Type 0 where
+    pub clear : IsClear r.from r.from d
+    pub fits : clear_place d r.from + (r.to - r.from) ≤ new_size counted d
+    pub moves : moved rules d r ≡ (let q : Ranged T = record { from = clear_place d r.from; to = clear_place d r.from + (r.to - r.from); value = r.value } in Some q)
+
+  pub clear_range : (r : Ranged T) → r.from ≤ r.to → r.to ≤ old_size d → is_turned rules r ≡ false → list_any (meets r.from r.to) (replaced d) ≡ false → IsClearRange r
+  clear_range r l n turned none =
+      let len = r.to - r.from in
+      let q : Ranged T = record { from = 0; to = len; value = r.value } in
+      let first : 0 + r.from ≡ r.from = omega arith in
+      let last : len + r.from ≡ r.to = omega (arith, l) in
+      let end : r.from + len ≡ r.to = omega (arith, l) in
+      let place = clear_place d r.from in
+      let same : shift r.from q ≡ r =
+      ap (λ k. let x : Ranged T = record { from = k; to = len + r.from; value = r.value } in x) first ∙ ap (λ k. let x : Ranged T = record { from = r.from; to = k; value = r.value } in x) last in
+      let is_same : is_turned rules q ≡ false = sym (turned-shifted rules r.from q) ∙ (ap (is_turned rules) same ∙ turned) in
+      let hull = clear_hull r.from len (q ∷ []) (omega arith) (is_not_less len 0 (omega arith), tt) (omega arith) (ap (λ b. b || false) is_same)
+      (subst (λ k. IsClear r.from k d) (sym end) none) ((omega (arith, l, n), omega (arith, last, n)), tt) in
+      let image : at_clear rules d (shift r.from q) ≡ shift place q = same_first _ _ [] [] hull.images in
+      let to : place + len ≡ len + place = omega arith in
+      let from : place ≡ 0 + place = omega arith in
+      record {
+        clear = hull.clear;
+        fits = hull.fits;
+        moves = ap (moved rules d) (sym same)
+            ∙ (hull.each.0.2
+            ∙ (ap Some image
+            ∙ (ap (λ k. let x : Ranged T = record { from = k; to = len + place; value = r.value } in Some x) (sym from)
+            ∙ ap (λ k. let x : Ranged T = record { from = place; to = k; value = r.value } in Some x) (sym to))));
+      }
+    where
+      same_first : (x y : Ranged T) (xs ys : List (Ranged T)) → x ∷ xs ≡ y ∷ ys → x ≡ y
+      same_first x y xs ys h = cc

@@ -1,10 +1,9 @@
 -- Groups of chunks as one list of ranges. Private: contracts of sets see that list alone.
-use Rattle.std.specs.Prelude.{◌≡◌, ◌⊎◌, ℕ, ◌+◌, ◌^◌, ◌<◌, ◌≤◌, max, List, Bool, ◌||◌, false, None, [], ◌∷◌, ◌++◌, length, map}
+use Rattle.std.specs.Prelude.{◌≡◌, ◌⊎◌, ℕ, ◌+◌, ◌^◌, ◌<◌, ◌≤◌, max, List, None, [], ◌∷◌, ◌++◌, length, map}
 use Rattle.std.specs.List.{list_any}
-use Rattle.change_desc.specs.Ranges.{meets, replaced}
 use Rattle.range_set.specs.Rules.{RangeRules}
 use Rattle.range_set.specs.Order.{AllForward, first_fault}
-use Rattle.range_set.specs.Mapping.{Changes, is_turned}
+use Rattle.range_set.specs.Mapping.{is_turned}
 use Rattle.range_set.specs.Points.{stands}
 use Rattle.range_set.specs.declared.ranged.Ranged.{Ranged}
 use Rattle.range_set.specs.declared.chunk.Placed.{Placed}
@@ -13,6 +12,7 @@ use Rattle.range_set.specs.declared.chunk_builder.ChunkBuilder.{ChunkBuilder}
 use Rattle.range_set.specs.declared.group.Group.{Group}
 use Rattle.range_set.specs.declared.group.PlacedGroup.{PlacedGroup}
 use Rattle.range_set.specs.declared.group_builder.GroupBuilder.{GroupBuilder}
+use Rattle.range_set.specs.declared.mapped_builder.MappedBuilder.{MappedBuilder}
 
 module _ {T : Type 0} where
   -- the range further on
@@ -64,6 +64,10 @@ module _ {T : Type 0} where
   -- the chunks of a builder of groups
   abbrev pub grouped : GroupBuilder T → List (Placed T)
   grouped b = spread b.done.items ++ map (move b.start) b.growing.chunks.items
+
+  -- the ranges that a builder of mapped ranges has put down: those of its groups, and of the chunks after them
+  abbrev pub put_down : MappedBuilder T → List (Ranged T)
+  put_down b = flat (grouped b.groups) ++ built b.chunks
 
   -- a chunk at a place is the first of those that were left
   pub record IsNextChunk (old : List (Placed T)) (start : ℕ) (chunk : Chunk T) (new : List (Placed T)) : Type 0 where
@@ -137,16 +141,12 @@ module _ {T : Type 0} (rules : RangeRules T) where
     pub growing : IsGroup b.start b.growing
     pub len : b.len ≡ length (flat (grouped b))
 
+  -- what a builder of mapped ranges keeps
+  pub record IsMappedBuilder (b : MappedBuilder T) : Type 0 where
+    pub groups : IsGroupBuilder b.groups
+    pub chunks : IsBuilder b.chunks
+
   -- what a set keeps of its groups and the number of its ranges
   pub record IsRangeSet (gs : List (PlacedGroup T)) (len : ℕ) : Type 0 where
     pub sound : AreGroupsOf gs len
     pub order : first_fault rules (flat (spread gs)) ≡ None
-
--- whether a Replace meets the hull of a group, or an empty range of it has an end side less than its start side
-abbrev pub group_affected : {T : Type 0} → Changes → PlacedGroup T → Bool
-group_affected d g = g.group.value.is_turned || list_any (meets g.start (g.start + g.group.value.reach)) (replaced d)
-
--- groups that no change affects
-abbrev pub AreClear : {T : Type 0} → Changes → List (PlacedGroup T) → Type 0
-AreClear d [] = Unit {0}
-AreClear d (g ∷ gs) = (group_affected d g ≡ false) × AreClear d gs

@@ -1,4 +1,4 @@
-ghost use Rattle.std.specs.Prelude.{IfOk, false, [], ◌++◌, ◌+◌, ◌∷◌, ◌≡◌, ◌≤◌, ◌<◌, ◌^◌, length, map};
+ghost use Rattle.std.specs.Prelude.{IfOk, IsTrue, false, [], ◌++◌, ◌+◌, ◌∷◌, ◌≡◌, ◌≤◌, ◌<◌, ◌^◌, length, map};
 ghost use Rattle.range_set.specs.PrivateChunks.{AreChunks, BeginBy, IsBuilder, IsChunk, built, flat, shift};
 
 use crate::chunk::{Chunk, FEW_RANGES, MAX_RANGES, MAX_SHARED_LEN, Placed, stands_alone};
@@ -27,6 +27,13 @@ impl<T: RangeValue> ChunkBuilder<T> {
             start: 0,
             growing: Chunk::empty(alloc),
         }
+    }
+
+    /// Whether there are no ranges.
+    pub(crate) fn is_empty(&self) -> bool
+        ensures { IsTrue result → built self.now ≡ [] }
+    {
+        self.done.is_empty() && self.growing.ranges.is_empty()
     }
 
     /// Puts a range after the others, the first of `left` that are still to come of a run. `Err`: out of memory.

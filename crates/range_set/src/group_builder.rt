@@ -32,6 +32,19 @@ impl<T: RangeValue> GroupBuilder<T> {
         }
     }
 
+    /// A builder without ranges, which has room for so many groups. `Err`: out of memory.
+    pub(crate) fn with_room(alloc: Global, groups: usize) -> Result<GroupBuilder<T>, AllocError>
+        ensures builder { IfOk result (IsGroupBuilder T.rules) }
+        ensures ranges { IfOk result (λ builder. grouped builder ≡ []) }
+    {
+        Ok(GroupBuilder {
+            done: Vec::with_capacity(alloc, groups)?,
+            start: 0,
+            growing: Group::empty(alloc),
+            len: 0,
+        })
+    }
+
     /// Puts chunks in order after the others. `Err`: out of memory.
     pub(crate) fn put_all(&mut self, chunks: Vec<Placed<T>>) -> Result<(), AllocError>
         requires builder { IsGroupBuilder T.rules self.old }

@@ -14,6 +14,7 @@ mod group;
 mod group_builder;
 mod group_list;
 mod iter;
+mod mapped_builder;
 mod moving;
 mod opening;
 mod points;
@@ -23,6 +24,7 @@ mod range_set;
 mod range_value;
 mod ranged;
 mod run;
+mod sorting;
 mod updating;
 
 pub use between::Between;

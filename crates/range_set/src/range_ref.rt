@@ -1,11 +1,14 @@
-ghost use Rattle.std.specs.Prelude.{◌≡◌, ◌↔◌, ◌≤◌, IfOk, IsTrue};
-ghost use Rattle.change_desc.specs.Sections.{old_size};
-ghost use Rattle.range_set.specs.Mapping.{ends_unless_turned, moved, new_ends, point_ends, span_ends};
+ghost use Rattle.std.specs.Prelude.{◌≡◌, ◌↔◌, ◌≤◌, ◌<◌, ◌^◌, IfOk, IsTrue};
+ghost use Rattle.std.specs.List.{list_any};
+ghost use Rattle.change_desc.specs.Meeting.{BeginAfter, EndsAtOrAfter};
+ghost use Rattle.change_desc.specs.Ranges.{meets, replaced};
+ghost use Rattle.change_desc.specs.Sections.{counted, new_size, old_size};
+ghost use Rattle.range_set.specs.Mapping.{ends_unless_turned, is_turned, moved, new_ends, point_ends, span_ends};
 ghost use Rattle.range_set.specs.Seen.{seen};
 
 use crate::range_value::RangeValue;
 use crate::ranged::Ranged;
-use change_desc::{MapMode, PositionIndex, PositionWalker};
+use change_desc::{ChangedRange, MapMode, PositionIndex, PositionWalker, first_meets};
 use std::alloc::{AllocError, Global};
 
 /// A range of a set, with its value lent. Places are in characters.
@@ -59,6 +62,43 @@ impl<'a, T: RangeValue> RangeRef<'a, T> {
             }
             None => Ok(None),
         }
+    }
+
+    /// What `moved` answers, where the ranges that the changes replace are given from the first on that doesn't end before this one.
+    /// A range that none of them meets is only moved, its end as far as its start. `Err`: out of memory.
+    pub(crate) fn moved_among(
+        &self,
+        alloc: Global,
+        ranges: &[ChangedRange],
+        walker: &mut PositionWalker,
+        index: &PositionIndex,
+    ) -> Result<Option<Ranged<T>>, AllocError>
+        requires index { index.now ≡ walker.old.desc }
+        requires start { self.now.from ≤ old_size walker.old.desc }
+        requires end { self.now.to ≤ old_size walker.old.desc }
+        requires forward { self.now.from ≤ self.now.to }
+        requires ascending { walker.old.reached ≤ self.now.from }
+        requires order { BeginAfter 0 ranges.now }
+        requires first { EndsAtOrAfter self.now.from ranges.now }
+        requires same { list_any (meets self.now.from self.now.to) ranges.now ≡ list_any (meets self.now.from self.now.to) (replaced walker.old.desc) }
+        requires room { new_size counted walker.old.desc < 2 ^ 32 }
+        ensures value { IfOk result (λ range. range ≡ moved T.rules walker.old.desc (seen self.now)) }
+        ensures walk { walker.new ≡ record { desc = walker.old.desc; reached = self.now.from } }
+    {
+        if self.is_turned() || first_meets(ranges, self.from, self.to) {
+            return self.moved(alloc, walker, index);
+        }
+        let from = walker.place_after(self.from, -1);
+        let to = from + (self.to - self.from);
+        let value = self.value.try_copy(alloc)?;
+        Ok(Some(Ranged { from, to, value }))
+    }
+
+    /// Whether it is empty with an end side less than its start side.
+    fn is_turned(&self) -> bool
+        ensures { result ≡ is_turned T.rules (seen self.now) }
+    {
+        self.from == self.to && self.value.end_side() < self.value.start_side()
     }
 
     /// Where the changes of a walk move its ends, unless they drop it.

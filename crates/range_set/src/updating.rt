@@ -9,11 +9,11 @@ use crate::chunk_builder::ChunkBuilder;
 use crate::group::{PlacedGroup, in_three};
 use crate::group_builder::GroupBuilder;
 use crate::group_list::GroupList;
-use crate::moving::put_sorted;
 use crate::opening::opened;
 use crate::range_ref::RangeRef;
 use crate::range_value::RangeValue;
 use crate::ranged::Ranged;
+use crate::sorting::put_sorted;
 use std::alloc::{AllocError, Global};
 use std::collections::VecDeque;
 
@@ -37,7 +37,7 @@ pub(crate) fn added_groups<T: RangeValue>(
     let (before, middle, after) = parted_around(groups, add.as_slice());
     let chunks = opened(alloc, middle)?;
     let chunks = with_all(alloc, chunks.as_slice(), add)?;
-    let mut builder = GroupBuilder::new(alloc);
+    let mut builder = GroupBuilder::with_room(alloc, groups.len())?;
     builder.share_all(before)?;
     builder.put_all(chunks)?;
     builder.share_all(after)?;

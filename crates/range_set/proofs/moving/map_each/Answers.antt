@@ -1,13 +1,15 @@
 use Rattle.std.proofs.Common.{◌≡◌, ◌+◌, ◌<◌, List, [], ◌++◌, length, get_or, drop, map, ap, subst, sym, ◌∙◌, arith}
 use Rattle.std.proofs.lemmas.List.{append-nil}
-use Rattle.std.specs.List.{cons_option}
+use Rattle.std.specs.List.{cons_option, list_any}
+use Rattle.change_desc.specs.Ranges.{meets, replaced}
 use Rattle.change_desc.specs.Walker.{Walk}
 use Rattle.range_set.specs.declared.chunk.Chunk.{Chunk}
 use Rattle.range_set.specs.declared.ranged.Ranged.{Ranged}
 use Rattle.range_set.specs.Mapping.{moved}
 use Rattle.range_set.specs.PrivateChunks.{Ascend, shift}
-use Rattle.range_set.proofs.Each.{ascend_first, ascend_more, each_more, forward_item, item_fits, within, within_at}
-use Rattle.change_desc.specs.Sections.{old_size}
+use Rattle.range_set.proofs.Clear.{Sections}
+use Rattle.range_set.proofs.Each.{ascend_first, ascend_more, each_more, first_after, first_at, forward_item, item_fits, within, within_at}
+use Rattle.change_desc.specs.Sections.{counted, new_size, old_size}
 use Rattle.range_set.proofs.moving.map_each.Goals as goal
 use Rattle.range_set.proofs.moving.map_each.Goals.{in-Some+in_ok-push-in-Some, in-None}
 
@@ -15,43 +17,49 @@ pub overflow_add-range : goal.overflow_add-range
 overflow_add-range g c =
     let r = c.range-item.result in
     let i = c.loop-range.range-index in
-    let start = c.args.placed.now.start in
-    let items = c.args.placed.now.chunk.value.ranges.items in
+    let start = c.args.start in
+    let items = c.args.chunk.now.value.ranges.items in
     let same = c.deref-range-items.ensures.value ∙ ap (λ (ch : Chunk g.row.T.Denot). ch.ranges.items) c.deref-2.ensures in
     let l : i < length items = subst (λ (xs : List (Ranged g.row.T.Denot)). i < length xs) same c.loop-range-test.true in
     let is : r ≡ get_or items i r = subst (λ (xs : List (Ranged g.row.T.Denot)). r ≡ get_or xs i r) same c.range-item.is in
-    let fits = item_fits g.T.RangeValue.rules start c.args.placed.now.chunk.value i r c.requires.chunk l is in
+    let fits = item_fits g.T.RangeValue.rules start c.args.chunk.now.value i r c.requires.chunk l is in
     omega (arith, fits.0)
 
 pub overflow_add-range-in-loop-range : goal.overflow_add-range-in-loop-range
 overflow_add-range-in-loop-range g c =
     let r = c.range-item.result in
     let i = c.loop-range.range-index in
-    let start = c.args.placed.now.start in
-    let items = c.args.placed.now.chunk.value.ranges.items in
+    let start = c.args.start in
+    let items = c.args.chunk.now.value.ranges.items in
     let same = c.deref-range-items.ensures.value ∙ ap (λ (ch : Chunk g.row.T.Denot). ch.ranges.items) c.deref-2.ensures in
     let l : i < length items = subst (λ (xs : List (Ranged g.row.T.Denot)). i < length xs) same c.loop-range-test.true in
     let is : r ≡ get_or items i r = subst (λ (xs : List (Ranged g.row.T.Denot)). r ≡ get_or xs i r) same c.range-item.is in
-    let fits = item_fits g.T.RangeValue.rules start c.args.placed.now.chunk.value i r c.requires.chunk l is in
+    let fits = item_fits g.T.RangeValue.rules start c.args.chunk.now.value i r c.requires.chunk l is in
     omega (arith, fits.1)
 
-pub moved-requires : goal.moved-requires
-moved-requires g c =
+pub moved_among-requires : goal.moved_among-requires
+moved_among-requires g c =
     let r = c.range-item.result in
     let i = c.loop-range.range-index in
-    let start = c.args.placed.now.start in
-    let items = c.args.placed.now.chunk.value.ranges.items in
+    let start = c.args.start in
+    let items = c.args.chunk.now.value.ranges.items in
     let same = c.deref-range-items.ensures.value ∙ ap (λ (ch : Chunk g.row.T.Denot). ch.ranges.items) c.deref-2.ensures in
     let l : i < length items = subst (λ (xs : List (Ranged g.row.T.Denot)). i < length xs) same c.loop-range-test.true in
     let is : r ≡ get_or items i r = subst (λ (xs : List (Ranged g.row.T.Denot)). r ≡ get_or xs i r) same c.range-item.is in
     let size = ap old_size c.loop-range.invariant.desc in
     let inside = within_at (old_size c.args.walker.now.desc) start items i r l is (within _ _ c.requires.inside) in
     let forward = forward_item items i r l is c.requires.chunk.forward in
+    let from = r.from + start in
+    let to = r.to + start in
     record {
       index = c.requires.index ∙ sym c.loop-range.invariant.desc;
       start = omega (arith, size, inside.0);
       end = omega (arith, size, inside.1);
       forward = omega (arith, forward);
+      order = c.ranges_from-left.ensures.order;
+      first = c.ranges_from-left.ensures.first;
+      same = c.ranges_from-left.ensures.same from to (omega arith) ∙ (c.loop-range.invariant.same from to (first_at start from items i r l is (omega arith)) ∙ ap (λ (d : Sections). list_any (meets from to) (replaced d)) (sym c.loop-range.invariant.desc));
+      room = let more = ap (new_size counted) c.loop-range.invariant.desc in let room = c.requires.room in omega (arith, more, room);
       ascending = ascend_first _ start items i r l is (c.loop-range.invariant.walk [] (subst (Ascend c.args.walker.now.reached) (sym (append-nil (map (shift start) items))) c.requires.ascending));
     }
 
@@ -60,8 +68,8 @@ loop-range-preserved g c =
     let rules = g.T.RangeValue.rules in
     let r = c.range-item.result in
     let i = c.loop-range.range-index in
-    let start = c.args.placed.now.start in
-    let items = c.args.placed.now.chunk.value.ranges.items in
+    let start = c.args.start in
+    let items = c.args.chunk.now.value.ranges.items in
     let before = c.loop-range.invariant in
     let same = c.deref-range-items.ensures.value ∙ ap (λ (ch : Chunk g.row.T.Denot). ch.ranges.items) c.deref-2.ensures in
     let l : i < length items = subst (λ (xs : List (Ranged g.row.T.Denot)). i < length xs) same c.loop-range-test.true in
@@ -74,8 +82,12 @@ loop-range-preserved g c =
     ] in
     record {
       run = each_more f start items c.args.run.now.items c.loop-range.run.items c.match-branch-3.run.items i r c.in_ok-moved.field-0 l is o before.run more;
-      desc = ap (λ (w : Walk). w.desc) c.moved.ensures.walk ∙ before.desc;
-      walk = λ later h. subst (λ (w : Walk). Ascend w.reached (map (shift start) (drop (i + 1) items) ++ later)) (sym c.moved.ensures.walk)
+      desc = ap (λ (w : Walk). w.desc) c.moved_among.ensures.walk ∙ before.desc;
+      walk = λ later h. subst (λ (w : Walk). Ascend w.reached (map (shift start) (drop (i + 1) items) ++ later)) (sym c.moved_among.ensures.walk)
           (ascend_more _ start items later i r l is (before.walk later h));
+      begin = c.ranges_from-left.ensures.order;
+      same = λ a b h.
+          let from = first_after _ start a items i r l is (before.walk [] (subst (Ascend c.args.walker.now.reached) (sym (append-nil (map (shift start) items))) c.requires.ascending)) h in
+          c.ranges_from-left.ensures.same a b from ∙ before.same a b (first_at start a items i r l is from);
       cost = let t = c.tick.ensures in let k = before.cost in omega (arith, t, k);
     }

@@ -10,7 +10,7 @@ use Rattle.range_set.specs.declared.ranged.Ranged.{Ranged}
 use Rattle.range_set.proofs.Adding.{add_parts}
 use Rattle.range_set.proofs.Chunks.{flat-append}
 use Rattle.range_set.proofs.RangeOrder.{rises-no_fault}
-use Rattle.range_set.proofs.Sharing.{have_parts}
+use Rattle.range_set.proofs.Parts.{have_parts}
 use Rattle.range_set.proofs.Under.{rises_ascend}
 use Rattle.range_set.proofs.updating.added_groups.Goals as goal
 
@@ -65,7 +65,7 @@ share_all-requires-clause-room g c =
     let y = c.parted_around.result.1.now in
     let z = c.parted_around.result.2.now in
     let parts = have_parts rules gs x y z c.parted_around.ensures.parts c.requires.groups c.requires.order in
-    let none = ap (λ ps. length (flat ps)) c.new-builder.ensures.ranges in
+    let none = ap (λ ps. length (flat ps)) c.in_ok-builder.ensures.ranges in
     let k = parts.room in
     let l = c.requires.room in
     omega (arith, none, k, l)
@@ -85,8 +85,8 @@ put_all-requires-clause-room g c =
     let added = add_parts rules gs x y z add parts c.requires.added (ap (first_fault rules) (sym made) ∙ c.in_ok-chunks-2.ensures.order)
     (subst (λ (xs : List (Ranged g.row.T.Denot)). BeginUnder (first_start xs) (flat (spread x))) slice c.parted_around.ensures.before)
     (subst (λ (xs : List (Ranged g.row.T.Denot)). BeginPast (last_start xs) (flat (spread z))) slice c.parted_around.ensures.after) in
-    let none = ap (λ ps. length (flat ps)) c.new-builder.ensures.ranges in
-    let n = ap (λ ps. length (flat ps)) c.in_ok-share_all.ensures.ranges ∙ (ap length (flat-append (grouped c.new-builder.result) (spread x)) ∙ length-append (flat (grouped c.new-builder.result)) (flat (spread x))) in
+    let none = ap (λ ps. length (flat ps)) c.in_ok-builder.ensures.ranges in
+    let n = ap (λ ps. length (flat ps)) c.in_ok-share_all.ensures.ranges ∙ (ap length (flat-append (grouped c.in_ok-builder.builder) (spread x)) ∙ length-append (flat (grouped c.in_ok-builder.builder)) (flat (spread x))) in
     let m = ap length made ∙ added.count in
     let k = parts.room in
     let l = c.requires.room in
@@ -107,7 +107,7 @@ put_all-requires-clause-order g c =
     let added = add_parts rules gs x y z add parts c.requires.added (ap (first_fault rules) (sym made) ∙ c.in_ok-chunks-2.ensures.order)
     (subst (λ (xs : List (Ranged g.row.T.Denot)). BeginUnder (first_start xs) (flat (spread x))) slice c.parted_around.ensures.before)
     (subst (λ (xs : List (Ranged g.row.T.Denot)). BeginPast (last_start xs) (flat (spread z))) slice c.parted_around.ensures.after) in
-    let first = c.in_ok-share_all.ensures.ranges ∙ ap (λ ps. ps ++ spread x) c.new-builder.ensures.ranges in
+    let first = c.in_ok-share_all.ensures.ranges ∙ ap (λ ps. ps ++ spread x) c.in_ok-builder.ensures.ranges in
     subst (Ascend 0) (sym (ap (λ ps. flat (ps ++ c.in_ok-chunks-2.chunks.items)) first ∙ (flat-append (spread x) c.in_ok-chunks-2.chunks.items ∙ ap (λ rs. flat (spread x) ++ rs) made))) added.order
 
 pub share_all-requires-2-clause-groups : goal.share_all-requires-2-clause-groups
@@ -136,8 +136,8 @@ share_all-requires-2-clause-room g c =
     let added = add_parts rules gs x y z add parts c.requires.added (ap (first_fault rules) (sym made) ∙ c.in_ok-chunks-2.ensures.order)
     (subst (λ (xs : List (Ranged g.row.T.Denot)). BeginUnder (first_start xs) (flat (spread x))) slice c.parted_around.ensures.before)
     (subst (λ (xs : List (Ranged g.row.T.Denot)). BeginPast (last_start xs) (flat (spread z))) slice c.parted_around.ensures.after) in
-    let none = ap (λ ps. length (flat ps)) c.new-builder.ensures.ranges in
-    let n = ap (λ ps. length (flat ps)) c.in_ok-share_all.ensures.ranges ∙ (ap length (flat-append (grouped c.new-builder.result) (spread x)) ∙ length-append (flat (grouped c.new-builder.result)) (flat (spread x))) in
+    let none = ap (λ ps. length (flat ps)) c.in_ok-builder.ensures.ranges in
+    let n = ap (λ ps. length (flat ps)) c.in_ok-share_all.ensures.ranges ∙ (ap length (flat-append (grouped c.in_ok-builder.builder) (spread x)) ∙ length-append (flat (grouped c.in_ok-builder.builder)) (flat (spread x))) in
     let m = ap length made ∙ added.count in
     let k = parts.room in
     let l = c.requires.room in
@@ -159,7 +159,7 @@ returns-clause-order g c =
     let added = add_parts rules gs x y z add parts c.requires.added (ap (first_fault rules) (sym made) ∙ c.in_ok-chunks-2.ensures.order)
     (subst (λ (xs : List (Ranged g.row.T.Denot)). BeginUnder (first_start xs) (flat (spread x))) slice c.parted_around.ensures.before)
     (subst (λ (xs : List (Ranged g.row.T.Denot)). BeginPast (last_start xs) (flat (spread z))) slice c.parted_around.ensures.after) in
-    let first = c.in_ok-share_all.ensures.ranges ∙ ap (λ ps. ps ++ spread x) c.new-builder.ensures.ranges in
+    let first = c.in_ok-share_all.ensures.ranges ∙ ap (λ ps. ps ++ spread x) c.in_ok-builder.ensures.ranges in
     let all = ap flat (c.in_ok-share_all-2.ensures.ranges ∙ ap (λ ps. ps ++ spread z) (c.in_ok-put_all.ensures.ranges ∙ ap (λ ps. ps ++ c.in_ok-chunks-2.chunks.items) first))
     ∙ (flat-append (spread x ++ c.in_ok-chunks-2.chunks.items) (spread z)
     ∙ (ap (λ rs. rs ++ flat (spread z)) (flat-append (spread x) c.in_ok-chunks-2.chunks.items)
@@ -182,7 +182,7 @@ returns-clause-ranges g c =
     let added = add_parts rules gs x y z add parts c.requires.added (ap (first_fault rules) (sym made) ∙ c.in_ok-chunks-2.ensures.order)
     (subst (λ (xs : List (Ranged g.row.T.Denot)). BeginUnder (first_start xs) (flat (spread x))) slice c.parted_around.ensures.before)
     (subst (λ (xs : List (Ranged g.row.T.Denot)). BeginPast (last_start xs) (flat (spread z))) slice c.parted_around.ensures.after) in
-    let first = c.in_ok-share_all.ensures.ranges ∙ ap (λ ps. ps ++ spread x) c.new-builder.ensures.ranges in
+    let first = c.in_ok-share_all.ensures.ranges ∙ ap (λ ps. ps ++ spread x) c.in_ok-builder.ensures.ranges in
     let all = ap flat (c.in_ok-share_all-2.ensures.ranges ∙ ap (λ ps. ps ++ spread z) (c.in_ok-put_all.ensures.ranges ∙ ap (λ ps. ps ++ c.in_ok-chunks-2.chunks.items) first))
     ∙ (flat-append (spread x ++ c.in_ok-chunks-2.chunks.items) (spread z)
     ∙ (ap (λ rs. rs ++ flat (spread z)) (flat-append (spread x) c.in_ok-chunks-2.chunks.items)

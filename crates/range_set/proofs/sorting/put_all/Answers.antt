@@ -3,7 +3,7 @@ use Rattle.std.proofs.lemmas.List.{append-nil}
 use Rattle.range_set.specs.Order.{AllForward}
 use Rattle.range_set.specs.PrivateChunks.{Ascend, built}
 use Rattle.range_set.proofs.Chunks.{begin_by-next, not_less}
-use Rattle.range_set.proofs.moving.put_all.Goals as goal
+use Rattle.range_set.proofs.sorting.put_all.Goals as goal
 
 pub push-requires : goal.push-requires
 push-requires g c =

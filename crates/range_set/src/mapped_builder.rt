@@ -1,0 +1,111 @@
+ghost use Rattle.std.specs.Prelude.{IfOk, [], ◌++◌, ◌+◌, ◌≡◌, ◌≤◌, ◌<◌, ◌^◌, length, map};
+ghost use Rattle.range_set.specs.Order.{AllForward, before};
+ghost use Rattle.range_set.specs.PrivateChunks.{AreGroupsOf, Ascend, IsChunk, IsGroup, IsMappedBuilder, built, flat, grouped, put_down, shift, spread};
+ghost use Rattle.stable_order.specs.StableSort.{stable_sort};
+
+use crate::chunk::Chunk;
+use crate::chunk_builder::ChunkBuilder;
+use crate::group::{Group, MAX_CHUNKS};
+use crate::group_builder::GroupBuilder;
+use crate::group_list::GroupList;
+use crate::range_value::RangeValue;
+use crate::ranged::Ranged;
+use crate::sorting::put_sorted;
+use std::alloc::{AllocError, Global};
+use std::mem;
+use std::rc::Rc;
+
+/// Cuts ranges that changes moved into groups: groups that are done, chunks of the one that comes after them, and a run of ranges
+/// that is still to be sorted.
+#[derive(Drop)]
+pub(crate) struct MappedBuilder<T> {
+    pub(crate) groups: GroupBuilder<T>,
+    pub(crate) chunks: ChunkBuilder<T>,
+    pub(crate) run: Vec<Ranged<T>>,
+}
+
+impl<T: RangeValue> MappedBuilder<T> {
+    /// A builder without ranges, which has room for so many groups and one more. `Err`: out of memory.
+    pub(crate) fn with_room(alloc: Global, groups: usize) -> Result<MappedBuilder<T>, AllocError>
+        ensures builder { IfOk result (IsMappedBuilder T.rules) }
+        ensures ranges { IfOk result (λ builder. put_down builder ≡ []) }
+        ensures none { IfOk result (λ builder. builder.run.items ≡ []) }
+    {
+        Ok(MappedBuilder {
+            groups: GroupBuilder::with_room(alloc, groups.saturating_add(1))?,
+            chunks: ChunkBuilder::new(alloc),
+            run: Vec::new(alloc),
+        })
+    }
+
+    /// Whether chunks stand after the groups that are done, and a group has room for more. No contract speaks of this: it only
+    /// decides which groups are shared.
+    pub(crate) fn is_open(&self) -> bool {
+        let len = self.chunks.done.len();
+        0 < len && len < MAX_CHUNKS
+    }
+
+    /// Sorts the run and puts a chunk after it, at a place of its own, and shares it. `Err`: out of memory.
+    pub(crate) fn share_chunk(&mut self, start: u32, chunk: &Rc<Chunk<T>>) -> Result<(), AllocError>
+        requires builder { IsMappedBuilder T.rules self.old }
+        requires order { Ascend 0 (put_down self.old ++ stable_sort (before T.rules) self.old.run.items) }
+        requires forward { AllForward self.old.run.items }
+        requires chunk { IsChunk T.rules start chunk.now.value }
+        requires some { 1 ≤ length chunk.now.value.ranges.items }
+        ensures builder { IfOk result (λ _. IsMappedBuilder T.rules self.new) }
+        ensures ranges { IfOk result (λ _. put_down self.new ≡ put_down self.old ++ stable_sort (before T.rules) self.old.run.items ++ map (shift start) chunk.now.value.ranges.items) }
+        ensures none { IfOk result (λ _. self.new.run.items ≡ []) }
+    {
+        put_sorted(&mut self.run, &mut self.chunks)?;
+        self.chunks.share(start, chunk)
+    }
+
+    /// Sorts the run and puts a group after it, at a place of its own, and shares it. `Err`: out of memory.
+    pub(crate) fn share_group(&mut self, start: u32, group: &Rc<Group<T>>) -> Result<(), AllocError>
+        requires builder { IsMappedBuilder T.rules self.old }
+        requires order { Ascend 0 (put_down self.old ++ stable_sort (before T.rules) self.old.run.items) }
+        requires forward { AllForward self.old.run.items }
+        requires group { IsGroup T.rules start group.now.value }
+        requires some { 1 ≤ length (flat group.now.value.chunks.items) }
+        requires room { length (put_down self.old) + length self.old.run.items + length (flat group.now.value.chunks.items) < 2 ^ 64 }
+        ensures builder { IfOk result (λ _. IsMappedBuilder T.rules self.new) }
+        ensures ranges { IfOk result (λ _. put_down self.new ≡ put_down self.old ++ stable_sort (before T.rules) self.old.run.items ++ map (shift start) (flat group.now.value.chunks.items)) }
+        ensures none { IfOk result (λ _. self.new.run.items ≡ []) }
+    {
+        put_sorted(&mut self.run, &mut self.chunks)?;
+        self.end_group()?;
+        self.groups.share(start, group)
+    }
+
+    /// Puts the chunks after the groups that are done into a group of their own. `Err`: out of memory.
+    fn end_group(&mut self) -> Result<(), AllocError>
+        requires builder { IsMappedBuilder T.rules self.old }
+        requires order { Ascend 0 (put_down self.old) }
+        requires room { length (put_down self.old) < 2 ^ 64 }
+        ensures builder { IfOk result (λ _. IsMappedBuilder T.rules self.new) }
+        ensures ranges { IfOk result (λ _. flat (grouped self.new.groups) ≡ put_down self.old) }
+        ensures none { IfOk result (λ _. built self.new.chunks ≡ []) }
+        ensures run { IfOk result (λ _. self.new.run ≡ self.old.run) }
+    {
+        if self.chunks.is_empty() {
+            return Ok(());
+        }
+        let alloc = *self.run.allocator();
+        let chunks = mem::replace(&mut self.chunks, ChunkBuilder::new(alloc));
+        self.groups.put_all(chunks.finish()?)
+    }
+
+    /// The groups of all ranges, and how many ranges there are. `Err`: out of memory.
+    pub(crate) fn finish(mut self) -> Result<(GroupList<T>, usize), AllocError>
+        requires builder { IsMappedBuilder T.rules self }
+        requires order { Ascend 0 (put_down self ++ stable_sort (before T.rules) self.run.items) }
+        requires forward { AllForward self.run.items }
+        requires room { length (put_down self) + length self.run.items < 2 ^ 64 }
+        ensures groups { IfOk result (λ made. AreGroupsOf T.rules made.0 made.1) }
+        ensures ranges { IfOk result (λ made. flat (spread made.0) ≡ put_down self ++ stable_sort (before T.rules) self.run.items) }
+    {
+        put_sorted(&mut self.run, &mut self.chunks)?;
+        self.end_group()?;
+        self.groups.finish()
+    }
+}

@@ -1,0 +1,51 @@
+ghost use Rattle.std.specs.Prelude.{IfOk, [], ◌++◌, ◌≡◌};
+ghost use Rattle.range_set.specs.Order.{AllForward, before};
+ghost use Rattle.range_set.specs.PrivateChunks.{Ascend, IsBuilder, built};
+ghost use Rattle.stable_order.specs.StableSort.{stable_sort};
+
+use crate::chunk_builder::ChunkBuilder;
+use crate::range_value::RangeValue;
+use crate::ranged::Ranged;
+use stable_order::sort_stably;
+use std::alloc::AllocError;
+use std::mem;
+
+/// Sorts a run of mapped ranges and puts them after those of a builder; none is left. `Err`: out of memory.
+pub(crate) fn put_sorted<T: RangeValue>(
+    run: &mut Vec<Ranged<T>>,
+    builder: &mut ChunkBuilder<T>,
+) -> Result<(), AllocError>
+    requires builder { IsBuilder T.rules builder.old }
+    requires order { Ascend 0 (built builder.old ++ stable_sort (before T.rules) run.old.items) }
+    requires forward { AllForward run.old.items }
+    ensures builder { IfOk result (λ _. IsBuilder T.rules builder.new) }
+    ensures ranges { IfOk result (λ _. built builder.new ≡ built builder.old ++ stable_sort (before T.rules) run.old.items) }
+    ensures none { IfOk result (λ _. run.new.items ≡ []) }
+{
+    if run.is_empty() {
+        return Ok(());
+    }
+    let alloc = *run.allocator();
+    let mut ranges = mem::replace(run, Vec::new(alloc));
+    sort_stably(&mut ranges)?;
+    put_all(ranges, builder)
+}
+
+/// Puts a run of ranges in order after those of a builder. `Err`: out of memory.
+pub(crate) fn put_all<T: RangeValue>(
+    ranges: Vec<Ranged<T>>,
+    builder: &mut ChunkBuilder<T>,
+) -> Result<(), AllocError>
+    requires builder { IsBuilder T.rules builder.old }
+    requires order { Ascend 0 (built builder.old ++ ranges.items) }
+    requires forward { AllForward ranges.items }
+    ensures builder { IfOk result (λ _. IsBuilder T.rules builder.new) }
+    ensures ranges { IfOk result (λ _. built builder.new ≡ built builder.old ++ ranges.items) }
+{
+    let mut left = ranges.len();
+    for range in ranges {
+        builder.push(range, left)?;
+        left -= 1;
+    }
+    Ok(())
+}
