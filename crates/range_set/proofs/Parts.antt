@@ -1,21 +1,14 @@
 -- Groups in three parts that stand one after another.
-use Rattle.std.proofs.Common.{◌≡◌, ℕ, ◌+◌, List, [], ◌∷◌, ◌++◌, length, None, ap, subst, ◌∙◌, arith}
+use Rattle.std.proofs.Common.{◌≡◌, ◌+◌, List, ◌++◌, length, None, ap, subst, ◌∙◌, arith}
 use Rattle.std.proofs.lemmas.List.{length-append}
 use Rattle.stable_order.proofs.StableSort.{Rises}
 use Rattle.range_set.specs.Rules.{RangeRules}
 use Rattle.range_set.specs.Order.{before, first_fault}
-use Rattle.range_set.specs.PrivateChunks.{AreGroups, Ascend, flat, spread}
-use Rattle.range_set.specs.declared.ranged.Ranged.{Ranged}
+use Rattle.range_set.specs.PrivateChunks.{AreGroups, flat, spread}
 use Rattle.range_set.specs.declared.group.PlacedGroup.{PlacedGroup}
-use Rattle.range_set.proofs.Chunks.{ascend-rest}
 use Rattle.range_set.proofs.Groups.{are_spread, flat-spread_append, flat_forward, groups_left, groups_right}
 use Rattle.range_set.proofs.RangeOrder.{no_fault_from, rises-no_fault}
-use Rattle.range_set.proofs.Under.{rises_ascend, rises_left, rises_right}
-
-module _ {T : Type 0} where
-  pub ascend_skip : (n : ℕ) (xs ms ys : List (Ranged T)) → Ascend n (xs ++ (ms ++ ys)) → Ascend n (xs ++ ys)
-  ascend_skip n [] ms ys h = ascend-rest n ms ys h
-  ascend_skip n (x ∷ xs) ms ys h = (h.0, ascend_skip x.from xs ms ys h.1)
+use Rattle.range_set.proofs.Under.{rises_left, rises_right}
 
 module _ {T : Type 0} (rules : RangeRules T) where
   -- what holds of each of three parts of groups
@@ -27,7 +20,6 @@ module _ {T : Type 0} (rules : RangeRules T) where
     pub third : AreGroups rules zs
     pub rises : Rises (before rules) (flat (spread xs) ++ (flat (spread ys) ++ flat (spread zs)))
     pub order : first_fault rules (flat (spread ys)) ≡ None
-    pub ascend : Ascend 0 (flat (spread xs) ++ flat (spread zs))
 
   pub have_parts : (gs xs ys zs : List (PlacedGroup T)) → gs ≡ xs ++ (ys ++ zs) → AreGroups rules gs → first_fault rules (flat (spread gs)) ≡ None → HaveParts gs xs ys zs
   have_parts gs xs ys zs e h none =
@@ -47,5 +39,4 @@ module _ {T : Type 0} (rules : RangeRules T) where
         third = groups_right rules ys zs others;
         rises = rises;
         order = no_fault_from rules 0 None y (rises_left rules y z (rises_right rules x (y ++ z) rises)) tt (flat_forward rules (spread ys) (are_spread rules ys middle));
-        ascend = ascend_skip 0 x y z (rises_ascend rules (x ++ (y ++ z)) rises);
       }

@@ -28,6 +28,12 @@ or_right : (a b : Bool) → (a || b) ≡ false → b ≡ false
 or_right false b h = h
 or_right true b h = cc
 
+none_from : {X : Type 0} (xs : List X) (i : ℕ) → length xs ≤ i → drop i xs ≡ []
+none_from [] zero l = refl
+none_from [] (suc i) l = refl
+none_from (x ∷ xs) zero l = absurd (omega arith)
+none_from (x ∷ xs) (suc i) l = none_from xs i (omega arith)
+
 module _ {T : Type 0} where
   -- a group begins where its first chunk does, or before it
   group_before : (start a : ℕ) (ps later : List (Placed T)) → 1 ≤ length (flat ps) → StartsBy a (map (move start) ps ++ later) → start ≤ a
@@ -43,12 +49,6 @@ module _ {T : Type 0} where
   pub next_inner : (start : ℕ) (ps : List (Placed T)) (i : ℕ) (p : Placed T) (later : List (Placed T)) → i < length ps → p ≡ get_or ps i p
       → map (move start) (drop i ps) ++ later ≡ move start p ∷ (map (move start) (drop (i + 1) ps) ++ later)
   next_inner start ps i p later l e = ap (λ qs. map (move start) qs ++ later) (rest_at ps i p l e)
-
-  none_from : (ps : List (Placed T)) (i : ℕ) → length ps ≤ i → drop i ps ≡ []
-  none_from [] zero l = refl
-  none_from [] (suc i) l = refl
-  none_from (p ∷ ps) zero l = absurd (omega arith)
-  none_from (p ∷ ps) (suc i) l = none_from ps i (omega arith)
 
   pub no_inner : (start : ℕ) (ps : List (Placed T)) (i : ℕ) (later : List (Placed T)) → length ps ≤ i → map (move start) (drop i ps) ++ later ≡ later
   no_inner start ps i later l = ap (λ qs. map (move start) qs ++ later) (none_from ps i l)
@@ -180,10 +180,4 @@ module _ {T : Type 0} (rules : RangeRules T) (d : Sections) where
   -- all groups are walked
   pub at_last : (whole : List (Ranged T)) (gs : List (PlacedGroup T)) (i : ℕ) (done run : List (Ranged T)) (reached : ℕ) (reps : List ChangedRange) → length gs ≤ i
       → IsWalked rules d whole (spread (drop i gs)) done run reached reps → IsUnder rules d whole done run []
-  at_last whole gs i done run reached reps l h = subst (λ (hs : List (PlacedGroup T)). IsUnder rules d whole done run (flat (spread hs))) (no_groups gs i l) h.under
-    where
-      no_groups : (gs : List (PlacedGroup T)) (i : ℕ) → length gs ≤ i → drop i gs ≡ []
-      no_groups [] zero l = refl
-      no_groups [] (suc i) l = refl
-      no_groups (q ∷ gs) zero l = absurd (omega arith)
-      no_groups (q ∷ gs) (suc i) l = no_groups gs i (omega arith)
+  at_last whole gs i done run reached reps l h = subst (λ (hs : List (PlacedGroup T)). IsUnder rules d whole done run (flat (spread hs))) (none_from gs i l) h.under

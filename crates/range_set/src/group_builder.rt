@@ -2,7 +2,7 @@ ghost use Rattle.std.specs.Prelude.{IfOk, false, [], ◌++◌, ◌∷◌, ◌+�
 ghost use Rattle.range_set.specs.PrivateChunks.{AreChunks, AreGroups, AreGroupsOf, Ascend, BeginBy, IsChunk, IsGroup, IsGroupBuilder, flat, grouped, move, spread};
 
 use crate::chunk::Placed;
-use crate::group::{FEW_CHUNKS, Group, MAX_CHUNKS, PlacedGroup};
+use crate::group::{Group, MAX_CHUNKS, PlacedGroup, few_of, room_among};
 use crate::group_list::GroupList;
 use crate::range_value::RangeValue;
 use std::alloc::{AllocError, Global};
@@ -16,32 +16,22 @@ pub(crate) struct GroupBuilder<T> {
     pub(crate) start: u32,
     pub(crate) growing: Group<T>,
     pub(crate) len: usize,
+    /// How many chunks a group grows to. No contract speaks of it: it only decides where groups are cut.
+    pub(crate) room: usize,
 }
 
 impl<T: RangeValue> GroupBuilder<T> {
-    /// A builder without ranges.
-    pub(crate) fn new(alloc: Global) -> GroupBuilder<T>
-        ensures builder { IsGroupBuilder T.rules result }
-        ensures ranges { grouped result ≡ [] }
-    {
-        GroupBuilder {
-            done: Vec::new(alloc),
-            start: 0,
-            growing: Group::empty(alloc),
-            len: 0,
-        }
-    }
-
-    /// A builder without ranges, which has room for so many groups. `Err`: out of memory.
+    /// A builder without ranges for a set of so many groups, for which it has room, and for one more. `Err`: out of memory.
     pub(crate) fn with_room(alloc: Global, groups: usize) -> Result<GroupBuilder<T>, AllocError>
         ensures builder { IfOk result (IsGroupBuilder T.rules) }
         ensures ranges { IfOk result (λ builder. grouped builder ≡ []) }
     {
         Ok(GroupBuilder {
-            done: Vec::with_capacity(alloc, groups)?,
+            done: Vec::with_capacity(alloc, groups.saturating_add(1))?,
             start: 0,
             growing: Group::empty(alloc),
             len: 0,
+            room: room_among(groups),
         })
     }
 
@@ -73,7 +63,7 @@ impl<T: RangeValue> GroupBuilder<T> {
         ensures ranges { IfOk result (λ _. grouped self.new ≡ grouped self.old ++ placed ∷ []) }
     {
         self.make_room(placed.start, left)?;
-        let more = MAX_CHUNKS.saturating_sub(self.growing.chunks.len());
+        let more = self.room.saturating_sub(self.growing.chunks.len());
         self.growing.chunks.reserve(more.min(left))?;
         let count = placed.chunk.ranges.len();
         self.growing.put(self.start, placed)?;
@@ -92,7 +82,7 @@ impl<T: RangeValue> GroupBuilder<T> {
         ensures after { IfOk result (λ _. self.new.start ≤ from) }
         ensures first { IfOk result (λ _. self.new.growing.chunks.items ≡ [] → from ≡ self.new.start) }
     {
-        if is_full(self.growing.chunks.len(), left) {
+        if is_full(self.growing.chunks.len(), left, self.room) {
             seal(&mut self.done, self.start, &mut self.growing)?;
             self.start = from;
         } else if self.growing.chunks.is_empty() {
@@ -145,14 +135,15 @@ impl<T: RangeValue> GroupBuilder<T> {
     }
 }
 
-/// Whether a group of `len` chunks grows no more, where `left` are still to come of its run: it has the most that a group may
-/// have, or half of those that would make one such group and a small one.
-fn is_full(len: usize, left: usize) -> bool
+/// Whether a group of `len` chunks grows no more, where `left` are still to come of its run and one grows to `room`: it has as many,
+/// or half of those that would make one such group and a small one.
+fn is_full(len: usize, left: usize, room: usize) -> bool
     requires { len ≤ 64 }
     ensures { result ≡ false → len < 64 }
 {
-    len == MAX_CHUNKS
-        || (left <= len && len + left > MAX_CHUNKS && len + left <= MAX_CHUNKS + FEW_CHUNKS)
+    len >= MAX_CHUNKS
+        || len >= room
+        || (left <= len && len + left > room && len + left <= room.saturating_add(few_of(room)))
 }
 
 /// Ends the growing group, if it has chunks, and begins one without chunks. `Err`: out of memory.

@@ -2,7 +2,7 @@
 //!
 //! Contracts see a `RangeSet` as its list of ranges, in order of their starts, then of their start sides, then as they
 //! were given; iterators as what is left of that list. All is proved once for every `RangeValue`. A set is a list of
-//! shared groups of shared chunks: mapping it moves whole chunks that no change meets, and most groups of them whole, and says how many ranges
+//! shared groups of shared chunks: mapping it moves groups and chunks that no change meets as a whole, and says how many ranges
 //! it mapped by themselves at most. Reading and comparing take no memory. Places are in characters.
 #![tactic(auto)]
 

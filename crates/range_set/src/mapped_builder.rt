@@ -5,7 +5,7 @@ ghost use Rattle.stable_order.specs.StableSort.{stable_sort};
 
 use crate::chunk::Chunk;
 use crate::chunk_builder::ChunkBuilder;
-use crate::group::{Group, MAX_CHUNKS};
+use crate::group::{Group, joined_of};
 use crate::group_builder::GroupBuilder;
 use crate::group_list::GroupList;
 use crate::range_value::RangeValue;
@@ -15,8 +15,8 @@ use std::alloc::{AllocError, Global};
 use std::mem;
 use std::rc::Rc;
 
-/// Cuts ranges that changes moved into groups: groups that are done, chunks of the one that comes after them, and a run of ranges
-/// that is still to be sorted.
+/// Cuts ranges that changes moved into groups: groups that are done, chunks that come after them and aren't in a group yet, and a run
+/// of ranges that is still to be sorted.
 #[derive(Drop)]
 pub(crate) struct MappedBuilder<T> {
     pub(crate) groups: GroupBuilder<T>,
@@ -25,24 +25,38 @@ pub(crate) struct MappedBuilder<T> {
 }
 
 impl<T: RangeValue> MappedBuilder<T> {
-    /// A builder without ranges, which has room for so many groups and one more. `Err`: out of memory.
+    /// A builder without ranges for a set of so many groups, for which it has room. `Err`: out of memory.
     pub(crate) fn with_room(alloc: Global, groups: usize) -> Result<MappedBuilder<T>, AllocError>
         ensures builder { IfOk result (IsMappedBuilder T.rules) }
         ensures ranges { IfOk result (λ builder. put_down builder ≡ []) }
         ensures none { IfOk result (λ builder. builder.run.items ≡ []) }
     {
         Ok(MappedBuilder {
-            groups: GroupBuilder::with_room(alloc, groups.saturating_add(1))?,
+            groups: GroupBuilder::with_room(alloc, groups)?,
             chunks: ChunkBuilder::new(alloc),
             run: Vec::new(alloc),
         })
     }
 
-    /// Whether chunks stand after the groups that are done, and a group has room for more. No contract speaks of this: it only
-    /// decides which groups are shared.
-    pub(crate) fn is_open(&self) -> bool {
-        let len = self.chunks.done.len();
-        0 < len && len < MAX_CHUNKS
+    /// Makes room for so many chunks. `Err`: out of memory.
+    pub(crate) fn reserve(&mut self, chunks: usize) -> Result<(), AllocError>
+        requires builder { IsMappedBuilder T.rules self.old }
+        ensures builder { IsMappedBuilder T.rules self.new }
+        ensures ranges { put_down self.new ≡ put_down self.old }
+        ensures run { self.new.run ≡ self.old.run }
+    {
+        self.chunks.done.reserve(chunks)
+    }
+
+    /// Whether a group of so many chunks is to become one with those that stand before it and aren't in a group yet: whether they
+    /// leave a quarter of its room in one. No contract speaks of this: it only decides which groups are shared.
+    pub(crate) fn joins(&self, len: usize) -> bool {
+        let open = if self.run.is_empty() {
+            self.chunks.done.len()
+        } else {
+            self.chunks.done.len().saturating_add(1)
+        };
+        0 < open && open.saturating_add(len) <= joined_of(self.groups.room)
     }
 
     /// Sorts the run and puts a chunk after it, at a place of its own, and shares it. `Err`: out of memory.
@@ -73,12 +87,12 @@ impl<T: RangeValue> MappedBuilder<T> {
         ensures none { IfOk result (λ _. self.new.run.items ≡ []) }
     {
         put_sorted(&mut self.run, &mut self.chunks)?;
-        self.end_group()?;
+        self.end_groups()?;
         self.groups.share(start, group)
     }
 
-    /// Puts the chunks after the groups that are done into a group of their own. `Err`: out of memory.
-    fn end_group(&mut self) -> Result<(), AllocError>
+    /// Puts the chunks after the groups that are done into groups. `Err`: out of memory.
+    fn end_groups(&mut self) -> Result<(), AllocError>
         requires builder { IsMappedBuilder T.rules self.old }
         requires order { Ascend 0 (put_down self.old) }
         requires room { length (put_down self.old) < 2 ^ 64 }
@@ -105,7 +119,7 @@ impl<T: RangeValue> MappedBuilder<T> {
         ensures ranges { IfOk result (λ made. flat (spread made.0) ≡ put_down self ++ stable_sort (before T.rules) self.run.items) }
     {
         put_sorted(&mut self.run, &mut self.chunks)?;
-        self.end_group()?;
+        self.end_groups()?;
         self.groups.finish()
     }
 }

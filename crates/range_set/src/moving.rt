@@ -10,7 +10,7 @@ ghost use Rattle.range_set.specs.Order.{first_fault};
 ghost use Rattle.range_set.specs.PrivateChunks.{AreGroups, AreGroupsOf, Ascend, IsChunk, flat, shift, spread};
 
 use crate::chunk::Chunk;
-use crate::group::{FEW_CHUNKS, PlacedGroup};
+use crate::group::PlacedGroup;
 use crate::group_list::GroupList;
 use crate::mapped_builder::MappedBuilder;
 use crate::range_ref::RangeRef;
@@ -23,7 +23,7 @@ use std::sync::ledger::Ledger;
 use steps::Steps;
 
 /// The groups of a set after changes, and how many ranges they have. Groups that the changes don't affect are moved and shared; of
-/// the others the chunks are. `Err`: out of memory.
+/// the others the chunks that they don't affect are. `Err`: out of memory.
 pub(crate) fn mapped_groups<T: RangeValue, L: Ledger>(
     alloc: Global,
     groups: &[PlacedGroup<T>],
@@ -38,25 +38,25 @@ pub(crate) fn mapped_groups<T: RangeValue, L: Ledger>(
     ensures ranges { IfOk result (λ made. flat (spread made.0) ≡ map_ranges T.rules changes.now (flat (spread groups.now))) }
     ensures cost { mapped.new ≤ mapped.old + most_mapped T.rules changes.now (flat (spread groups.now)) }
 {
-    let ranges = changes.ranges(true)?;
+    let changed = changes.ranges(true)?;
     let index = PositionIndex::new(alloc, changes)?;
-    map_all(alloc, groups, changes, &ranges, &index, mapped)
+    map_all(alloc, groups, changes, &changed, &index, mapped)
 }
 
 /// The groups of a set after changes, and how many ranges they have, where the replaced ranges and an index of the changes are
 /// given. A group whose hull meets no Replace, and in which no empty range has an end side less than its start side, is shared,
-/// unless it is a small one that `is_opened` joins with those before it; of the others the same holds of each chunk. The ranges of
-/// the other chunks are mapped each by itself, which raises `mapped` by one. The ranges between two that are shared are sorted by
-/// themselves, since what is shared parts those before it from those after it. `Err`: out of memory.
+/// unless it becomes one with chunks before it; of the others the same holds of each chunk. The ranges of the other chunks are
+/// mapped each by itself, which raises `mapped` by one. The ranges between two that are shared are sorted by themselves, since
+/// what is shared parts those before it from those after it. `Err`: out of memory.
 fn map_all<T: RangeValue, L: Ledger>(
     alloc: Global,
     groups: &[PlacedGroup<T>],
     changes: &Desc,
-    ranges: &[ChangedRange],
+    changed: &[ChangedRange],
     index: &PositionIndex,
     mapped: &mut Steps<L>,
 ) -> Result<(GroupList<T>, usize), AllocError>
-    requires replaced { ranges.now ≡ replaced changes.now }
+    requires replaced { changed.now ≡ replaced changes.now }
     requires index { index.now ≡ changes.now }
     requires groups { AreGroups T.rules groups.now }
     requires order { first_fault T.rules (flat (spread groups.now)) ≡ None }
@@ -68,18 +68,18 @@ fn map_all<T: RangeValue, L: Ledger>(
 {
     // The proof takes from this line that lengths of the new document fit u32.
     let _new_len = changes.new_len();
-    let mut replaced = ranges;
+    let mut replaced = changed;
     let mut walker = PositionWalker::new(changes);
     let mut builder = MappedBuilder::with_room(alloc, groups.len())?;
     for placed in groups {
         replaced = ranges_from(replaced, placed.start);
         if is_opened(placed, replaced, &builder) {
+            builder.reserve(placed.group.chunks.len())?;
             for inner in &placed.group.chunks {
                 let start = inner.start + placed.start;
                 replaced = ranges_from(replaced, start);
                 if is_affected(start, &inner.chunk, replaced) {
                     map_each(
-                        alloc,
                         start,
                         &inner.chunk,
                         replaced,
@@ -102,7 +102,7 @@ fn map_all<T: RangeValue, L: Ledger>(
 }
 
 /// Whether the chunks of a group are looked at one by one: whether changes affect it, of which those before the group are left out,
-/// or it is a small one and chunks of a group that isn't full stand before it.
+/// or it becomes one with those before it.
 fn is_opened<T: RangeValue>(
     placed: &PlacedGroup<T>,
     replaced: &[ChangedRange],
@@ -113,8 +113,7 @@ fn is_opened<T: RangeValue>(
     requires first { EndsAtOrAfter placed.now.start replaced.now }
     ensures { result ≡ false → (placed.now.group.value.is_turned || list_any (meets placed.now.start (placed.now.start + placed.now.group.value.reach)) replaced.now) ≡ false }
 {
-    is_group_affected(placed, replaced)
-        || (placed.group.chunks.len() <= FEW_CHUNKS && builder.is_open())
+    is_group_affected(placed, replaced) || builder.joins(placed.group.chunks.len())
 }
 
 /// Whether a change meets the hull of a group, where those before the group are left out, or an empty range of it has an end side
@@ -142,18 +141,17 @@ fn is_affected<T: RangeValue>(start: u32, chunk: &Rc<Chunk<T>>, replaced: &[Chan
 /// Puts the ranges of a chunk at the place `start` that the changes of a walk keep, moved, after a run of others. The ranges that the
 /// changes replace are given from the first on that may meet the chunk. `Err`: out of memory.
 fn map_each<T: RangeValue, L: Ledger>(
-    alloc: Global,
     start: u32,
     chunk: &Rc<Chunk<T>>,
-    ranges: &[ChangedRange],
+    changed: &[ChangedRange],
     walker: &mut PositionWalker,
     index: &PositionIndex,
     run: &mut Vec<Ranged<T>>,
     mapped: &mut Steps<L>,
 ) -> Result<(), AllocError>
     requires index { index.now ≡ walker.old.desc }
-    requires order { BeginAfter 0 ranges.now }
-    requires same { (a b : ℕ) → start ≤ a → list_any (meets a b) ranges.now ≡ list_any (meets a b) (replaced walker.old.desc) }
+    requires order { BeginAfter 0 changed.now }
+    requires same { (a b : ℕ) → start ≤ a → list_any (meets a b) changed.now ≡ list_any (meets a b) (replaced walker.old.desc) }
     requires room { new_size counted walker.old.desc < 2 ^ 32 }
     requires chunk { IsChunk T.rules start chunk.now.value }
     requires inside { EndWithin (old_size walker.old.desc) (map (shift start) chunk.now.value.ranges.items) }
@@ -163,8 +161,9 @@ fn map_each<T: RangeValue, L: Ledger>(
     ensures walk { IfOk result (λ _. (later : _) → Ascend walker.old.reached (map (shift start) chunk.now.value.ranges.items ++ later) → Ascend walker.new.reached later) }
     ensures cost { mapped.new ≤ mapped.old + length chunk.now.value.ranges.items }
 {
+    let alloc = *run.allocator();
     run.reserve(chunk.ranges.len())?;
-    let mut left = ranges;
+    let mut left = changed;
     for range in &chunk.ranges {
         mapped.tick();
         let range = RangeRef {

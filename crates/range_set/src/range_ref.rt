@@ -41,7 +41,7 @@ impl<'a, T: RangeValue> RangeRef<'a, T> {
 
     /// The range where the changes of a walk move it, unless they drop it; the walk comes to its start. Its end may lie far
     /// after, so it is looked for in the index of the same changes. `Err`: out of memory.
-    pub(crate) fn moved(
+    fn moved(
         &self,
         alloc: Global,
         walker: &mut PositionWalker,
@@ -69,7 +69,7 @@ impl<'a, T: RangeValue> RangeRef<'a, T> {
     pub(crate) fn moved_among(
         &self,
         alloc: Global,
-        ranges: &[ChangedRange],
+        changed: &[ChangedRange],
         walker: &mut PositionWalker,
         index: &PositionIndex,
     ) -> Result<Option<Ranged<T>>, AllocError>
@@ -78,14 +78,14 @@ impl<'a, T: RangeValue> RangeRef<'a, T> {
         requires end { self.now.to ≤ old_size walker.old.desc }
         requires forward { self.now.from ≤ self.now.to }
         requires ascending { walker.old.reached ≤ self.now.from }
-        requires order { BeginAfter 0 ranges.now }
-        requires first { EndsAtOrAfter self.now.from ranges.now }
-        requires same { list_any (meets self.now.from self.now.to) ranges.now ≡ list_any (meets self.now.from self.now.to) (replaced walker.old.desc) }
+        requires order { BeginAfter 0 changed.now }
+        requires first { EndsAtOrAfter self.now.from changed.now }
+        requires same { list_any (meets self.now.from self.now.to) changed.now ≡ list_any (meets self.now.from self.now.to) (replaced walker.old.desc) }
         requires room { new_size counted walker.old.desc < 2 ^ 32 }
         ensures value { IfOk result (λ range. range ≡ moved T.rules walker.old.desc (seen self.now)) }
         ensures walk { walker.new ≡ record { desc = walker.old.desc; reached = self.now.from } }
     {
-        if self.is_turned() || first_meets(ranges, self.from, self.to) {
+        if self.is_turned() || first_meets(changed, self.from, self.to) {
             return self.moved(alloc, walker, index);
         }
         let from = walker.place_after(self.from, -1);
@@ -95,7 +95,7 @@ impl<'a, T: RangeValue> RangeRef<'a, T> {
     }
 
     /// Whether it is empty with an end side less than its start side.
-    fn is_turned(&self) -> bool
+    pub(crate) fn is_turned(&self) -> bool
         ensures { result ≡ is_turned T.rules (seen self.now) }
     {
         self.from == self.to && self.value.end_side() < self.value.start_side()

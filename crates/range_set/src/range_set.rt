@@ -11,7 +11,7 @@ use crate::between::Between;
 use crate::chunk::Placed;
 use crate::chunk_builder::ChunkBuilder;
 use crate::chunk_iter::ChunkIter;
-use crate::group::PlacedGroup;
+use crate::group::{PlacedGroup, groups_of};
 use crate::group_builder::GroupBuilder;
 use crate::group_list::GroupList;
 use crate::iter::{Iter, same_ranges};
@@ -212,9 +212,8 @@ impl<T: RangeValue> RangeSet<T> {
     }
 
     /// What `map` gives. A chunk whose hull meets no Replace, and in which no empty range has an end side less than its start
-    /// side, is only moved, and shared. Groups before the first and after the last for which this fails are moved whole. Each
-    /// other range is mapped by itself, which raises `mapped` by one; the values of these alone are copied. `Err`: out
-    /// of memory.
+    /// side, is only moved, and shared; so is a group of chunks for which this holds, as a whole, unless it is a small one after one
+    /// for which it doesn't. Each other range raises `mapped` by one; the values of these alone are copied. `Err`: out of memory.
     pub fn map_steps<L: Ledger>(
         &self,
         changes: &Desc,
@@ -277,7 +276,7 @@ fn in_groups<T: RangeValue>(
     ensures groups { IfOk result (λ made. AreGroupsOf T.rules made.0 made.1) }
     ensures ranges { IfOk result (λ made. flat (spread made.0) ≡ flat chunks.items) }
 {
-    let mut builder = GroupBuilder::new(alloc);
+    let mut builder = GroupBuilder::with_room(alloc, groups_of(chunks.len()))?;
     builder.put_all(chunks)?;
     builder.finish()
 }

@@ -4,6 +4,7 @@ ghost use Rattle.range_set.specs.Order.{before, precedes};
 ghost use Rattle.range_set.specs.Mapping.{is_turned};
 ghost use Rattle.range_set.specs.Ranking.{before-order};
 
+use crate::range_ref::RangeRef;
 use crate::range_value::RangeValue;
 use stable_order::Ranked;
 use std::cmp::Ordering;
@@ -51,6 +52,11 @@ impl<T: RangeValue> Ranged<T> {
     pub(crate) fn is_turned(&self) -> bool
         ensures { result ≡ is_turned T.rules self.now }
     {
-        self.from == self.to && self.value.end_side() < self.value.start_side()
+        let range = RangeRef {
+            from: self.from,
+            to: self.to,
+            value: &self.value,
+        };
+        range.is_turned()
     }
 }

@@ -25,7 +25,7 @@ use Rattle.range_set.proofs.Under.{rises_ascend, under_end, under_end_order}
 use Rattle.range_set.proofs.Walked.{IsWalked, affected_same, clear_chunk, run_forward, walked_clear, walked_each, walked_init, within_prefix}
 use Rattle.range_set.proofs.WalkedGroups.{allowance_group, allowance_inner, allowance_open, at_inner, at_last, clear_group, no_inner, walked_group, walked_open}
 use Rattle.range_set.proofs.moving.map_all.Goals as goal
-use Rattle.range_set.proofs.moving.map_all.Goals.{then-is_affected+in_ok-map_each, else-is_affected+in_ok-share_chunk, then-is_opened+else-loop-inner-test, else-is_opened+in_ok-share_group}
+use Rattle.range_set.proofs.moving.map_all.Goals.{then-is_affected+in_ok-map_each, else-is_affected+in_ok-share_chunk, then-is_opened+in_ok-reserve+else-loop-inner-test, else-is_opened+in_ok-share_group}
 
 pub loop-placed-init : goal.loop-placed-init
 loop-placed-init g c =
@@ -36,7 +36,7 @@ loop-placed-init g c =
     record {
       builder = c.in_ok-builder.ensures.builder;
       walked = rw (c.in_ok-builder.ensures.ranges, c.in_ok-builder.ensures.none, c.new-walker.ensures)
-          (walked_init rules d ps c.args.ranges.now (are_spread rules c.args.groups.now c.requires.groups) (rises-no_fault rules (flat ps) c.requires.order) (within (old_size d) (flat ps) c.requires.inside) reps);
+          (walked_init rules d ps c.args.changed.now (are_spread rules c.args.groups.now c.requires.groups) (rises-no_fault rules (flat ps) c.requires.order) (within (old_size d) (flat ps) c.requires.inside) reps);
       desc = ap (λ (w : Walk). w.desc) c.new-walker.ensures;
       begin = subst (BeginAfter 0) (sym reps) (replaced-begin 0 0 d);
       cost = omega arith;
@@ -45,6 +45,14 @@ loop-placed-init g c =
 pub is_opened-requires-clause-fits : goal.is_opened-requires-clause-fits
 is_opened-requires-clause-fits g c =
     (group-at g.T.RangeValue.rules c.args.groups.now c.loop-placed.placed-index c.placed-item.result c.loop-placed-test.true c.placed-item.is c.requires.groups).0.fits
+
+pub returns-in_err-reserve-clause-cost : goal.returns-in_err-reserve-clause-cost
+returns-in_err-reserve-clause-cost g c =
+    let rules = g.T.RangeValue.rules in
+    let gs = c.args.groups.now in
+    let top = allowed rules c.args.changes.now 0 (spread gs) (are_spread rules gs c.requires.groups) (rises_ascend rules (flat (spread gs)) (rises-no_fault rules (flat (spread gs)) c.requires.order)) in
+    let spent = c.loop-placed.invariant.cost in
+    omega (arith, top, spent)
 
 pub loop-inner-init : goal.loop-inner-init
 loop-inner-init g c =
@@ -56,9 +64,9 @@ loop-inner-init g c =
     let l = c.loop-placed-test.true in
     let kept = c.loop-placed.invariant in
     record {
-      builder = kept.builder;
-      walked = walked_open rules d (flat (spread gs)) gs i p (put_down c.loop-placed.builder) c.loop-placed.builder.run.items c.loop-placed.walker.reached c.loop-placed.replaced.now c.ranges_from-replaced.result.now l c.placed-item.is
-          (group-at rules gs i p l c.placed-item.is c.requires.groups).1 c.ranges_from-replaced.ensures.same kept.walked;
+      builder = c.reserve.ensures.builder;
+      walked = rw (c.reserve.ensures.ranges, ap (λ v. v.items) c.reserve.ensures.run) (walked_open rules d (flat (spread gs)) gs i p (put_down c.loop-placed.builder) c.loop-placed.builder.run.items c.loop-placed.walker.reached c.loop-placed.replaced.now c.ranges_from-replaced.result.now l c.placed-item.is
+          (group-at rules gs i p l c.placed-item.is c.requires.groups).1 c.ranges_from-replaced.ensures.same kept.walked);
       desc = kept.desc;
       begin = c.ranges_from-replaced.ensures.order;
       cost = let a = kept.cost in let b = allowance_open rules d gs i p l c.placed-item.is in omega (arith, a, b);
@@ -71,7 +79,7 @@ map_each-requires-clause-inside g c =
     let gs = c.args.groups.now in
     let ps = c.placed-item.result.group.value.chunks.items in
     let p = c.inner-item.result in
-    let same = c.deref-inner-items.ensures.value ∙ ap (λ (x : Group g.row.T.Denot). x.chunks.items) c.deref.ensures in
+    let same = c.deref-inner-items.ensures.value ∙ ap (λ (x : Group g.row.T.Denot). x.chunks.items) c.deref-then-is_opened.ensures in
     let l : c.loop-inner.inner-index < length ps = subst (λ (xs : List (Placed g.row.T.Denot)). c.loop-inner.inner-index < length xs) same c.loop-inner-test.true in
     let is : p ≡ get_or ps c.loop-inner.inner-index p = subst (λ (xs : List (Placed g.row.T.Denot)). p ≡ get_or xs c.loop-inner.inner-index p) same c.inner-item.is in
     let start = c.placed-item.result.start in
@@ -91,7 +99,7 @@ map_each-requires-clause-ascending g c =
     let gs = c.args.groups.now in
     let ps = c.placed-item.result.group.value.chunks.items in
     let p = c.inner-item.result in
-    let same = c.deref-inner-items.ensures.value ∙ ap (λ (x : Group g.row.T.Denot). x.chunks.items) c.deref.ensures in
+    let same = c.deref-inner-items.ensures.value ∙ ap (λ (x : Group g.row.T.Denot). x.chunks.items) c.deref-then-is_opened.ensures in
     let l : c.loop-inner.inner-index < length ps = subst (λ (xs : List (Placed g.row.T.Denot)). c.loop-inner.inner-index < length xs) same c.loop-inner-test.true in
     let is : p ≡ get_or ps c.loop-inner.inner-index p = subst (λ (xs : List (Placed g.row.T.Denot)). p ≡ get_or xs c.loop-inner.inner-index p) same c.inner-item.is in
     let start = c.placed-item.result.start in
@@ -108,7 +116,7 @@ map_each-requires-clause-same g c = λ a b l.
     let gs = c.args.groups.now in
     let ps = c.placed-item.result.group.value.chunks.items in
     let p = c.inner-item.result in
-    let same = c.deref-inner-items.ensures.value ∙ ap (λ (x : Group g.row.T.Denot). x.chunks.items) c.deref.ensures in
+    let same = c.deref-inner-items.ensures.value ∙ ap (λ (x : Group g.row.T.Denot). x.chunks.items) c.deref-then-is_opened.ensures in
     let in_range : c.loop-inner.inner-index < length ps = subst (λ (xs : List (Placed g.row.T.Denot)). c.loop-inner.inner-index < length xs) same c.loop-inner-test.true in
     let is : p ≡ get_or ps c.loop-inner.inner-index p = subst (λ (xs : List (Placed g.row.T.Denot)). p ≡ get_or xs c.loop-inner.inner-index p) same c.inner-item.is in
     let kept = c.loop-inner.invariant in
@@ -123,7 +131,7 @@ returns-in_err-map_each-clause-cost g c =
     let gs = c.args.groups.now in
     let ps = c.placed-item.result.group.value.chunks.items in
     let p = c.inner-item.result in
-    let same = c.deref-inner-items.ensures.value ∙ ap (λ (x : Group g.row.T.Denot). x.chunks.items) c.deref.ensures in
+    let same = c.deref-inner-items.ensures.value ∙ ap (λ (x : Group g.row.T.Denot). x.chunks.items) c.deref-then-is_opened.ensures in
     let l : c.loop-inner.inner-index < length ps = subst (λ (xs : List (Placed g.row.T.Denot)). c.loop-inner.inner-index < length xs) same c.loop-inner-test.true in
     let is : p ≡ get_or ps c.loop-inner.inner-index p = subst (λ (xs : List (Placed g.row.T.Denot)). p ≡ get_or xs c.loop-inner.inner-index p) same c.inner-item.is in
     let start = c.placed-item.result.start in
@@ -151,7 +159,7 @@ share_chunk-requires-clause-order g c =
     let gs = c.args.groups.now in
     let ps = c.placed-item.result.group.value.chunks.items in
     let p = c.inner-item.result in
-    let same = c.deref-inner-items.ensures.value ∙ ap (λ (x : Group g.row.T.Denot). x.chunks.items) c.deref.ensures in
+    let same = c.deref-inner-items.ensures.value ∙ ap (λ (x : Group g.row.T.Denot). x.chunks.items) c.deref-then-is_opened.ensures in
     let l : c.loop-inner.inner-index < length ps = subst (λ (xs : List (Placed g.row.T.Denot)). c.loop-inner.inner-index < length xs) same c.loop-inner-test.true in
     let is : p ≡ get_or ps c.loop-inner.inner-index p = subst (λ (xs : List (Placed g.row.T.Denot)). p ≡ get_or xs c.loop-inner.inner-index p) same c.inner-item.is in
     let start = c.placed-item.result.start in
@@ -181,7 +189,7 @@ share_chunk-requires-clause-chunk g c =
     let gs = c.args.groups.now in
     let ps = c.placed-item.result.group.value.chunks.items in
     let p = c.inner-item.result in
-    let same = c.deref-inner-items.ensures.value ∙ ap (λ (x : Group g.row.T.Denot). x.chunks.items) c.deref.ensures in
+    let same = c.deref-inner-items.ensures.value ∙ ap (λ (x : Group g.row.T.Denot). x.chunks.items) c.deref-then-is_opened.ensures in
     let l : c.loop-inner.inner-index < length ps = subst (λ (xs : List (Placed g.row.T.Denot)). c.loop-inner.inner-index < length xs) same c.loop-inner-test.true in
     let is : p ≡ get_or ps c.loop-inner.inner-index p = subst (λ (xs : List (Placed g.row.T.Denot)). p ≡ get_or xs c.loop-inner.inner-index p) same c.inner-item.is in
     let base = c.placed-item.result.start in
@@ -218,7 +226,7 @@ loop-inner-preserved g c =
     let gs = c.args.groups.now in
     let ps = c.placed-item.result.group.value.chunks.items in
     let p = c.inner-item.result in
-    let same = c.deref-inner-items.ensures.value ∙ ap (λ (x : Group g.row.T.Denot). x.chunks.items) c.deref.ensures in
+    let same = c.deref-inner-items.ensures.value ∙ ap (λ (x : Group g.row.T.Denot). x.chunks.items) c.deref-then-is_opened.ensures in
     let l : c.loop-inner.inner-index < length ps = subst (λ (xs : List (Placed g.row.T.Denot)). c.loop-inner.inner-index < length xs) same c.loop-inner-test.true in
     let is : p ≡ get_or ps c.loop-inner.inner-index p = subst (λ (xs : List (Placed g.row.T.Denot)). p ≡ get_or xs c.loop-inner.inner-index p) same c.inner-item.is in
     let base = c.placed-item.result.start in
@@ -392,9 +400,9 @@ loop-placed-preserved g c =
     let met = c.ranges_from-replaced.ensures.same in
     let next = spread (drop (i + 1) gs) in
     elim c.if-is_opened.branch [
-      | then-is_opened+else-loop-inner-test w ↦
+      | then-is_opened+in_ok-reserve+else-loop-inner-test w ↦
           let ps = p.group.value.chunks.items in
-          let same = w.deref-inner-items.ensures.value ∙ ap (λ (x : Group g.row.T.Denot). x.chunks.items) w.deref.ensures in
+          let same = w.deref-inner-items.ensures.value ∙ ap (λ (x : Group g.row.T.Denot). x.chunks.items) w.deref-then-is_opened.ensures in
           let end : length ps ≤ w.loop-inner.inner-index = subst (λ (xs : List (Placed g.row.T.Denot)). length xs ≤ w.loop-inner.inner-index) same w.loop-inner-test.false in
           let rest = no_inner p.start ps w.loop-inner.inner-index next end in
           let inner = w.loop-inner.invariant in

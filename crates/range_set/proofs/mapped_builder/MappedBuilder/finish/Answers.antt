@@ -15,8 +15,8 @@ put_sorted-requires-clause-order g c =
     ascend-rest 0 (flat (grouped old.groups)) (built old.chunks ++ run)
     (subst (Ascend 0) (append_assoc (flat (grouped old.groups)) (built old.chunks) run) c.requires.order)
 
-pub end_group-requires-clause-room : goal.end_group-requires-clause-room
-end_group-requires-clause-room g c =
+pub end_groups-requires-clause-room : goal.end_groups-requires-clause-room
+end_groups-requires-clause-room g c =
     let old = c.args.self in
     let order = before g.T.RangeValue.rules in
     let a = length-append (flat (grouped old.groups)) (built c.put_sorted.new.builder) in
@@ -31,5 +31,5 @@ returns-clause-ranges g c =
     let done = flat (grouped c.args.self.groups) in
     let run = stable_sort (before g.T.RangeValue.rules) c.args.self.run.items in
     let sorted = ap (λ rs. done ++ rs) c.in_ok-put_sorted.ensures.ranges ∙ sym (append_assoc done (built c.args.self.chunks) run) in
-    let ended = c.in_ok-end_group.ensures.ranges ∙ sorted in
-    IfOk-weaker c.finish.result (λ made. spread made.0 ≡ grouped c.end_group.new.self.groups) (λ made. flat (spread made.0) ≡ put_down c.args.self ++ run) (λ made e. ap flat e ∙ ended) c.finish.ensures.ranges
+    let ended = c.in_ok-end_groups.ensures.ranges ∙ sorted in
+    IfOk-weaker c.finish.result (λ made. spread made.0 ≡ grouped c.end_groups.new.self.groups) (λ made. flat (spread made.0) ≡ put_down c.args.self ++ run) (λ made e. ap flat e ∙ ended) c.finish.ensures.ranges

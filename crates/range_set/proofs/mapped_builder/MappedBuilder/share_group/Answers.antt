@@ -16,8 +16,8 @@ put_sorted-requires-clause-order g c =
     ascend-rest 0 (flat (grouped old.groups)) (built old.chunks ++ run)
     (subst (Ascend 0) (append_assoc (flat (grouped old.groups)) (built old.chunks) run) c.requires.order)
 
-pub end_group-requires-clause-room : goal.end_group-requires-clause-room
-end_group-requires-clause-room g c =
+pub end_groups-requires-clause-room : goal.end_groups-requires-clause-room
+end_groups-requires-clause-room g c =
     let old = c.args.self.now in
     let order = before g.T.RangeValue.rules in
     let a = length-append (flat (grouped old.groups)) (built c.put_sorted.new.builder) in
@@ -35,7 +35,7 @@ share-requires-clause-room g c =
     let b = ap length c.in_ok-put_sorted.ensures.ranges ∙ length-append (built old.chunks) (stable_sort order old.run.items) in
     let n = length-append (flat (grouped old.groups)) (built old.chunks) in
     let m = length-stable_sort order old.run.items in
-    let k = ap length c.in_ok-end_group.ensures.ranges in
+    let k = ap length c.in_ok-end_groups.ensures.ranges in
     let l = c.requires.room in
     omega (arith, a, b, n, m, k, l)
 
@@ -47,12 +47,12 @@ returns-clause-ranges g c =
     let chunks = c.args.group.now.value.chunks.items in
     let more = map (shift c.args.start) (flat chunks) in
     let sorted = ap (λ rs. done ++ rs) c.in_ok-put_sorted.ensures.ranges ∙ sym (append_assoc done (built old.chunks) run) in
-    let ended = c.in_ok-end_group.ensures.ranges ∙ sorted in
-    IfOk-weaker c.share.result (λ _. grouped c.share.new.self ≡ grouped c.end_group.new.self.groups ++ map (move c.args.start) chunks)
-    (λ _. flat (grouped c.share.new.self) ++ built c.end_group.new.self.chunks ≡ put_down old ++ run ++ more)
-    (λ _ e. ap (λ rs. flat (grouped c.share.new.self) ++ rs) c.in_ok-end_group.ensures.none
+    let ended = c.in_ok-end_groups.ensures.ranges ∙ sorted in
+    IfOk-weaker c.share.result (λ _. grouped c.share.new.self ≡ grouped c.end_groups.new.self.groups ++ map (move c.args.start) chunks)
+    (λ _. flat (grouped c.share.new.self) ++ built c.end_groups.new.self.chunks ≡ put_down old ++ run ++ more)
+    (λ _ e. ap (λ rs. flat (grouped c.share.new.self) ++ rs) c.in_ok-end_groups.ensures.none
     ∙ (append-nil (flat (grouped c.share.new.self))
     ∙ (ap flat e
-    ∙ (flat-append (grouped c.end_group.new.self.groups) (map (move c.args.start) chunks)
-    ∙ (ap (λ rs. flat (grouped c.end_group.new.self.groups) ++ rs) (flat-moved c.args.start chunks) ∙ ap (λ rs. rs ++ more) ended)))))
+    ∙ (flat-append (grouped c.end_groups.new.self.groups) (map (move c.args.start) chunks)
+    ∙ (ap (λ rs. flat (grouped c.end_groups.new.self.groups) ++ rs) (flat-moved c.args.start chunks) ∙ ap (λ rs. rs ++ more) ended)))))
     c.share.ensures.ranges

@@ -2,7 +2,7 @@ use Rattle.std.proofs.Common.{◌≡◌, ◌++◌, sym, ap, subst, ◌∙◌}
 use Rattle.std.proofs.lemmas.Result.{IfOk-weaker}
 use Rattle.range_set.specs.PrivateChunks.{Ascend, built, flat, grouped, put_down}
 use Rattle.range_set.proofs.Chunks.{flat-append}
-use Rattle.range_set.proofs.mapped_builder.MappedBuilder.end_group.Goals as goal
+use Rattle.range_set.proofs.mapped_builder.MappedBuilder.end_groups.Goals as goal
 
 pub put_all-requires-clause-order : goal.put_all-requires-clause-order
 put_all-requires-clause-order g c =
