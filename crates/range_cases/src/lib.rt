@@ -5,6 +5,8 @@
 #[cfg(test)]
 mod decorations;
 #[cfg(test)]
+mod grouping;
+#[cfg(test)]
 mod numbered;
 #[cfg(test)]
 mod ordering;

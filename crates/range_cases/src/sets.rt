@@ -59,6 +59,28 @@ fn only_an_inclusive_span_may_become_empty(rt: HostRuntime) -> Result<(), Fail> 
 }
 
 #[test]
+fn ranges_beside_a_change_are_moved(rt: HostRuntime) -> Result<(), Fail> {
+    let rows = [
+        (0, 4, 0, 0, 1),
+        (6, 6, 1, -1, 2),
+        (6, 8, 1, 2, 3),
+        (10, 20, 0, 0, 4),
+        (24, 30, 0, 0, 5),
+        (33, 36, 0, 0, 6),
+    ];
+    let sections = [
+        Section::Keep(8),
+        Section::Replace(0, 5),
+        Section::Keep(17),
+        Section::Replace(3, 0),
+        Section::Keep(12),
+    ];
+    let want = [(0, 4, 1), (6, 13, 3), (15, 25, 4), (29, 32, 5), (35, 38, 6)];
+    assert!(rt; maps_to(rt.alloc(), &rows, &sections, &want)?);
+    Ok(())
+}
+
+#[test]
 fn the_first_fault_is_told(rt: HostRuntime) -> Result<(), Fail> {
     let unsorted = [(1, 1, 0, 0, 1), (0, 1, 0, 0, 2), (3, 2, 0, 0, 3)];
     let both = [(5, 5, 0, 0, 1), (4, 3, 0, 0, 2)];

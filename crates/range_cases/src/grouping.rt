@@ -1,0 +1,191 @@
+// Groups of chunks of points that stand ten characters apart, most of which refuse to be copied.
+use crate::numbered::{Numbered, described};
+use change_desc::Section;
+use range_set::{Iter, RangeSet, Ranged};
+use std::alloc::{AllocError, Global};
+use std::test::*;
+
+/// The first and the last number of points that may be copied, twice.
+type Copied = [(u32, u32); 2];
+
+fn may_be_copied(copied: &Copied, number: u32) -> bool {
+    copied
+        .iter()
+        .any(|(first, last)| *first <= number && number <= *last)
+}
+
+fn value(copied: &Copied, number: u32) -> Numbered {
+    let most = if may_be_copied(copied, number) {
+        u32::MAX
+    } else {
+        0
+    };
+    Numbered {
+        start: 1,
+        end: 1,
+        number,
+        most,
+    }
+}
+
+/// Points at 10, 20 and so on, numbered from 1.
+fn points(alloc: Global, count: u32, copied: &Copied) -> Result<RangeSet<Numbered>, Fail> {
+    let mut ranges = Vec::new(alloc);
+    for index in 0..count {
+        let number = index.wrapping_add(1);
+        let place = number.wrapping_mul(10);
+        ranges.push(Ranged {
+            from: place,
+            to: place,
+            value: value(copied, number),
+        })?;
+    }
+    Ok(RangeSet::of(ranges)?)
+}
+
+/// The points from one number to another, each so far after ten times its number, or before it.
+type Row = (u32, u32, i64);
+
+/// Whether the next points are those of a row.
+fn row_stands(ranges: &mut Iter<'_, Numbered>, row: &Row) -> bool {
+    let (first, last, by) = row;
+    for number in *first..last.wrapping_add(1) {
+        let want = i64::from(number).wrapping_mul(10).wrapping_add(*by);
+        match ranges.next() {
+            None => return false,
+            Some(range) => {
+                let place = i64::from(range.from);
+                if place != want || range.to != range.from || range.value.number != number {
+                    return false;
+                }
+            }
+        }
+    }
+    true
+}
+
+fn rows_stand(set: &RangeSet<Numbered>, rows: &[Row]) -> bool {
+    let mut ranges = set.iter();
+    for row in rows {
+        if !row_stands(&mut ranges, row) {
+            return false;
+        }
+    }
+    ranges.next().is_none()
+}
+
+/// A set mapped over changes: `None` where it can't be, or out of memory.
+fn mapped(
+    alloc: Global,
+    set: &RangeSet<Numbered>,
+    sections: &[Section<u32>],
+) -> Result<Option<RangeSet<Numbered>>, AllocError> {
+    let changes = described(alloc, sections)?;
+    if !set.ends_within(changes.len()) {
+        return Ok(None);
+    }
+    Ok(set.map(&changes).ok())
+}
+
+/// So many points mapped over changes, one after another.
+fn all_mapped(
+    alloc: Global,
+    count: u32,
+    copied: &Copied,
+    steps: &[&[Section<u32>]],
+) -> Result<Option<RangeSet<Numbered>>, Fail> {
+    let mut set = points(alloc, count, copied)?;
+    for sections in steps {
+        match mapped(alloc, &set, sections)? {
+            Some(next) => set = next,
+            None => return Ok(None),
+        }
+    }
+    Ok(Some(set))
+}
+
+/// Whether the points so mapped are those of these rows: `None` where they can't be mapped, or out of memory.
+fn stand_after(
+    alloc: Global,
+    count: u32,
+    copied: &Copied,
+    steps: &[&[Section<u32>]],
+    rows: &[Row],
+) -> Result<Option<bool>, Fail> {
+    match all_mapped(alloc, count, copied, steps)? {
+        Some(set) => Ok(Some(rows_stand(&set, rows))),
+        None => Ok(None),
+    }
+}
+
+#[test]
+fn chunks_between_two_changes_are_shared(rt: HostRuntime) -> Result<(), Fail> {
+    let step = [
+        Section::Keep(165),
+        Section::Replace(0, 3),
+        Section::Keep(59_840),
+        Section::Replace(0, 3),
+        Section::Keep(4_000),
+    ];
+    let rows = [(1, 16, 0), (17, 6000, 3), (6001, 6400, 6)];
+    let steps: [&[Section<u32>]; 1] = [&step];
+    for (copied, want) in &[
+        ([(1, 32), (5985, 6016)], Some(true)),
+        ([(2, 32), (5985, 6016)], None),
+        ([(1, 32), (5986, 6016)], None),
+    ] {
+        assert!(rt; stand_after(rt.alloc(), 6400, copied, &steps, &rows)? == *want);
+    }
+    Ok(())
+}
+
+/// 2,240 points, of which the first group keeps one chunk, and an insertion into it: a run and a shared group after it.
+#[test]
+fn a_group_after_a_run_is_shared(rt: HostRuntime) -> Result<(), Fail> {
+    let less = [
+        Section::Keep(325),
+        Section::Replace(4_800, 0),
+        Section::Keep(17_375),
+    ];
+    let more = [
+        Section::Keep(165),
+        Section::Replace(0, 3),
+        Section::Keep(17_535),
+    ];
+    let steps: [&[Section<u32>]; 2] = [&less, &more];
+    let rows = [(1, 16, 0), (17, 32, 3), (513, 2240, -4_797)];
+    assert!(rt; stand_after(rt.alloc(), 2240, &[(1, 32), (0, 0)], &steps, &rows)? == Some(true));
+    Ok(())
+}
+
+/// 2,240 points, of which the last group but one keeps one chunk, which becomes one group with those of the last, and insertions into
+/// both.
+#[test]
+fn two_small_groups_become_one(rt: HostRuntime) -> Result<(), Fail> {
+    let less = [
+        Section::Keep(15_685),
+        Section::Replace(4_800, 0),
+        Section::Keep(2_015),
+    ];
+    let more = [
+        Section::Keep(15_675),
+        Section::Replace(0, 3),
+        Section::Keep(20),
+        Section::Replace(0, 3),
+        Section::Keep(2_005),
+    ];
+    let steps: [&[Section<u32>]; 2] = [&less, &more];
+    let rows = [
+        (1, 1567, 0),
+        (1568, 1568, 3),
+        (2049, 2049, -4_797),
+        (2050, 2240, -4_794),
+    ];
+    for (copied, want) in &[
+        ([(1537, 1568), (2049, 2080)], Some(true)),
+        ([(1537, 1568), (2049, 2079)], None),
+    ] {
+        assert!(rt; stand_after(rt.alloc(), 2240, copied, &steps, &rows)? == *want);
+    }
+    Ok(())
+}
