@@ -31,6 +31,10 @@ or_right : (a b : Bool) → (a || b) ≡ false → b ≡ false
 or_right false b h = h
 or_right true b h = cc
 
+-- a clear place goes into the new text
+pub clear_within : (d : Sections) (p : ℕ) → p ≤ old_size d → IsClear p p d → clear_place d p ≤ new_size counted d
+clear_within d p l h = let w : IfSome (Some (clear_place d p)) (λ q. q ≤ new_size counted d) = subst (λ o. IfSome o (λ q. q ≤ new_size counted d)) (map_pos-clear d p true Simple l h) (map_pos-within d p true Simple) in w
+
 module _ {T : Type 0} where
   -- the next chunk begins at a place or before
   abbrev pub StartsBy : ℕ → List (Placed T) → Type 0
@@ -89,6 +93,16 @@ module _ {T : Type 0} (rules : RangeRules T) (d : Sections) where
     same = λ a b s. ap (list_any (meets a b)) e;
   }
 
+  -- a walk that didn't come so far
+  pub walked_less : (whole : List (Ranged T)) (rest : List (Placed T)) (done run : List (Ranged T)) (m n : ℕ) (reps : List ChangedRange) → m ≤ n → IsWalked whole rest done run n reps → IsWalked whole rest done run m reps
+  walked_less whole rest done run m n reps l h = record {
+    under = h.under;
+    chunks = h.chunks;
+    within = h.within;
+    ascend = ascend-less m n (flat rest) l h.ascend;
+    same = h.same;
+  }
+
   -- whether a chunk's ranges are mapped by themselves is seen by the replaced ranges that are left
   pub affected_same : (whole : List (Ranged T)) (p : Placed T) (rest : List (Placed T)) (done run : List (Ranged T)) (reached : ℕ) (reps after : List ChangedRange) → IsWalked whole (p ∷ rest) done run reached reps
       → ((a b : ℕ) → p.start ≤ a → list_any (meets a b) after ≡ list_any (meets a b) reps) → (b : Bool)
@@ -130,9 +144,6 @@ module _ {T : Type 0} (rules : RangeRules T) (d : Sections) where
   hull_within len start (r ∷ []) some w = omega (arith, w.0.1)
   hull_within len start (r ∷ q ∷ rs) some w = let k = hull_within len start (q ∷ rs) (omega arith) w.1 in omega (arith, w.0.1, k)
 
-  pub clear_within : (p : ℕ) → p ≤ old_size d → IsClear p p d → clear_place d p ≤ new_size counted d
-  clear_within p l h = let w : IfSome (Some (clear_place d p)) (λ q. q ≤ new_size counted d) = subst (λ o. IfSome o (λ q. q ≤ new_size counted d)) (map_pos-clear d p true Simple l h) (map_pos-within d p true Simple) in w
-
   -- what ranges give whose hull no change meets
   pub record IsClearHull (start reach : ℕ) (rs : List (Ranged T)) : Type 0 where
     pub clear : IsClear start start d
@@ -149,7 +160,7 @@ module _ {T : Type 0} (rules : RangeRules T) (d : Sections) where
       let end : start + reach ≤ old_size d = let k = hull_within (old_size d) start rs some inside in omega (arith, k, reach_is) in
       let far = clear_apart d start (start + reach) (omega arith) hull in
       let last = none-narrow start (start + reach) (start + reach) (start + reach) (replaced d) (omega arith) (omega arith) hull in
-      let bound = clear_within (start + reach) end last in
+      let bound = clear_within d (start + reach) end last in
       record {
         clear = none-narrow start (start + reach) start start (replaced d) (omega arith) (omega arith) hull;
         inside = omega (arith, end);

@@ -8,7 +8,7 @@ use Rattle.change_desc.specs.declared.changed_range.ChangedRange.{ChangedRange}
 use Rattle.stable_order.specs.StableSort.{stable_sort}
 use Rattle.range_set.specs.Rules.{RangeRules}
 use Rattle.range_set.specs.Order.{before}
-use Rattle.range_set.specs.PrivateChunks.{AreChunks, AreGroups, Ascend, first_start, flat, move, shift, spread}
+use Rattle.range_set.specs.PrivateChunks.{AreChunks, AreGroups, Ascend, IsGroup, first_start, flat, move, shift, spread}
 use Rattle.range_set.specs.declared.ranged.Ranged.{Ranged}
 use Rattle.range_set.specs.declared.chunk.Placed.{Placed}
 use Rattle.range_set.specs.declared.group.PlacedGroup.{PlacedGroup}
@@ -70,6 +70,14 @@ module _ {T : Type 0} (rules : RangeRules T) (d : Sections) where
   are_left : (ps qs : List (Placed T)) → AreChunks rules (ps ++ qs) → AreChunks rules qs
   are_left [] qs h = h
   are_left (p ∷ ps) qs h = are_left ps qs h.1
+
+  -- the chunks from a group on begin by each place that isn't before it
+  pub starts_at : (gs : List (PlacedGroup T)) (i : ℕ) (g : PlacedGroup T) → i < length gs → g ≡ get_or gs i g → (a : ℕ) → IsGroup rules g.start g.group.value → 1 ≤ length (flat g.group.value.chunks.items) → g.start ≤ a
+      → StartsBy a (spread (drop i gs))
+  starts_at gs i g l e a group some m =
+      let next = spread (drop (i + 1) gs) in
+      subst (StartsBy a) (sym (ap spread (rest_at gs i g l e)))
+      (starts_more g.start a (map (move g.start) g.group.value.chunks.items) next m (group_first g.start g.group.value.chunks.items next group.chunks some group.first))
 
   -- what comes after the next chunks or groups begins no earlier than they
   skipped : (n start a : ℕ) (rs : List (Ranged T)) (ps : List (Placed T)) → AreChunks rules ps → 1 ≤ length rs → first_start rs ≡ 0 → Ascend n (map (shift start) rs ++ flat ps) → StartsBy a ps → start ≤ a

@@ -7,6 +7,7 @@ pub mod Seen
 pub mod Points
 pub mod Examples
 pub mod PrivateChunks
+pub mod PrivateMoving
 pub mod PrivateUpdates
 pub use Rattle.change_desc.specs.Sections
 pub use Rattle.change_desc.specs.Ranges

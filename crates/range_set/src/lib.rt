@@ -10,6 +10,7 @@ mod between;
 mod chunk;
 mod chunk_builder;
 mod chunk_iter;
+mod clear_walk;
 mod group;
 mod group_builder;
 mod group_list;

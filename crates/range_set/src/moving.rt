@@ -7,16 +7,18 @@ ghost use Rattle.change_desc.specs.Sections.{counted, new_size, old_size};
 ghost use Rattle.range_set.specs.declared.ranged.Ranged.{Ranged};
 ghost use Rattle.range_set.specs.Mapping.{EndWithin, map_ranges, moved, most_mapped};
 ghost use Rattle.range_set.specs.Order.{first_fault};
+ghost use Rattle.range_set.specs.PrivateMoving.{IsClearWalk};
 ghost use Rattle.range_set.specs.PrivateChunks.{AreGroups, AreGroupsOf, Ascend, IsChunk, flat, shift, spread};
 
 use crate::chunk::Chunk;
+use crate::clear_walk::ClearWalk;
 use crate::group::PlacedGroup;
 use crate::group_list::GroupList;
 use crate::mapped_builder::MappedBuilder;
 use crate::range_ref::RangeRef;
 use crate::range_value::RangeValue;
 use crate::ranged::Ranged;
-use change_desc::{ChangedRange, Desc, PositionIndex, PositionWalker, first_meets, ranges_from};
+use change_desc::{ChangedRange, Desc, PositionIndex, first_meets, ranges_from};
 use std::alloc::{AllocError, Global};
 use std::rc::Rc;
 use std::sync::ledger::Ledger;
@@ -48,11 +50,11 @@ pub(crate) fn mapped_groups<T: RangeValue, L: Ledger>(
 /// unless it becomes one with chunks before it; of the others the same holds of each chunk. The ranges of the other chunks are
 /// mapped each by itself, which raises `mapped` by one. The ranges between two that are shared are sorted by themselves, since
 /// what is shared parts those before it from those after it. `Err`: out of memory.
-fn map_all<T: RangeValue, L: Ledger>(
+fn map_all<'a, T: RangeValue, L: Ledger>(
     alloc: Global,
     groups: &[PlacedGroup<T>],
-    changes: &Desc,
-    changed: &[ChangedRange],
+    changes: &'a Desc,
+    changed: &'a [ChangedRange],
     index: &PositionIndex,
     mapped: &mut Steps<L>,
 ) -> Result<(GroupList<T>, usize), AllocError>
@@ -69,7 +71,7 @@ fn map_all<T: RangeValue, L: Ledger>(
     // The proof takes from this line that lengths of the new document fit u32.
     let _new_len = changes.new_len();
     let mut replaced = changed;
-    let mut walker = PositionWalker::new(changes);
+    let mut walk = ClearWalk::new(changes);
     let mut builder = MappedBuilder::with_room(alloc, groups.len())?;
     for placed in groups {
         replaced = ranges_from(replaced, placed.start);
@@ -83,18 +85,18 @@ fn map_all<T: RangeValue, L: Ledger>(
                         start,
                         &inner.chunk,
                         replaced,
-                        &mut walker,
+                        &mut walk,
                         index,
                         &mut builder.run,
                         mapped,
                     )?;
                 } else {
-                    let start = walker.place_after(start, -1);
+                    let start = walk.place_after(start, replaced);
                     builder.share_chunk(start, &inner.chunk)?;
                 }
             }
         } else {
-            let start = walker.place_after(placed.start, -1);
+            let start = walk.place_after(placed.start, replaced);
             builder.share_group(start, &placed.group)?;
         }
     }
@@ -140,25 +142,27 @@ fn is_affected<T: RangeValue>(start: u32, chunk: &Rc<Chunk<T>>, replaced: &[Chan
 
 /// Puts the ranges of a chunk at the place `start` that the changes of a walk keep, moved, after a run of others. The ranges that the
 /// changes replace are given from the first on that may meet the chunk. `Err`: out of memory.
-fn map_each<T: RangeValue, L: Ledger>(
+fn map_each<'a, T: RangeValue, L: Ledger>(
     start: u32,
     chunk: &Rc<Chunk<T>>,
-    changed: &[ChangedRange],
-    walker: &mut PositionWalker,
+    changed: &'a [ChangedRange],
+    walk: &mut ClearWalk<'a>,
     index: &PositionIndex,
     run: &mut Vec<Ranged<T>>,
     mapped: &mut Steps<L>,
 ) -> Result<(), AllocError>
-    requires index { index.now ≡ walker.old.desc }
+    requires walk { IsClearWalk walk.old }
+    requires index { index.now ≡ walk.old.walker.desc }
     requires order { BeginAfter 0 changed.now }
-    requires same { (a b : ℕ) → start ≤ a → list_any (meets a b) changed.now ≡ list_any (meets a b) (replaced walker.old.desc) }
-    requires room { new_size counted walker.old.desc < 2 ^ 32 }
+    requires same { (a b : ℕ) → start ≤ a → list_any (meets a b) changed.now ≡ list_any (meets a b) (replaced walk.old.walker.desc) }
+    requires room { new_size counted walk.old.walker.desc < 2 ^ 32 }
     requires chunk { IsChunk T.rules start chunk.now.value }
-    requires inside { EndWithin (old_size walker.old.desc) (map (shift start) chunk.now.value.ranges.items) }
-    requires ascending { Ascend walker.old.reached (map (shift start) chunk.now.value.ranges.items) }
-    ensures run { IfOk result (λ _. run.new.items ≡ run.old.items ++ filter_map (moved T.rules walker.old.desc) (map (shift start) chunk.now.value.ranges.items)) }
-    ensures desc { IfOk result (λ _. walker.new.desc ≡ walker.old.desc) }
-    ensures walk { IfOk result (λ _. (later : _) → Ascend walker.old.reached (map (shift start) chunk.now.value.ranges.items ++ later) → Ascend walker.new.reached later) }
+    requires inside { EndWithin (old_size walk.old.walker.desc) (map (shift start) chunk.now.value.ranges.items) }
+    requires ascending { Ascend walk.old.walker.reached (map (shift start) chunk.now.value.ranges.items) }
+    ensures run { IfOk result (λ _. run.new.items ≡ run.old.items ++ filter_map (moved T.rules walk.old.walker.desc) (map (shift start) chunk.now.value.ranges.items)) }
+    ensures clear { IfOk result (λ _. IsClearWalk walk.new) }
+    ensures desc { IfOk result (λ _. walk.new.walker.desc ≡ walk.old.walker.desc) }
+    ensures walk { IfOk result (λ _. (later : _) → Ascend walk.old.walker.reached (map (shift start) chunk.now.value.ranges.items ++ later) → Ascend walk.new.walker.reached later) }
     ensures cost { mapped.new ≤ mapped.old + length chunk.now.value.ranges.items }
 {
     let alloc = *run.allocator();
@@ -172,7 +176,7 @@ fn map_each<T: RangeValue, L: Ledger>(
             value: &range.value,
         };
         left = ranges_from(left, range.from);
-        match range.moved_among(alloc, left, walker, index)? {
+        match range.moved_among(alloc, left, walk, index)? {
             Some(moved) => run.push(moved)?,
             None => {}
         }

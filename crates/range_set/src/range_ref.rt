@@ -1,11 +1,13 @@
-ghost use Rattle.std.specs.Prelude.{◌≡◌, ◌↔◌, ◌≤◌, ◌<◌, ◌^◌, IfOk, IsTrue};
+ghost use Rattle.std.specs.Prelude.{◌≡◌, ◌↔◌, ◌≤◌, ◌<◌, ◌^◌, ℕ, IfOk, IsTrue};
 ghost use Rattle.std.specs.List.{list_any};
 ghost use Rattle.change_desc.specs.Meeting.{BeginAfter, EndsAtOrAfter};
 ghost use Rattle.change_desc.specs.Ranges.{meets, replaced};
 ghost use Rattle.change_desc.specs.Sections.{counted, new_size, old_size};
 ghost use Rattle.range_set.specs.Mapping.{ends_unless_turned, is_turned, moved, new_ends, point_ends, span_ends};
+ghost use Rattle.range_set.specs.PrivateMoving.{IsClearWalk};
 ghost use Rattle.range_set.specs.Seen.{seen};
 
+use crate::clear_walk::ClearWalk;
 use crate::range_value::RangeValue;
 use crate::ranged::Ranged;
 use change_desc::{ChangedRange, MapMode, PositionIndex, PositionWalker, first_meets};
@@ -66,29 +68,32 @@ impl<'a, T: RangeValue> RangeRef<'a, T> {
 
     /// What `moved` answers, where the ranges that the changes replace are given from the first on that doesn't end before this one.
     /// A range that none of them meets is only moved, its end as far as its start. `Err`: out of memory.
-    pub(crate) fn moved_among(
+    pub(crate) fn moved_among<'b>(
         &self,
         alloc: Global,
-        changed: &[ChangedRange],
-        walker: &mut PositionWalker,
+        changed: &'b [ChangedRange],
+        walk: &mut ClearWalk<'b>,
         index: &PositionIndex,
     ) -> Result<Option<Ranged<T>>, AllocError>
-        requires index { index.now ≡ walker.old.desc }
-        requires start { self.now.from ≤ old_size walker.old.desc }
-        requires end { self.now.to ≤ old_size walker.old.desc }
+        requires walk { IsClearWalk walk.old }
+        requires index { index.now ≡ walk.old.walker.desc }
+        requires start { self.now.from ≤ old_size walk.old.walker.desc }
+        requires end { self.now.to ≤ old_size walk.old.walker.desc }
         requires forward { self.now.from ≤ self.now.to }
-        requires ascending { walker.old.reached ≤ self.now.from }
+        requires ascending { walk.old.walker.reached ≤ self.now.from }
         requires order { BeginAfter 0 changed.now }
         requires first { EndsAtOrAfter self.now.from changed.now }
-        requires same { list_any (meets self.now.from self.now.to) changed.now ≡ list_any (meets self.now.from self.now.to) (replaced walker.old.desc) }
-        requires room { new_size counted walker.old.desc < 2 ^ 32 }
-        ensures value { IfOk result (λ range. range ≡ moved T.rules walker.old.desc (seen self.now)) }
-        ensures walk { walker.new ≡ record { desc = walker.old.desc; reached = self.now.from } }
+        requires same { (a b : ℕ) → self.now.from ≤ a → list_any (meets a b) changed.now ≡ list_any (meets a b) (replaced walk.old.walker.desc) }
+        requires room { new_size counted walk.old.walker.desc < 2 ^ 32 }
+        ensures value { IfOk result (λ range. range ≡ moved T.rules walk.old.walker.desc (seen self.now)) }
+        ensures walk { IsClearWalk walk.new }
+        ensures desc { walk.new.walker.desc ≡ walk.old.walker.desc }
+        ensures reached { walk.new.walker.reached ≤ self.now.from }
     {
         if self.is_turned() || first_meets(changed, self.from, self.to) {
-            return self.moved(alloc, walker, index);
+            return self.moved(alloc, &mut walk.walker, index);
         }
-        let from = walker.place_after(self.from, -1);
+        let from = walk.place_after(self.from, changed);
         let to = from + (self.to - self.from);
         let value = self.value.try_copy(alloc)?;
         Ok(Some(Ranged { from, to, value }))

@@ -25,6 +25,21 @@ pub(crate) fn put_sorted<T: RangeValue>(
     if run.is_empty() {
         return Ok(());
     }
+    put_run(run, builder)
+}
+
+/// Sorts a run of mapped ranges that may be long and puts them after those of a builder; none is left. `Err`: out of memory.
+fn put_run<T: RangeValue>(
+    run: &mut Vec<Ranged<T>>,
+    builder: &mut ChunkBuilder<T>,
+) -> Result<(), AllocError>
+    requires builder { IsBuilder T.rules builder.old }
+    requires order { Ascend 0 (built builder.old ++ stable_sort (before T.rules) run.old.items) }
+    requires forward { AllForward run.old.items }
+    ensures builder { IfOk result (λ _. IsBuilder T.rules builder.new) }
+    ensures ranges { IfOk result (λ _. built builder.new ≡ built builder.old ++ stable_sort (before T.rules) run.old.items) }
+    ensures none { IfOk result (λ _. run.new.items ≡ []) }
+{
     let alloc = *run.allocator();
     let mut ranges = mem::replace(run, Vec::new(alloc));
     sort_stably(&mut ranges)?;

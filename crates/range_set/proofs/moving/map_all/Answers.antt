@@ -1,4 +1,4 @@
-use Rattle.std.proofs.Common.{◌≡◌, ◌+◌, ◌<◌, ◌≤◌, List, get_or, ◌++◌, drop, map, filter_map, length, true, false, ap, subst, sym, ◌∙◌, arith}
+use Rattle.std.proofs.Common.{[], ◌≡◌, ◌+◌, ◌<◌, ◌≤◌, List, get_or, ◌++◌, drop, map, filter_map, length, true, false, ap, subst, sym, ◌∙◌, arith}
 use Rattle.std.proofs.lemmas.Result.{IfOk-weaker}
 use Rattle.std.specs.Prelude.{unwrap_or}
 use Rattle.std.specs.List.{list_any}
@@ -16,14 +16,14 @@ use Rattle.range_set.specs.PrivateChunks.{flat, move, put_down, shift, spread}
 use Rattle.range_set.specs.declared.chunk.Placed.{Placed}
 use Rattle.range_set.specs.declared.group.Group.{Group}
 use Rattle.range_set.proofs.Chunks.{ascend-prefix}
-use Rattle.range_set.proofs.Clear.{Sections, clear_place, map_pos-clear}
+use Rattle.range_set.proofs.Clear.{IsClear, Sections, clear_place, map_pos-clear}
 use Rattle.range_set.proofs.Cost.{allowance, allowed}
 use Rattle.range_set.proofs.Each.{Within, end_within, within}
 use Rattle.range_set.proofs.Groups.{are_spread, chunk_placed, group-at, group_placed}
 use Rattle.range_set.proofs.RangeOrder.{rises-no_fault}
 use Rattle.range_set.proofs.Under.{rises_ascend, under_end, under_end_order}
-use Rattle.range_set.proofs.Walked.{IsWalked, affected_same, clear_chunk, run_forward, walked_clear, walked_each, walked_init, within_prefix}
-use Rattle.range_set.proofs.WalkedGroups.{allowance_group, allowance_inner, allowance_open, at_inner, at_last, clear_group, no_inner, walked_group, walked_open}
+use Rattle.range_set.proofs.Walked.{IsWalked, affected_same, clear_chunk, run_forward, walked_clear, walked_each, walked_init, walked_less, within_prefix}
+use Rattle.range_set.proofs.WalkedGroups.{allowance_group, allowance_inner, allowance_open, at_inner, at_last, clear_group, no_inner, starts_at, walked_group, walked_open}
 use Rattle.range_set.proofs.moving.map_all.Goals as goal
 use Rattle.range_set.proofs.moving.map_all.Goals.{then-is_affected+in_ok-map_each, else-is_affected+in_ok-share_chunk, then-is_opened+in_ok-reserve+else-loop-inner-test, else-is_opened+in_ok-share_group}
 
@@ -35,9 +35,10 @@ loop-placed-init g c =
     let reps = c.requires.replaced in
     record {
       builder = c.in_ok-builder.ensures.builder;
-      walked = rw (c.in_ok-builder.ensures.ranges, c.in_ok-builder.ensures.none, c.new-walker.ensures)
+      walked = rw (c.in_ok-builder.ensures.ranges, c.in_ok-builder.ensures.none, c.new-walk.ensures.start)
           (walked_init rules d ps c.args.changed.now (are_spread rules c.args.groups.now c.requires.groups) (rises-no_fault rules (flat ps) c.requires.order) (within (old_size d) (flat ps) c.requires.inside) reps);
-      desc = ap (λ (w : Walk). w.desc) c.new-walker.ensures;
+      desc = ap (λ (w : Walk). w.desc) c.new-walk.ensures.start;
+      clear = c.new-walk.ensures.walk;
       begin = subst (BeginAfter 0) (sym reps) (replaced-begin 0 0 d);
       cost = omega arith;
     }
@@ -65,9 +66,10 @@ loop-inner-init g c =
     let kept = c.loop-placed.invariant in
     record {
       builder = c.reserve.ensures.builder;
-      walked = rw (c.reserve.ensures.ranges, ap (λ v. v.items) c.reserve.ensures.run) (walked_open rules d (flat (spread gs)) gs i p (put_down c.loop-placed.builder) c.loop-placed.builder.run.items c.loop-placed.walker.reached c.loop-placed.replaced.now c.ranges_from-replaced.result.now l c.placed-item.is
+      walked = rw (c.reserve.ensures.ranges, ap (λ v. v.items) c.reserve.ensures.run) (walked_open rules d (flat (spread gs)) gs i p (put_down c.loop-placed.builder) c.loop-placed.builder.run.items c.loop-placed.walk.walker.reached c.loop-placed.replaced.now c.ranges_from-replaced.result.now l c.placed-item.is
           (group-at rules gs i p l c.placed-item.is c.requires.groups).1 c.ranges_from-replaced.ensures.same kept.walked);
       desc = kept.desc;
+      clear = kept.clear;
       begin = c.ranges_from-replaced.ensures.order;
       cost = let a = kept.cost in let b = allowance_open rules d gs i p l c.placed-item.is in omega (arith, a, b);
     }
@@ -88,8 +90,8 @@ map_each-requires-clause-inside g c =
     let rest = map (move start) (drop (j + 1) ps) ++ later in
     let ranges = map (shift (p.start + start)) p.chunk.value.ranges.items in
     let kept = c.loop-inner.invariant in
-    let here = at_inner rules d (flat (spread gs)) start ps j p later (put_down c.loop-inner.builder) c.loop-inner.builder.run.items c.loop-inner.walker.reached c.loop-inner.replaced.now l is kept.walked in
-    end_within (old_size c.loop-inner.walker.desc) ranges
+    let here = at_inner rules d (flat (spread gs)) start ps j p later (put_down c.loop-inner.builder) c.loop-inner.builder.run.items c.loop-inner.walk.walker.reached c.loop-inner.replaced.now l is kept.walked in
+    end_within (old_size c.loop-inner.walk.walker.desc) ranges
     (subst (λ (s : Sections). Within (old_size s) ranges) (sym kept.desc) (within_prefix (old_size d) ranges (flat rest) here.within))
 
 pub map_each-requires-clause-ascending : goal.map_each-requires-clause-ascending
@@ -107,8 +109,8 @@ map_each-requires-clause-ascending g c =
     let later = spread (drop (c.loop-placed.placed-index + 1) gs) in
     let rest = map (move start) (drop (j + 1) ps) ++ later in
     let kept = c.loop-inner.invariant in
-    let here = at_inner rules d (flat (spread gs)) start ps j p later (put_down c.loop-inner.builder) c.loop-inner.builder.run.items c.loop-inner.walker.reached c.loop-inner.replaced.now l is kept.walked in
-    ascend-prefix c.loop-inner.walker.reached (map (shift (p.start + start)) p.chunk.value.ranges.items) (flat rest) here.ascend
+    let here = at_inner rules d (flat (spread gs)) start ps j p later (put_down c.loop-inner.builder) c.loop-inner.builder.run.items c.loop-inner.walk.walker.reached c.loop-inner.replaced.now l is kept.walked in
+    ascend-prefix c.loop-inner.walk.walker.reached (map (shift (p.start + start)) p.chunk.value.ranges.items) (flat rest) here.ascend
 
 pub map_each-requires-clause-same : goal.map_each-requires-clause-same
 map_each-requires-clause-same g c = λ a b l.
@@ -121,7 +123,7 @@ map_each-requires-clause-same g c = λ a b l.
     let is : p ≡ get_or ps c.loop-inner.inner-index p = subst (λ (xs : List (Placed g.row.T.Denot)). p ≡ get_or xs c.loop-inner.inner-index p) same c.inner-item.is in
     let kept = c.loop-inner.invariant in
     let here = at_inner g.T.RangeValue.rules d (flat (spread gs)) c.placed-item.result.start ps c.loop-inner.inner-index p (spread (drop (c.loop-placed.placed-index + 1) gs)) (put_down c.loop-inner.builder) c.loop-inner.builder.run.items
-    c.loop-inner.walker.reached c.loop-inner.replaced.now in_range is kept.walked in
+    c.loop-inner.walk.walker.reached c.loop-inner.replaced.now in_range is kept.walked in
     c.ranges_from-replaced-in-loop-inner.ensures.same a b l ∙ (here.same a b l ∙ ap (λ (x : Sections). list_any (meets a b) (replaced x)) (sym kept.desc))
 
 pub returns-in_err-map_each-clause-cost : goal.returns-in_err-map_each-clause-cost
@@ -140,7 +142,7 @@ returns-in_err-map_each-clause-cost g c =
     let rest = map (move start) (drop (j + 1) ps) ++ later in
     let done = put_down c.loop-inner.builder in
     let run = c.loop-inner.builder.run.items in
-    let reached = c.loop-inner.walker.reached in
+    let reached = c.loop-inner.walk.walker.reached in
     let reps = c.loop-inner.replaced.now in
     let kept = c.loop-inner.invariant in
     let here = at_inner rules d (flat (spread gs)) start ps j p later done run reached reps l is kept.walked in
@@ -151,6 +153,52 @@ returns-in_err-map_each-clause-cost g c =
     let few = here.chunks.0.0.few in
     let share = allowance_inner rules d start ps j p later true l is (sym affected ∙ c.if-is_affected.true) in
     omega (arith, top, spent, each, few, share)
+
+pub place_after-start-requires-clause-clear : goal.place_after-start-requires-clause-clear
+place_after-start-requires-clause-clear g c =
+    let rules = g.T.RangeValue.rules in
+    let d = c.args.changes.now in
+    let gs = c.args.groups.now in
+    let ps = c.placed-item.result.group.value.chunks.items in
+    let p = c.inner-item.result in
+    let same = c.deref-inner-items.ensures.value ∙ ap (λ (x : Group g.row.T.Denot). x.chunks.items) c.deref-then-is_opened.ensures in
+    let l : c.loop-inner.inner-index < length ps = subst (λ (xs : List (Placed g.row.T.Denot)). c.loop-inner.inner-index < length xs) same c.loop-inner-test.true in
+    let is : p ≡ get_or ps c.loop-inner.inner-index p = subst (λ (xs : List (Placed g.row.T.Denot)). p ≡ get_or xs c.loop-inner.inner-index p) same c.inner-item.is in
+    let start = c.placed-item.result.start in
+    let j = c.loop-inner.inner-index in
+    let later = spread (drop (c.loop-placed.placed-index + 1) gs) in
+    let rest = map (move start) (drop (j + 1) ps) ++ later in
+    let done = put_down c.loop-inner.builder in
+    let run = c.loop-inner.builder.run.items in
+    let reached = c.loop-inner.walk.walker.reached in
+    let reps = c.loop-inner.replaced.now in
+    let kept = c.loop-inner.invariant in
+    let here = at_inner rules d (flat (spread gs)) start ps j p later done run reached reps l is kept.walked in
+    let affected = affected_same rules d (flat (spread gs)) (move start p) rest done run reached reps c.ranges_from-replaced-in-loop-inner.result.now here c.ranges_from-replaced-in-loop-inner.ensures.same c.is_affected.result c.is_affected.ensures in
+    let clear = clear_chunk rules d (flat (spread gs)) (move start p) rest done run reached reps here (sym affected ∙ c.if-is_affected.false) in
+    subst (λ (x : Sections). IsClear (p.start + start) (p.start + start) x) (sym kept.desc) clear.clear
+
+pub place_after-start-requires-clause-same : goal.place_after-start-requires-clause-same
+place_after-start-requires-clause-same g c = λ a b m.
+    let rules = g.T.RangeValue.rules in
+    let d = c.args.changes.now in
+    let gs = c.args.groups.now in
+    let ps = c.placed-item.result.group.value.chunks.items in
+    let p = c.inner-item.result in
+    let same = c.deref-inner-items.ensures.value ∙ ap (λ (x : Group g.row.T.Denot). x.chunks.items) c.deref-then-is_opened.ensures in
+    let l : c.loop-inner.inner-index < length ps = subst (λ (xs : List (Placed g.row.T.Denot)). c.loop-inner.inner-index < length xs) same c.loop-inner-test.true in
+    let is : p ≡ get_or ps c.loop-inner.inner-index p = subst (λ (xs : List (Placed g.row.T.Denot)). p ≡ get_or xs c.loop-inner.inner-index p) same c.inner-item.is in
+    let start = c.placed-item.result.start in
+    let j = c.loop-inner.inner-index in
+    let later = spread (drop (c.loop-placed.placed-index + 1) gs) in
+    let rest = map (move start) (drop (j + 1) ps) ++ later in
+    let done = put_down c.loop-inner.builder in
+    let run = c.loop-inner.builder.run.items in
+    let reached = c.loop-inner.walk.walker.reached in
+    let reps = c.loop-inner.replaced.now in
+    let kept = c.loop-inner.invariant in
+    let here = at_inner rules d (flat (spread gs)) start ps j p later done run reached reps l is kept.walked in
+    c.ranges_from-replaced-in-loop-inner.ensures.same a b m ∙ (here.same a b m ∙ ap (λ (x : Sections). list_any (meets a b) (replaced x)) (sym kept.desc))
 
 pub share_chunk-requires-clause-order : goal.share_chunk-requires-clause-order
 share_chunk-requires-clause-order g c =
@@ -168,7 +216,7 @@ share_chunk-requires-clause-order g c =
     let rest = map (move start) (drop (j + 1) ps) ++ later in
     let done = put_down c.loop-inner.builder in
     let run = c.loop-inner.builder.run.items in
-    let reached = c.loop-inner.walker.reached in
+    let reached = c.loop-inner.walk.walker.reached in
     let reps = c.loop-inner.replaced.now in
     let kept = c.loop-inner.invariant in
     let here = at_inner rules d (flat (spread gs)) start ps j p later done run reached reps l is kept.walked in
@@ -198,7 +246,7 @@ share_chunk-requires-clause-chunk g c =
     let rest = map (move base) (drop (j + 1) ps) ++ later in
     let done = put_down c.loop-inner.builder in
     let run = c.loop-inner.builder.run.items in
-    let reached = c.loop-inner.walker.reached in
+    let reached = c.loop-inner.walk.walker.reached in
     let reps = c.loop-inner.replaced.now in
     let kept = c.loop-inner.invariant in
     let here = at_inner rules d (flat (spread gs)) base ps j p later done run reached reps l is kept.walked in
@@ -236,7 +284,7 @@ loop-inner-preserved g c =
     let ranges = map (shift (p.start + base)) p.chunk.value.ranges.items in
     let done = put_down c.loop-inner.builder in
     let run = c.loop-inner.builder.run.items in
-    let reached = c.loop-inner.walker.reached in
+    let reached = c.loop-inner.walk.walker.reached in
     let reps = c.loop-inner.replaced.now in
     let after = c.ranges_from-replaced-in-loop-inner.result.now in
     let kept = c.loop-inner.invariant in
@@ -253,9 +301,10 @@ loop-inner-preserved g c =
           let moved_all = w.in_ok-map_each.ensures.run ∙ ap (λ (s : Sections). run ++ filter_map (moved rules s) ranges) kept.desc in
           record {
             builder = rw w.builder-is (record { groups = kept.builder.groups; chunks = kept.builder.chunks });
-            walked = rw (w.builder-is, w.walker-is)
-                (walked_each rules d (flat (spread gs)) (move base p) rest done run w.map_each.new.run.items reached w.map_each.new.walker.reached reps after here met moved_all w.in_ok-map_each.ensures.walk);
-            desc = rw w.walker-is (w.in_ok-map_each.ensures.desc ∙ kept.desc);
+            walked = rw (w.builder-is, w.walk-is)
+                (walked_each rules d (flat (spread gs)) (move base p) rest done run w.map_each.new.run.items reached w.map_each.new.walk.walker.reached reps after here met moved_all w.in_ok-map_each.ensures.walk);
+            desc = rw w.walk-is (w.in_ok-map_each.ensures.desc ∙ kept.desc);
+            clear = rw w.walk-is w.in_ok-map_each.ensures.clear;
             begin = begin;
             cost = rw w.mapped-is (omega (arith, spent, each, few, share));
           }
@@ -267,9 +316,11 @@ loop-inner-preserved g c =
           let more = w.in_ok-share_chunk.ensures.ranges ∙ ap (λ n. done ++ stable_sort (before rules) run ++ map (shift n) p.chunk.value.ranges.items) start in
           record {
             builder = rw w.builder-is w.in_ok-share_chunk.ensures.builder;
-            walked = rw (w.builder-is, w.walker-is, w.place_after-start.ensures.walk, w.in_ok-share_chunk.ensures.none)
-                (walked_clear rules d (flat (spread gs)) (move base p) rest done run (put_down w.share_chunk.new.self) reached reps after here met clear more);
-            desc = rw (w.walker-is, w.place_after-start.ensures.walk) kept.desc;
+            walked = rw (w.builder-is, w.walk-is, w.in_ok-share_chunk.ensures.none)
+                (walked_less rules d (flat (spread gs)) rest (put_down w.share_chunk.new.self) [] w.place_after-start.new.self.walker.reached (p.start + base) after w.place_after-start.ensures.reached
+                (walked_clear rules d (flat (spread gs)) (move base p) rest done run (put_down w.share_chunk.new.self) reached reps after here met clear more));
+            desc = rw w.walk-is (w.place_after-start.ensures.desc ∙ kept.desc);
+            clear = rw w.walk-is w.place_after-start.ensures.walk;
             begin = begin;
             cost = rw w.mapped-is (omega (arith, spent, share));
           }
@@ -288,7 +339,7 @@ place_after-start-requires-else-is_opened-clause-inside g c =
     let done = put_down c.loop-placed.builder in
     let run = c.loop-placed.builder.run.items in
     let kept = c.loop-placed.invariant in
-    let clear = clear_group rules d whole gs i p done run c.loop-placed.walker.reached c.loop-placed.replaced.now c.ranges_from-replaced.result.now l is c.requires.groups c.ranges_from-replaced.ensures.same kept.walked (c.is_opened.ensures c.if-is_opened.false) in
+    let clear = clear_group rules d whole gs i p done run c.loop-placed.walk.walker.reached c.loop-placed.replaced.now c.ranges_from-replaced.result.now l is c.requires.groups c.ranges_from-replaced.ensures.same kept.walked (c.is_opened.ensures c.if-is_opened.false) in
     let size = ap old_size kept.desc in
     let inside = clear.hull.inside in
     omega (arith, size, inside)
@@ -306,8 +357,37 @@ place_after-start-requires-else-is_opened-clause-ascending g c =
     let done = put_down c.loop-placed.builder in
     let run = c.loop-placed.builder.run.items in
     let kept = c.loop-placed.invariant in
-    let clear = clear_group rules d whole gs i p done run c.loop-placed.walker.reached c.loop-placed.replaced.now c.ranges_from-replaced.result.now l is c.requires.groups c.ranges_from-replaced.ensures.same kept.walked (c.is_opened.ensures c.if-is_opened.false) in
+    let clear = clear_group rules d whole gs i p done run c.loop-placed.walk.walker.reached c.loop-placed.replaced.now c.ranges_from-replaced.result.now l is c.requires.groups c.ranges_from-replaced.ensures.same kept.walked (c.is_opened.ensures c.if-is_opened.false) in
     clear.ascend
+
+pub place_after-start-requires-else-is_opened-clause-clear : goal.place_after-start-requires-else-is_opened-clause-clear
+place_after-start-requires-else-is_opened-clause-clear g c =
+    let rules = g.T.RangeValue.rules in
+    let d = c.args.changes.now in
+    let gs = c.args.groups.now in
+    let whole = flat (spread gs) in
+    let i = c.loop-placed.placed-index in
+    let p = c.placed-item.result in
+    let l = c.loop-placed-test.true in
+    let is = c.placed-item.is in
+    let done = put_down c.loop-placed.builder in
+    let run = c.loop-placed.builder.run.items in
+    let kept = c.loop-placed.invariant in
+    let clear = clear_group rules d whole gs i p done run c.loop-placed.walk.walker.reached c.loop-placed.replaced.now c.ranges_from-replaced.result.now l is c.requires.groups c.ranges_from-replaced.ensures.same kept.walked (c.is_opened.ensures c.if-is_opened.false) in
+    subst (λ (x : Sections). IsClear p.start p.start x) (sym kept.desc) clear.hull.clear
+
+pub place_after-start-requires-else-is_opened-clause-same : goal.place_after-start-requires-else-is_opened-clause-same
+place_after-start-requires-else-is_opened-clause-same g c = λ a b m.
+    let rules = g.T.RangeValue.rules in
+    let d = c.args.changes.now in
+    let gs = c.args.groups.now in
+    let i = c.loop-placed.placed-index in
+    let p = c.placed-item.result in
+    let l = c.loop-placed-test.true in
+    let is = c.placed-item.is in
+    let kept = c.loop-placed.invariant in
+    let begin = group-at rules gs i p l is c.requires.groups in
+    c.ranges_from-replaced.ensures.same a b m ∙ (kept.walked.same a b (starts_at rules d gs i p l is a begin.0 begin.1 m) ∙ ap (λ (x : Sections). list_any (meets a b) (replaced x)) (sym kept.desc))
 
 pub share_group-requires-clause-order : goal.share_group-requires-clause-order
 share_group-requires-clause-order g c =
@@ -322,7 +402,7 @@ share_group-requires-clause-order g c =
     let done = put_down c.loop-placed.builder in
     let run = c.loop-placed.builder.run.items in
     let kept = c.loop-placed.invariant in
-    let clear = clear_group rules d whole gs i p done run c.loop-placed.walker.reached c.loop-placed.replaced.now c.ranges_from-replaced.result.now l is c.requires.groups c.ranges_from-replaced.ensures.same kept.walked (c.is_opened.ensures c.if-is_opened.false) in
+    let clear = clear_group rules d whole gs i p done run c.loop-placed.walk.walker.reached c.loop-placed.replaced.now c.ranges_from-replaced.result.now l is c.requires.groups c.ranges_from-replaced.ensures.same kept.walked (c.is_opened.ensures c.if-is_opened.false) in
     clear.order
 
 pub share_group-requires-clause-forward : goal.share_group-requires-clause-forward
@@ -343,7 +423,7 @@ share_group-requires-clause-group g c =
     let done = put_down c.loop-placed.builder in
     let run = c.loop-placed.builder.run.items in
     let kept = c.loop-placed.invariant in
-    let clear = clear_group rules d whole gs i p done run c.loop-placed.walker.reached c.loop-placed.replaced.now c.ranges_from-replaced.result.now l is c.requires.groups c.ranges_from-replaced.ensures.same kept.walked (c.is_opened.ensures c.if-is_opened.false) in
+    let clear = clear_group rules d whole gs i p done run c.loop-placed.walk.walker.reached c.loop-placed.replaced.now c.ranges_from-replaced.result.now l is c.requires.groups c.ranges_from-replaced.ensures.same kept.walked (c.is_opened.ensures c.if-is_opened.false) in
     let start : c.place_after-start-else-is_opened.result ≡ clear_place d p.start =
     c.place_after-start-else-is_opened.ensures.value ∙ (ap (λ (x : Sections). place_after x p.start true) kept.desc ∙ ap (λ o. unwrap_or o 0) (map_pos-clear d p.start true Simple clear.hull.inside clear.hull.clear)) in
     let fits = clear.hull.fits in
@@ -368,7 +448,7 @@ share_group-requires-clause-room g c =
     let done = put_down c.loop-placed.builder in
     let run = c.loop-placed.builder.run.items in
     let kept = c.loop-placed.invariant in
-    let clear = clear_group rules d whole gs i p done run c.loop-placed.walker.reached c.loop-placed.replaced.now c.ranges_from-replaced.result.now l is c.requires.groups c.ranges_from-replaced.ensures.same kept.walked (c.is_opened.ensures c.if-is_opened.false) in
+    let clear = clear_group rules d whole gs i p done run c.loop-placed.walk.walker.reached c.loop-placed.replaced.now c.ranges_from-replaced.result.now l is c.requires.groups c.ranges_from-replaced.ensures.same kept.walked (c.is_opened.ensures c.if-is_opened.false) in
     let a = clear.room in
     let b = c.requires.room in
     omega (arith, a, b)
@@ -393,7 +473,7 @@ loop-placed-preserved g c =
     let is = c.placed-item.is in
     let done = put_down c.loop-placed.builder in
     let run = c.loop-placed.builder.run.items in
-    let reached = c.loop-placed.walker.reached in
+    let reached = c.loop-placed.walk.walker.reached in
     let reps = c.loop-placed.replaced.now in
     let after = c.ranges_from-replaced.result.now in
     let kept = c.loop-placed.invariant in
@@ -408,9 +488,10 @@ loop-placed-preserved g c =
           let inner = w.loop-inner.invariant in
           record {
             builder = rw w.builder-is inner.builder;
-            walked = rw (w.builder-is, w.walker-is, w.replaced-is)
-                (subst (λ qs. IsWalked rules d whole qs (put_down w.loop-inner.builder) w.loop-inner.builder.run.items w.loop-inner.walker.reached w.loop-inner.replaced.now) rest inner.walked);
-            desc = rw w.walker-is inner.desc;
+            walked = rw (w.builder-is, w.walk-is, w.replaced-is)
+                (subst (λ qs. IsWalked rules d whole qs (put_down w.loop-inner.builder) w.loop-inner.builder.run.items w.loop-inner.walk.walker.reached w.loop-inner.replaced.now) rest inner.walked);
+            desc = rw w.walk-is inner.desc;
+            clear = rw w.walk-is inner.clear;
             begin = rw w.replaced-is inner.begin;
             cost = rw w.mapped-is (let a = inner.cost in let b = ap (allowance rules d) rest in omega (arith, a, b));
           }
@@ -422,9 +503,11 @@ loop-placed-preserved g c =
           let share = allowance_group rules d gs i p l is in
           record {
             builder = rw w.builder-is w.in_ok-share_group.ensures.builder;
-            walked = rw (w.builder-is, w.walker-is, w.replaced-is, w.place_after-start-else-is_opened.ensures.walk, w.in_ok-share_group.ensures.none)
-                (walked_group rules d whole gs i p done run (put_down w.share_group.new.self) reached reps after l is c.requires.groups met kept.walked clear more);
-            desc = rw (w.walker-is, w.place_after-start-else-is_opened.ensures.walk) kept.desc;
+            walked = rw (w.builder-is, w.walk-is, w.replaced-is, w.in_ok-share_group.ensures.none)
+                (walked_less rules d whole next (put_down w.share_group.new.self) [] w.place_after-start-else-is_opened.new.self.walker.reached p.start after w.place_after-start-else-is_opened.ensures.reached
+                (walked_group rules d whole gs i p done run (put_down w.share_group.new.self) reached reps after l is c.requires.groups met kept.walked clear more));
+            desc = rw w.walk-is (w.place_after-start-else-is_opened.ensures.desc ∙ kept.desc);
+            clear = rw w.walk-is w.place_after-start-else-is_opened.ensures.walk;
             begin = rw w.replaced-is c.ranges_from-replaced.ensures.order;
             cost = rw w.mapped-is (let a = kept.cost in omega (arith, a, share));
           }
@@ -436,7 +519,7 @@ finish-requires-clause-order g c =
     let gs = c.args.groups.now in
     let done = put_down c.loop-placed.builder in
     let run = c.loop-placed.builder.run.items in
-    let under = at_last rules c.args.changes.now (flat (spread gs)) gs c.loop-placed.placed-index done run c.loop-placed.walker.reached c.loop-placed.replaced.now c.loop-placed-test.false c.loop-placed.invariant.walked in
+    let under = at_last rules c.args.changes.now (flat (spread gs)) gs c.loop-placed.placed-index done run c.loop-placed.walk.walker.reached c.loop-placed.replaced.now c.loop-placed-test.false c.loop-placed.invariant.walked in
     under_end_order rules c.args.changes.now (flat (spread gs)) done run under
 
 pub finish-requires-clause-forward : goal.finish-requires-clause-forward
@@ -457,7 +540,7 @@ returns-clause-ranges g c =
     let gs = c.args.groups.now in
     let done = put_down c.loop-placed.builder in
     let run = c.loop-placed.builder.run.items in
-    let under = at_last rules d (flat (spread gs)) gs c.loop-placed.placed-index done run c.loop-placed.walker.reached c.loop-placed.replaced.now c.loop-placed-test.false c.loop-placed.invariant.walked in
+    let under = at_last rules d (flat (spread gs)) gs c.loop-placed.placed-index done run c.loop-placed.walk.walker.reached c.loop-placed.replaced.now c.loop-placed-test.false c.loop-placed.invariant.walked in
     let sorted = sym (under_end rules d (flat (spread gs)) done run under) in
     IfOk-weaker c.finish.result (λ made. flat (spread made.0) ≡ done ++ stable_sort (before rules) run) (λ made. flat (spread made.0) ≡ map_ranges rules d (flat (spread gs))) (λ made e. e ∙ sorted) c.finish.ensures.ranges
 

@@ -1,6 +1,7 @@
 use Rattle.std.proofs.Common.{◌≡◌, ◌+◌, ◌≤◌, ◌++◌, drop, map}
 use Rattle.change_desc.specs.Meeting.{BeginAfter}
 use Rattle.range_set.specs.PrivateChunks.{IsMappedBuilder, flat, move, put_down, spread}
+use Rattle.range_set.specs.PrivateMoving.{IsClearWalk}
 use Rattle.range_set.proofs.Cost.{allowance}
 use Rattle.range_set.proofs.Walked.{IsWalked}
 use Rattle.range_set.proofs.moving.map_all.Given as goal
@@ -10,8 +11,9 @@ invariant-loop-placed g l =
     let rules = g.T.RangeValue.rules in
     record {
       builder : IsMappedBuilder rules l.builder;
-      walked : IsWalked rules l.changes (flat (spread l.groups)) (spread (drop l.placed-index l.groups)) (put_down l.builder) l.builder.run.items l.walker.reached l.replaced;
-      desc : l.walker.desc ≡ l.changes;
+      walked : IsWalked rules l.changes (flat (spread l.groups)) (spread (drop l.placed-index l.groups)) (put_down l.builder) l.builder.run.items l.walk.walker.reached l.replaced;
+      desc : l.walk.walker.desc ≡ l.changes;
+      clear : IsClearWalk l.walk;
       begin : BeginAfter 0 l.replaced;
       cost : l.mapped + allowance rules l.changes (spread (drop l.placed-index l.groups)) ≤ l.initial.mapped + allowance rules l.changes (spread l.groups);
     }
@@ -22,8 +24,9 @@ invariant-loop-inner g l =
     let rest = map (move l.placed.start) (drop l.inner-index l.placed.group.value.chunks.items) ++ spread (drop (l.placed-index + 1) l.groups) in
     record {
       builder : IsMappedBuilder rules l.builder;
-      walked : IsWalked rules l.changes (flat (spread l.groups)) rest (put_down l.builder) l.builder.run.items l.walker.reached l.replaced;
-      desc : l.walker.desc ≡ l.changes;
+      walked : IsWalked rules l.changes (flat (spread l.groups)) rest (put_down l.builder) l.builder.run.items l.walk.walker.reached l.replaced;
+      desc : l.walk.walker.desc ≡ l.changes;
+      clear : IsClearWalk l.walk;
       begin : BeginAfter 0 l.replaced;
       cost : l.mapped + allowance rules l.changes rest ≤ l.fn.mapped + allowance rules l.changes (spread l.groups);
     }

@@ -3,7 +3,7 @@ use Rattle.stable_order.specs.StableSort.{stable_sort}
 use Rattle.range_set.specs.Order.{AllForward, before}
 use Rattle.range_set.specs.PrivateChunks.{Ascend, built}
 use Rattle.range_set.proofs.RangeOrder.{forward_sort}
-use Rattle.range_set.proofs.sorting.put_sorted.Goals as goal
+use Rattle.range_set.proofs.sorting.put_run.Goals as goal
 
 pub put_all-requires : goal.put_all-requires
 put_all-requires g c =
