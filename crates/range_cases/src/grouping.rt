@@ -139,6 +139,22 @@ fn chunks_between_two_changes_are_shared(rt: HostRuntime) -> Result<(), Fail> {
     Ok(())
 }
 
+#[test]
+fn changes_far_apart_meet_two_groups(rt: HostRuntime) -> Result<(), Fail> {
+    let step = [
+        Section::Keep(11),
+        Section::Replace(3, 0),
+        Section::Keep(199_981),
+        Section::Replace(0, 3),
+        Section::Keep(5),
+    ];
+    let steps: [&[Section<u32>]; 1] = [&step];
+    let rows = [(1, 1, 0), (2, 19_999, -3), (20_000, 20_000, 0)];
+    let all = [(1, 20_000), (0, 0)];
+    assert!(rt; stand_after(rt.alloc(), 20_000, &all, &steps, &rows)? == Some(true));
+    Ok(())
+}
+
 /// 2,240 points, of which the first group keeps one chunk, and an insertion into it: a run and a shared group after it.
 #[test]
 fn a_group_after_a_run_is_shared(rt: HostRuntime) -> Result<(), Fail> {

@@ -303,74 +303,38 @@ fn chunks_without_an_added_range_are_shared(rt: HostRuntime) -> Result<(), Fail>
     Ok(())
 }
 
-/// A set of so many points with one more before all and one after all, and one with none: how many ranges they have.
-fn widened(alloc: Global, count: u32) -> Result<(usize, usize), Fail> {
-    let set = points(alloc, count, u32::MAX)?;
-    let last = count.wrapping_mul(10);
-    let mut add = Vec::new(alloc);
-    for at in [3, last.wrapping_add(3)] {
-        add.push(Ranged {
-            from: at,
-            to: at,
-            value: numbered(at, u32::MAX),
+/// Points at these places.
+fn points_at(alloc: Global, places: &[u32]) -> Result<Vec<Ranged<Numbered>>, AllocError> {
+    let mut ranges = Vec::new(alloc);
+    for at in places {
+        ranges.push(Ranged {
+            from: *at,
+            to: *at,
+            value: numbered(*at, u32::MAX),
         })?;
     }
-    let more = set.with_added(add)?;
-    let same = set.with_added(Vec::new(alloc))?;
-    if !same.same(&set) {
-        return Ok((0, 0));
-    }
-    Ok((more.len(), same.len()))
+    Ok(ranges)
+}
+
+/// How many ranges so many points have with one more before all and one after all.
+fn widened(alloc: Global, count: u32) -> Result<usize, Fail> {
+    let set = points(alloc, count, u32::MAX)?;
+    let last = count.wrapping_mul(10);
+    let add = points_at(alloc, &[3, last.wrapping_add(3)])?;
+    Ok(set.with_added(add)?.len())
+}
+
+/// Whether so many points are as before where none is added.
+fn stay(alloc: Global, count: u32) -> Result<bool, Fail> {
+    let set = points(alloc, count, u32::MAX)?;
+    Ok(set.with_added(Vec::new(alloc))?.same(&set))
 }
 
 #[test]
 fn ranges_are_added_around_groups(rt: HostRuntime) -> Result<(), Fail> {
-    assert!(rt; widened(rt.alloc(), 20_000)? == (20_002, 20_000));
-    assert!(rt; widened(rt.alloc(), 0)? == (2, 0));
-    Ok(())
-}
-
-/// Whether points that change places with none are those of a deletion near the first and an insertion of as much near the last.
-fn stand_shifted(alloc: Global, count: u32) -> Result<bool, Fail> {
-    let set = points(alloc, count, u32::MAX)?;
-    let last = count.wrapping_mul(10);
-    let changes = described(
-        alloc,
-        &[
-            Section::Keep(11),
-            Section::Replace(3, 0),
-            Section::Keep(last.wrapping_sub(19)),
-            Section::Replace(0, 3),
-            Section::Keep(5),
-        ],
-    )?;
-    if !set.ends_within(changes.len()) {
-        return Ok(false);
+    for (count, want) in &[(20_000, 20_002), (0, 2)] {
+        assert!(rt; widened(rt.alloc(), *count)? == *want);
+        assert!(rt; stay(rt.alloc(), *count)?);
     }
-    let moved = set.map(&changes)?;
-    let mut ranges = moved.iter();
-    let mut place = 0u32;
-    for _index in 0..count {
-        place = place.wrapping_add(10);
-        let want = if place == 10 || place == last {
-            place
-        } else {
-            place.wrapping_sub(3)
-        };
-        match ranges.next() {
-            None => return Ok(false),
-            Some(range) => {
-                if range.from != want {
-                    return Ok(false);
-                }
-            }
-        }
-    }
-    Ok(ranges.next().is_none())
-}
-
-#[test]
-fn changes_far_apart_meet_two_groups(rt: HostRuntime) -> Result<(), Fail> {
-    assert!(rt; stand_shifted(rt.alloc(), 20_000)?);
     Ok(())
 }

@@ -1,5 +1,5 @@
 // Lines that are read.
-use crate::reading::{are, declaration, is, request};
+use crate::reading::{are, declared, is, request};
 use cm_plain::Str;
 use ext_tree::Precedence;
 use requests::{
@@ -10,9 +10,9 @@ use std::test::Fail;
 
 /// The command of a line that is read.
 fn command_of(alloc: Global, line: &str) -> &'static str {
-    match request(alloc, line) {
+    match &request(alloc, line) {
         None => "none",
-        Some(Request::Declare(declaration)) => declaring(&declaration),
+        Some(Request::Declare(declaration)) => declaring(declaration),
         Some(Request::Start(_)) => "start",
         Some(Request::Open(_)) => "open",
         Some(Request::Save(_)) => "save",
@@ -119,7 +119,7 @@ fn is_facet(
     is_static: bool,
     enables: &[&str],
 ) -> Result<bool, AllocError> {
-    match declaration(alloc, line) {
+    match declared(&request(alloc, line)) {
         Some(Declaration::Facet(facet)) => Ok(
             facet.def.combine == 5
                 && facet.def.compare_input == compare_input
@@ -156,7 +156,7 @@ fn is_field(
     listens: &[&str],
     rule: Option<u32>,
 ) -> Result<bool, AllocError> {
-    match declaration(alloc, line) {
+    match declared(&request(alloc, line)) {
         Some(Declaration::Field(field)) => Ok(
             field.rules.create == 3
                 && field.rules.update == 2
@@ -220,8 +220,8 @@ fn level_in(declared: &Declaration) -> Result<Option<usize>, AllocError> {
 /// The precedence of a wrapper p of a that a line declares, from 0 for the highest.
 fn level_of(alloc: Global, at: &str) -> Result<Option<usize>, AllocError> {
     let line = format!(in alloc; "{{\"prec\":{{\"name\":\"p\",\"at\":\"{at}\",\"of\":\"a\"}}}}")?;
-    match declaration(alloc, line.as_str()) {
-        Some(declared) => level_in(&declared),
+    match declared(&request(alloc, line.as_str())) {
+        Some(declared) => level_in(declared),
         None => Ok(None),
     }
 }
@@ -248,7 +248,7 @@ fn precedences_are_read(rt: HostRuntime) -> Result<(), Fail> {
 /// The form of the only effect of an update, and the names that stand in it.
 fn is_effect(alloc: Global, effect: &str, form: &str, names: &[&str]) -> Result<bool, AllocError> {
     let line = format!(in alloc; "{{\"update\":[{{\"effects\":[{effect}]}}]}}")?;
-    match request(alloc, line.as_str()) {
+    match &request(alloc, line.as_str()) {
         Some(Request::Update(specs)) => is_only_effect(specs.as_slice(), form, names),
         _ => Ok(false),
     }
@@ -294,7 +294,7 @@ fn effects_of_all_forms_are_read(rt: HostRuntime) -> Result<(), Fail> {
 
 /// Whether `start` with these extensions reads them.
 fn starts_with(alloc: Global, line: &str, extensions: &[&str]) -> Result<bool, AllocError> {
-    match request(alloc, line) {
+    match &request(alloc, line) {
         Some(Request::Start(state)) => are(state.extensions.as_slice(), extensions),
         _ => Ok(false),
     }
@@ -308,18 +308,23 @@ fn extensions_are_read(rt: HostRuntime) -> Result<(), Fail> {
     Ok(())
 }
 
+/// How deep the plain value of an input is, if it has one.
+fn depth_in(declared: Option<&Declaration>) -> Option<u64> {
+    match declared {
+        Some(Declaration::Input(input)) => match &input.value {
+            Written::Plain(plain) => Some(plain.depth() as u64),
+            Written::Ranges(_) => None,
+        },
+        _ => None,
+    }
+}
+
 /// How deep the plain value is that a line gives an input, and none where it gives ranges.
 fn depth_of(alloc: Global, value: &str) -> Result<Option<u64>, AllocError> {
     let line = format!(in alloc;
         "{{\"input\":{{\"name\":\"n\",\"facet\":\"f\",\"value\":{value}}}}}"
     )?;
-    match declaration(alloc, line.as_str()) {
-        Some(Declaration::Input(input)) => match &input.value {
-            Written::Plain(plain) => Ok(Some(plain.depth() as u64)),
-            Written::Ranges(_) => Ok(None),
-        },
-        _ => Ok(None),
-    }
+    Ok(depth_in(declared(&request(alloc, line.as_str()))))
 }
 
 #[test]
