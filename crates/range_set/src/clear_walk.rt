@@ -17,8 +17,8 @@ pub(crate) struct ClearPlace<'a> {
     pub(crate) changed: &'a [ChangedRange],
 }
 
-/// A walk over changes that keeps the last place asked for that no replaced range meets: those between it and the next replaced
-/// range go as far.
+/// A walk over changes that keeps the last place that it looked for in them and that no replaced range meets: all from it up to the
+/// next replaced range go as far.
 #[derive(Drop)]
 pub(crate) struct ClearWalk<'a> {
     pub(crate) walker: PositionWalker<'a>,
@@ -37,8 +37,8 @@ impl<'a> ClearWalk<'a> {
         }
     }
 
-    /// Where a place goes that no replaced range meets and that isn't less than the last one asked for. The replaced ranges are given
-    /// from the first on that doesn't end before it.
+    /// Where a place goes that no replaced range meets and that isn't less than the last one looked for in the changes. The replaced
+    /// ranges are given from the first on that doesn't end before it.
     pub(crate) fn place_after(&mut self, pos: u32, changed: &'a [ChangedRange]) -> u32
         requires walk { IsClearWalk self.old }
         requires inside { pos ≤ old_size self.old.walker.desc }

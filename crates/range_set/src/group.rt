@@ -9,29 +9,32 @@ use std::rc::Rc;
 /// The greatest number of chunks of a group.
 pub(crate) const MAX_CHUNKS: usize = 64;
 
-/// The least of what a group may grow to.
-const MIN_ROOM: usize = 16;
+/// How many chunks make a group full in a small set.
+const MIN_FULL: usize = 16;
 
-/// How many groups so many chunks are thought to make, where a set is made at once.
-pub(crate) fn groups_of(chunks: usize) -> usize {
-    chunks / 32
+/// How many chunks make a group full in a set of so many groups: half as many as there are groups, from 16 to 64. A change shares the
+/// groups that it doesn't meet, and the chunks of those that it does, one by one, so neither should be many.
+pub(crate) fn full_among(groups: usize) -> usize {
+    (groups / 2).max(MIN_FULL).min(MAX_CHUNKS)
 }
 
-/// How many chunks a group grows to in a set of so many groups: half as many as there are groups, from 16 to 64. A change shares all
-/// groups but those that it meets, and of these each chunk, so that neither should be many.
-pub(crate) fn room_among(groups: usize) -> usize {
-    (groups / 2).max(MIN_ROOM).min(MAX_CHUNKS)
+/// How many chunks make a group full in a set of so many chunks whose groups are made at once: about the root of half of them, from
+/// 16 for 512 to 64 for 8,192, in a straight line between, so that changes don't part these groups.
+pub(crate) fn full_for(chunks: usize) -> usize {
+    (chunks.saturating_sub(512) / 160)
+        .saturating_add(MIN_FULL)
+        .min(MAX_CHUNKS)
 }
 
-/// The greatest number of chunks of a small group, where one grows to `room`: no run of more chunks is cut into small groups.
-pub(crate) fn few_of(room: usize) -> usize {
-    room / 4
+/// The greatest number of chunks of a small group: no run of more chunks is cut into small groups.
+pub(crate) fn few_of(full: usize) -> usize {
+    full / 4
 }
 
-/// The greatest number of chunks that become one group where a change meets one of two that stand beside each other: three quarters
-/// of `room`, so that a few more don't part them again.
-pub(crate) fn joined_of(room: usize) -> usize {
-    room.saturating_sub(few_of(room))
+/// The greatest number of chunks that a group which no change meets and the opened chunks before it may have to become one: three
+/// quarters of a full one, so that a few more don't part them again.
+pub(crate) fn joined_of(full: usize) -> usize {
+    full.saturating_sub(few_of(full))
 }
 
 /// Up to 64 chunks in order, whose places count from the start of the first range.

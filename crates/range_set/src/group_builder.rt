@@ -2,7 +2,7 @@ ghost use Rattle.std.specs.Prelude.{IfOk, false, [], ◌++◌, ◌∷◌, ◌+�
 ghost use Rattle.range_set.specs.PrivateChunks.{AreChunks, AreGroups, AreGroupsOf, Ascend, BeginBy, IsChunk, IsGroup, IsGroupBuilder, flat, grouped, move, spread};
 
 use crate::chunk::Placed;
-use crate::group::{Group, MAX_CHUNKS, PlacedGroup, few_of, room_among};
+use crate::group::{Group, MAX_CHUNKS, PlacedGroup, few_of, full_among, full_for};
 use crate::group_list::GroupList;
 use crate::range_value::RangeValue;
 use std::alloc::{AllocError, Global};
@@ -16,13 +16,13 @@ pub(crate) struct GroupBuilder<T> {
     pub(crate) start: u32,
     pub(crate) growing: Group<T>,
     pub(crate) len: usize,
-    /// How many chunks a group grows to. No contract speaks of it: it only decides where groups are cut.
-    pub(crate) room: usize,
+    /// How many chunks make a group full. No contract speaks of it: it only decides where groups are cut.
+    pub(crate) full: usize,
 }
 
 impl<T: RangeValue> GroupBuilder<T> {
-    /// A builder without ranges for a set of so many groups, for which it has room, and for one more. `Err`: out of memory.
-    pub(crate) fn with_room(alloc: Global, groups: usize) -> Result<GroupBuilder<T>, AllocError>
+    /// A builder without ranges for what becomes of a set of so many groups. It has room for them and one more. `Err`: out of memory.
+    pub(crate) fn for_groups(alloc: Global, groups: usize) -> Result<GroupBuilder<T>, AllocError>
         ensures builder { IfOk result (IsGroupBuilder T.rules) }
         ensures ranges { IfOk result (λ builder. grouped builder ≡ []) }
     {
@@ -31,8 +31,22 @@ impl<T: RangeValue> GroupBuilder<T> {
             start: 0,
             growing: Group::empty(alloc),
             len: 0,
-            room: room_among(groups),
+            full: full_among(groups),
         })
+    }
+
+    /// A builder without ranges for a set of so many chunks.
+    pub(crate) fn for_chunks(alloc: Global, chunks: usize) -> GroupBuilder<T>
+        ensures builder { IsGroupBuilder T.rules result }
+        ensures ranges { grouped result ≡ [] }
+    {
+        GroupBuilder {
+            done: Vec::new(alloc),
+            start: 0,
+            growing: Group::empty(alloc),
+            len: 0,
+            full: full_for(chunks),
+        }
     }
 
     /// Puts chunks in order after the others. `Err`: out of memory.
@@ -63,7 +77,7 @@ impl<T: RangeValue> GroupBuilder<T> {
         ensures ranges { IfOk result (λ _. grouped self.new ≡ grouped self.old ++ placed ∷ []) }
     {
         self.make_room(placed.start, left)?;
-        let more = self.room.saturating_sub(self.growing.chunks.len());
+        let more = self.full.saturating_sub(self.growing.chunks.len());
         self.growing.chunks.reserve(more.min(left))?;
         let count = placed.chunk.ranges.len();
         self.growing.put(self.start, placed)?;
@@ -82,7 +96,7 @@ impl<T: RangeValue> GroupBuilder<T> {
         ensures after { IfOk result (λ _. self.new.start ≤ from) }
         ensures first { IfOk result (λ _. self.new.growing.chunks.items ≡ [] → from ≡ self.new.start) }
     {
-        if is_full(self.growing.chunks.len(), left, self.room) {
+        if is_full(self.growing.chunks.len(), left, self.full) {
             seal(&mut self.done, self.start, &mut self.growing)?;
             self.start = from;
         } else if self.growing.chunks.is_empty() {
@@ -135,15 +149,15 @@ impl<T: RangeValue> GroupBuilder<T> {
     }
 }
 
-/// Whether a group of `len` chunks grows no more, where `left` are still to come of its run and one grows to `room`: it has as many,
-/// or half of those that would make one such group and a small one.
-fn is_full(len: usize, left: usize, room: usize) -> bool
+/// Whether a group of `len` chunks grows no more, where `left` are still to come of its run: it is full, or has half of those that
+/// would make a full group and a small one.
+fn is_full(len: usize, left: usize, full: usize) -> bool
     requires { len ≤ 64 }
     ensures { result ≡ false → len < 64 }
 {
     len >= MAX_CHUNKS
-        || len >= room
-        || (left <= len && len + left > room && len + left <= room.saturating_add(few_of(room)))
+        || len >= full
+        || (left <= len && len + left > full && len + left <= full.saturating_add(few_of(full)))
 }
 
 /// Ends the growing group, if it has chunks, and begins one without chunks. `Err`: out of memory.

@@ -3,7 +3,7 @@ ghost use Rattle.range_set.specs.Order.{AllForward, before};
 ghost use Rattle.range_set.specs.PrivateChunks.{AreGroupsOf, Ascend, IsChunk, IsGroup, IsMappedBuilder, built, flat, grouped, put_down, shift, spread};
 ghost use Rattle.stable_order.specs.StableSort.{stable_sort};
 
-use crate::chunk::Chunk;
+use crate::chunk::{Chunk, MAX_RANGES};
 use crate::chunk_builder::ChunkBuilder;
 use crate::group::{Group, joined_of};
 use crate::group_builder::GroupBuilder;
@@ -25,14 +25,14 @@ pub(crate) struct MappedBuilder<T> {
 }
 
 impl<T: RangeValue> MappedBuilder<T> {
-    /// A builder without ranges for a set of so many groups, for which it has room. `Err`: out of memory.
-    pub(crate) fn with_room(alloc: Global, groups: usize) -> Result<MappedBuilder<T>, AllocError>
+    /// A builder without ranges for what becomes of a set of so many groups. `Err`: out of memory.
+    pub(crate) fn for_groups(alloc: Global, groups: usize) -> Result<MappedBuilder<T>, AllocError>
         ensures builder { IfOk result (IsMappedBuilder T.rules) }
         ensures ranges { IfOk result (λ builder. put_down builder ≡ []) }
         ensures none { IfOk result (λ builder. builder.run.items ≡ []) }
     {
         Ok(MappedBuilder {
-            groups: GroupBuilder::with_room(alloc, groups)?,
+            groups: GroupBuilder::for_groups(alloc, groups)?,
             chunks: ChunkBuilder::new(alloc),
             run: Vec::new(alloc),
         })
@@ -48,15 +48,12 @@ impl<T: RangeValue> MappedBuilder<T> {
         self.chunks.done.reserve(chunks)
     }
 
-    /// Whether a group of so many chunks is to become one with those that stand before it and aren't in a group yet: whether they
-    /// leave a quarter of its room in one. No contract speaks of this: it only decides which groups are shared.
+    /// Whether a group of so many chunks is to become one with those that stand before it and aren't in a group yet: whether all of
+    /// them fill at most three quarters of a full group. No contract speaks of this: it only decides which groups are shared.
     pub(crate) fn joins(&self, len: usize) -> bool {
-        let open = if self.run.is_empty() {
-            self.chunks.done.len()
-        } else {
-            self.chunks.done.len().saturating_add(1)
-        };
-        0 < open && open.saturating_add(len) <= joined_of(self.groups.room)
+        let of_run = self.run.len().saturating_add(MAX_RANGES - 1) / MAX_RANGES;
+        let open = self.chunks.done.len().saturating_add(of_run);
+        0 < open && open.saturating_add(len) <= joined_of(self.groups.full)
     }
 
     /// Sorts the run and puts a chunk after it, at a place of its own, and shares it. `Err`: out of memory.

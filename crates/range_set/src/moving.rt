@@ -24,8 +24,8 @@ use std::rc::Rc;
 use std::sync::ledger::Ledger;
 use steps::Steps;
 
-/// The groups of a set after changes, and how many ranges they have. Groups that the changes don't affect are moved and shared; of
-/// the others the chunks that they don't affect are. `Err`: out of memory.
+/// The groups of a set after changes, and how many ranges they have. Groups that the changes don't affect are moved and shared, unless
+/// they become one with chunks before them; of the others the chunks that they don't affect are. `Err`: out of memory.
 pub(crate) fn mapped_groups<T: RangeValue, L: Ledger>(
     alloc: Global,
     groups: &[PlacedGroup<T>],
@@ -70,74 +70,74 @@ fn map_all<'a, T: RangeValue, L: Ledger>(
 {
     // The proof takes from this line that lengths of the new document fit u32.
     let _new_len = changes.new_len();
-    let mut replaced = changed;
+    let mut left = changed;
     let mut walk = ClearWalk::new(changes);
-    let mut builder = MappedBuilder::with_room(alloc, groups.len())?;
+    let mut builder = MappedBuilder::for_groups(alloc, groups.len())?;
     for placed in groups {
-        replaced = ranges_from(replaced, placed.start);
-        if is_opened(placed, replaced, &builder) {
+        left = ranges_from(left, placed.start);
+        if is_opened(placed, left, &builder) {
             builder.reserve(placed.group.chunks.len())?;
             for inner in &placed.group.chunks {
                 let start = inner.start + placed.start;
-                replaced = ranges_from(replaced, start);
-                if is_affected(start, &inner.chunk, replaced) {
+                left = ranges_from(left, start);
+                if is_affected(start, &inner.chunk, left) {
                     map_each(
                         start,
                         &inner.chunk,
-                        replaced,
+                        left,
                         &mut walk,
                         index,
                         &mut builder.run,
                         mapped,
                     )?;
                 } else {
-                    let start = walk.place_after(start, replaced);
+                    let start = walk.place_after(start, left);
                     builder.share_chunk(start, &inner.chunk)?;
                 }
             }
         } else {
-            let start = walk.place_after(placed.start, replaced);
+            let start = walk.place_after(placed.start, left);
             builder.share_group(start, &placed.group)?;
         }
     }
     builder.finish()
 }
 
-/// Whether the chunks of a group are looked at one by one: whether changes affect it, of which those before the group are left out,
-/// or it becomes one with those before it.
+/// Whether the chunks of a group are looked at one by one: whether changes affect it, where the ranges that they replace before it are
+/// left out, or it becomes one with those before it.
 fn is_opened<T: RangeValue>(
     placed: &PlacedGroup<T>,
-    replaced: &[ChangedRange],
+    changed: &[ChangedRange],
     builder: &MappedBuilder<T>,
 ) -> bool
     requires fits { placed.now.start + placed.now.group.value.reach < 2 ^ 32 }
-    requires order { BeginAfter 0 replaced.now }
-    requires first { EndsAtOrAfter placed.now.start replaced.now }
-    ensures { result ≡ false → (placed.now.group.value.is_turned || list_any (meets placed.now.start (placed.now.start + placed.now.group.value.reach)) replaced.now) ≡ false }
+    requires order { BeginAfter 0 changed.now }
+    requires first { EndsAtOrAfter placed.now.start changed.now }
+    ensures { result ≡ false → (placed.now.group.value.is_turned || list_any (meets placed.now.start (placed.now.start + placed.now.group.value.reach)) changed.now) ≡ false }
 {
-    is_group_affected(placed, replaced) || builder.joins(placed.group.chunks.len())
+    is_group_affected(placed, changed) || builder.joins(placed.group.chunks.len())
 }
 
 /// Whether a change meets the hull of a group, where those before the group are left out, or an empty range of it has an end side
 /// less than its start side.
-fn is_group_affected<T: RangeValue>(placed: &PlacedGroup<T>, replaced: &[ChangedRange]) -> bool
+fn is_group_affected<T: RangeValue>(placed: &PlacedGroup<T>, changed: &[ChangedRange]) -> bool
     requires fits { placed.now.start + placed.now.group.value.reach < 2 ^ 32 }
-    requires order { BeginAfter 0 replaced.now }
-    requires first { EndsAtOrAfter placed.now.start replaced.now }
-    ensures { result ≡ (placed.now.group.value.is_turned || list_any (meets placed.now.start (placed.now.start + placed.now.group.value.reach)) replaced.now) }
+    requires order { BeginAfter 0 changed.now }
+    requires first { EndsAtOrAfter placed.now.start changed.now }
+    ensures { result ≡ (placed.now.group.value.is_turned || list_any (meets placed.now.start (placed.now.start + placed.now.group.value.reach)) changed.now) }
 {
-    placed.group.is_turned || first_meets(replaced, placed.start, placed.start + placed.group.reach)
+    placed.group.is_turned || first_meets(changed, placed.start, placed.start + placed.group.reach)
 }
 
 /// Whether the ranges of a chunk are mapped each by itself: whether its hull meets a replaced range, of which those before the
 /// chunk, at the place `start`, are left out, or an empty range of it has an end side less than its start side.
-fn is_affected<T: RangeValue>(start: u32, chunk: &Rc<Chunk<T>>, replaced: &[ChangedRange]) -> bool
+fn is_affected<T: RangeValue>(start: u32, chunk: &Rc<Chunk<T>>, changed: &[ChangedRange]) -> bool
     requires fits { start + chunk.now.value.reach < 2 ^ 32 }
-    requires order { BeginAfter 0 replaced.now }
-    requires first { EndsAtOrAfter start replaced.now }
-    ensures { result ≡ (chunk.now.value.is_turned || list_any (meets start (start + chunk.now.value.reach)) replaced.now) }
+    requires order { BeginAfter 0 changed.now }
+    requires first { EndsAtOrAfter start changed.now }
+    ensures { result ≡ (chunk.now.value.is_turned || list_any (meets start (start + chunk.now.value.reach)) changed.now) }
 {
-    chunk.is_turned || first_meets(replaced, start, start + chunk.reach)
+    chunk.is_turned || first_meets(changed, start, start + chunk.reach)
 }
 
 /// Puts the ranges of a chunk at the place `start` that the changes of a walk keep, moved, after a run of others. The ranges that the

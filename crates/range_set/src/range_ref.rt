@@ -67,7 +67,8 @@ impl<'a, T: RangeValue> RangeRef<'a, T> {
     }
 
     /// What `moved` answers, where the ranges that the changes replace are given from the first on that doesn't end before this one.
-    /// A range that none of them meets is only moved, its end as far as its start. `Err`: out of memory.
+    /// A range that none of them meets is only moved, its end as far as its start, unless it is empty with an end side less than its
+    /// start side. `Err`: out of memory.
     pub(crate) fn moved_among<'b>(
         &self,
         alloc: Global,

@@ -11,7 +11,7 @@ use crate::between::Between;
 use crate::chunk::Placed;
 use crate::chunk_builder::ChunkBuilder;
 use crate::chunk_iter::ChunkIter;
-use crate::group::{PlacedGroup, groups_of};
+use crate::group::PlacedGroup;
 use crate::group_builder::GroupBuilder;
 use crate::group_list::GroupList;
 use crate::iter::{Iter, same_ranges};
@@ -212,8 +212,9 @@ impl<T: RangeValue> RangeSet<T> {
     }
 
     /// What `map` gives. A chunk whose hull meets no Replace, and in which no empty range has an end side less than its start
-    /// side, is only moved, and shared; so is a group of chunks for which this holds, as a whole, unless it is a small one after one
-    /// for which it doesn't. Each other range raises `mapped` by one; the values of these alone are copied. `Err`: out of memory.
+    /// side, is only moved, and shared; so is a group for which this holds, as a whole, unless it and the chunks of opened groups
+    /// before it fill at most three quarters of one. Each range of the other chunks raises `mapped` by one; the values of these
+    /// alone are copied. `Err`: out of memory.
     pub fn map_steps<L: Ledger>(
         &self,
         changes: &Desc,
@@ -276,7 +277,7 @@ fn in_groups<T: RangeValue>(
     ensures groups { IfOk result (λ made. AreGroupsOf T.rules made.0 made.1) }
     ensures ranges { IfOk result (λ made. flat (spread made.0) ≡ flat chunks.items) }
 {
-    let mut builder = GroupBuilder::with_room(alloc, groups_of(chunks.len()))?;
+    let mut builder = GroupBuilder::for_chunks(alloc, chunks.len());
     builder.put_all(chunks)?;
     builder.finish()
 }

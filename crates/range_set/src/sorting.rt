@@ -10,7 +10,7 @@ use stable_order::sort_stably;
 use std::alloc::AllocError;
 use std::mem;
 
-/// Sorts a run of mapped ranges and puts them after those of a builder; none is left. `Err`: out of memory.
+/// Sorts a run of ranges and puts them after those of a builder; none is left. `Err`: out of memory.
 pub(crate) fn put_sorted<T: RangeValue>(
     run: &mut Vec<Ranged<T>>,
     builder: &mut ChunkBuilder<T>,
@@ -28,7 +28,7 @@ pub(crate) fn put_sorted<T: RangeValue>(
     put_run(run, builder)
 }
 
-/// Sorts a run of mapped ranges that may be long and puts them after those of a builder; none is left. `Err`: out of memory.
+/// Sorts a run that isn't empty and puts its ranges after those of a builder; none is left. `Err`: out of memory.
 fn put_run<T: RangeValue>(
     run: &mut Vec<Ranged<T>>,
     builder: &mut ChunkBuilder<T>,

@@ -37,7 +37,7 @@ pub(crate) fn added_groups<T: RangeValue>(
     let (before, middle, after) = parted_around(groups, add.as_slice());
     let chunks = opened(alloc, middle)?;
     let chunks = with_all(alloc, chunks.as_slice(), add)?;
-    let mut builder = GroupBuilder::with_room(alloc, groups.len())?;
+    let mut builder = GroupBuilder::for_groups(alloc, groups.len())?;
     builder.share_all(before)?;
     builder.put_all(chunks)?;
     builder.share_all(after)?;

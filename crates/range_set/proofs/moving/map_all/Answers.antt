@@ -66,11 +66,11 @@ loop-inner-init g c =
     let kept = c.loop-placed.invariant in
     record {
       builder = c.reserve.ensures.builder;
-      walked = rw (c.reserve.ensures.ranges, ap (λ v. v.items) c.reserve.ensures.run) (walked_open rules d (flat (spread gs)) gs i p (put_down c.loop-placed.builder) c.loop-placed.builder.run.items c.loop-placed.walk.walker.reached c.loop-placed.replaced.now c.ranges_from-replaced.result.now l c.placed-item.is
-          (group-at rules gs i p l c.placed-item.is c.requires.groups).1 c.ranges_from-replaced.ensures.same kept.walked);
+      walked = rw (c.reserve.ensures.ranges, ap (λ v. v.items) c.reserve.ensures.run) (walked_open rules d (flat (spread gs)) gs i p (put_down c.loop-placed.builder) c.loop-placed.builder.run.items c.loop-placed.walk.walker.reached c.loop-placed.left.now c.ranges_from-left.result.now l c.placed-item.is
+          (group-at rules gs i p l c.placed-item.is c.requires.groups).1 c.ranges_from-left.ensures.same kept.walked);
       desc = kept.desc;
       clear = kept.clear;
-      begin = c.ranges_from-replaced.ensures.order;
+      begin = c.ranges_from-left.ensures.order;
       cost = let a = kept.cost in let b = allowance_open rules d gs i p l c.placed-item.is in omega (arith, a, b);
     }
 
@@ -90,7 +90,7 @@ map_each-requires-clause-inside g c =
     let rest = map (move start) (drop (j + 1) ps) ++ later in
     let ranges = map (shift (p.start + start)) p.chunk.value.ranges.items in
     let kept = c.loop-inner.invariant in
-    let here = at_inner rules d (flat (spread gs)) start ps j p later (put_down c.loop-inner.builder) c.loop-inner.builder.run.items c.loop-inner.walk.walker.reached c.loop-inner.replaced.now l is kept.walked in
+    let here = at_inner rules d (flat (spread gs)) start ps j p later (put_down c.loop-inner.builder) c.loop-inner.builder.run.items c.loop-inner.walk.walker.reached c.loop-inner.left.now l is kept.walked in
     end_within (old_size c.loop-inner.walk.walker.desc) ranges
     (subst (λ (s : Sections). Within (old_size s) ranges) (sym kept.desc) (within_prefix (old_size d) ranges (flat rest) here.within))
 
@@ -109,7 +109,7 @@ map_each-requires-clause-ascending g c =
     let later = spread (drop (c.loop-placed.placed-index + 1) gs) in
     let rest = map (move start) (drop (j + 1) ps) ++ later in
     let kept = c.loop-inner.invariant in
-    let here = at_inner rules d (flat (spread gs)) start ps j p later (put_down c.loop-inner.builder) c.loop-inner.builder.run.items c.loop-inner.walk.walker.reached c.loop-inner.replaced.now l is kept.walked in
+    let here = at_inner rules d (flat (spread gs)) start ps j p later (put_down c.loop-inner.builder) c.loop-inner.builder.run.items c.loop-inner.walk.walker.reached c.loop-inner.left.now l is kept.walked in
     ascend-prefix c.loop-inner.walk.walker.reached (map (shift (p.start + start)) p.chunk.value.ranges.items) (flat rest) here.ascend
 
 pub map_each-requires-clause-same : goal.map_each-requires-clause-same
@@ -123,8 +123,8 @@ map_each-requires-clause-same g c = λ a b l.
     let is : p ≡ get_or ps c.loop-inner.inner-index p = subst (λ (xs : List (Placed g.row.T.Denot)). p ≡ get_or xs c.loop-inner.inner-index p) same c.inner-item.is in
     let kept = c.loop-inner.invariant in
     let here = at_inner g.T.RangeValue.rules d (flat (spread gs)) c.placed-item.result.start ps c.loop-inner.inner-index p (spread (drop (c.loop-placed.placed-index + 1) gs)) (put_down c.loop-inner.builder) c.loop-inner.builder.run.items
-    c.loop-inner.walk.walker.reached c.loop-inner.replaced.now in_range is kept.walked in
-    c.ranges_from-replaced-in-loop-inner.ensures.same a b l ∙ (here.same a b l ∙ ap (λ (x : Sections). list_any (meets a b) (replaced x)) (sym kept.desc))
+    c.loop-inner.walk.walker.reached c.loop-inner.left.now in_range is kept.walked in
+    c.ranges_from-left-in-loop-inner.ensures.same a b l ∙ (here.same a b l ∙ ap (λ (x : Sections). list_any (meets a b) (replaced x)) (sym kept.desc))
 
 pub returns-in_err-map_each-clause-cost : goal.returns-in_err-map_each-clause-cost
 returns-in_err-map_each-clause-cost g c =
@@ -143,10 +143,10 @@ returns-in_err-map_each-clause-cost g c =
     let done = put_down c.loop-inner.builder in
     let run = c.loop-inner.builder.run.items in
     let reached = c.loop-inner.walk.walker.reached in
-    let reps = c.loop-inner.replaced.now in
+    let reps = c.loop-inner.left.now in
     let kept = c.loop-inner.invariant in
     let here = at_inner rules d (flat (spread gs)) start ps j p later done run reached reps l is kept.walked in
-    let affected = affected_same rules d (flat (spread gs)) (move start p) rest done run reached reps c.ranges_from-replaced-in-loop-inner.result.now here c.ranges_from-replaced-in-loop-inner.ensures.same c.is_affected.result c.is_affected.ensures in
+    let affected = affected_same rules d (flat (spread gs)) (move start p) rest done run reached reps c.ranges_from-left-in-loop-inner.result.now here c.ranges_from-left-in-loop-inner.ensures.same c.is_affected.result c.is_affected.ensures in
     let top = allowed rules d 0 (spread gs) (are_spread rules gs c.requires.groups) (rises_ascend rules (flat (spread gs)) (rises-no_fault rules (flat (spread gs)) c.requires.order)) in
     let spent = kept.cost in
     let each = c.map_each.ensures.cost in
@@ -171,10 +171,10 @@ place_after-start-requires-clause-clear g c =
     let done = put_down c.loop-inner.builder in
     let run = c.loop-inner.builder.run.items in
     let reached = c.loop-inner.walk.walker.reached in
-    let reps = c.loop-inner.replaced.now in
+    let reps = c.loop-inner.left.now in
     let kept = c.loop-inner.invariant in
     let here = at_inner rules d (flat (spread gs)) start ps j p later done run reached reps l is kept.walked in
-    let affected = affected_same rules d (flat (spread gs)) (move start p) rest done run reached reps c.ranges_from-replaced-in-loop-inner.result.now here c.ranges_from-replaced-in-loop-inner.ensures.same c.is_affected.result c.is_affected.ensures in
+    let affected = affected_same rules d (flat (spread gs)) (move start p) rest done run reached reps c.ranges_from-left-in-loop-inner.result.now here c.ranges_from-left-in-loop-inner.ensures.same c.is_affected.result c.is_affected.ensures in
     let clear = clear_chunk rules d (flat (spread gs)) (move start p) rest done run reached reps here (sym affected ∙ c.if-is_affected.false) in
     subst (λ (x : Sections). IsClear (p.start + start) (p.start + start) x) (sym kept.desc) clear.clear
 
@@ -195,10 +195,10 @@ place_after-start-requires-clause-same g c = λ a b m.
     let done = put_down c.loop-inner.builder in
     let run = c.loop-inner.builder.run.items in
     let reached = c.loop-inner.walk.walker.reached in
-    let reps = c.loop-inner.replaced.now in
+    let reps = c.loop-inner.left.now in
     let kept = c.loop-inner.invariant in
     let here = at_inner rules d (flat (spread gs)) start ps j p later done run reached reps l is kept.walked in
-    c.ranges_from-replaced-in-loop-inner.ensures.same a b m ∙ (here.same a b m ∙ ap (λ (x : Sections). list_any (meets a b) (replaced x)) (sym kept.desc))
+    c.ranges_from-left-in-loop-inner.ensures.same a b m ∙ (here.same a b m ∙ ap (λ (x : Sections). list_any (meets a b) (replaced x)) (sym kept.desc))
 
 pub share_chunk-requires-clause-order : goal.share_chunk-requires-clause-order
 share_chunk-requires-clause-order g c =
@@ -217,10 +217,10 @@ share_chunk-requires-clause-order g c =
     let done = put_down c.loop-inner.builder in
     let run = c.loop-inner.builder.run.items in
     let reached = c.loop-inner.walk.walker.reached in
-    let reps = c.loop-inner.replaced.now in
+    let reps = c.loop-inner.left.now in
     let kept = c.loop-inner.invariant in
     let here = at_inner rules d (flat (spread gs)) start ps j p later done run reached reps l is kept.walked in
-    let affected = affected_same rules d (flat (spread gs)) (move start p) rest done run reached reps c.ranges_from-replaced-in-loop-inner.result.now here c.ranges_from-replaced-in-loop-inner.ensures.same c.is_affected.result c.is_affected.ensures in
+    let affected = affected_same rules d (flat (spread gs)) (move start p) rest done run reached reps c.ranges_from-left-in-loop-inner.result.now here c.ranges_from-left-in-loop-inner.ensures.same c.is_affected.result c.is_affected.ensures in
     let clear = clear_chunk rules d (flat (spread gs)) (move start p) rest done run reached reps here (sym affected ∙ c.if-is_affected.false) in
     clear.order
 
@@ -247,10 +247,10 @@ share_chunk-requires-clause-chunk g c =
     let done = put_down c.loop-inner.builder in
     let run = c.loop-inner.builder.run.items in
     let reached = c.loop-inner.walk.walker.reached in
-    let reps = c.loop-inner.replaced.now in
+    let reps = c.loop-inner.left.now in
     let kept = c.loop-inner.invariant in
     let here = at_inner rules d (flat (spread gs)) base ps j p later done run reached reps l is kept.walked in
-    let affected = affected_same rules d (flat (spread gs)) (move base p) rest done run reached reps c.ranges_from-replaced-in-loop-inner.result.now here c.ranges_from-replaced-in-loop-inner.ensures.same c.is_affected.result c.is_affected.ensures in
+    let affected = affected_same rules d (flat (spread gs)) (move base p) rest done run reached reps c.ranges_from-left-in-loop-inner.result.now here c.ranges_from-left-in-loop-inner.ensures.same c.is_affected.result c.is_affected.ensures in
     let clear = clear_chunk rules d (flat (spread gs)) (move base p) rest done run reached reps here (sym affected ∙ c.if-is_affected.false) in
     let start : c.place_after-start.result ≡ clear_place d (p.start + base) =
     c.place_after-start.ensures.value ∙ (ap (λ (s : Sections). place_after s (p.start + base) true) kept.desc ∙ ap (λ o. unwrap_or o 0) (map_pos-clear d (p.start + base) true Simple clear.inside clear.clear)) in
@@ -285,15 +285,15 @@ loop-inner-preserved g c =
     let done = put_down c.loop-inner.builder in
     let run = c.loop-inner.builder.run.items in
     let reached = c.loop-inner.walk.walker.reached in
-    let reps = c.loop-inner.replaced.now in
-    let after = c.ranges_from-replaced-in-loop-inner.result.now in
+    let reps = c.loop-inner.left.now in
+    let after = c.ranges_from-left-in-loop-inner.result.now in
     let kept = c.loop-inner.invariant in
     let here = at_inner rules d (flat (spread gs)) base ps j p later done run reached reps l is kept.walked in
-    let met = c.ranges_from-replaced-in-loop-inner.ensures.same in
+    let met = c.ranges_from-left-in-loop-inner.ensures.same in
     let affected = affected_same rules d (flat (spread gs)) (move base p) rest done run reached reps after here met c.is_affected.result c.is_affected.ensures in
     let spent = kept.cost in
     let few = here.chunks.0.0.few in
-    let begin = c.ranges_from-replaced-in-loop-inner.ensures.order in
+    let begin = c.ranges_from-left-in-loop-inner.ensures.order in
     elim c.if-is_affected.branch [
       | then-is_affected+in_ok-map_each w ↦
           let share = allowance_inner rules d base ps j p later true l is (sym affected ∙ w.if-is_affected.true) in
@@ -339,7 +339,7 @@ place_after-start-requires-else-is_opened-clause-inside g c =
     let done = put_down c.loop-placed.builder in
     let run = c.loop-placed.builder.run.items in
     let kept = c.loop-placed.invariant in
-    let clear = clear_group rules d whole gs i p done run c.loop-placed.walk.walker.reached c.loop-placed.replaced.now c.ranges_from-replaced.result.now l is c.requires.groups c.ranges_from-replaced.ensures.same kept.walked (c.is_opened.ensures c.if-is_opened.false) in
+    let clear = clear_group rules d whole gs i p done run c.loop-placed.walk.walker.reached c.loop-placed.left.now c.ranges_from-left.result.now l is c.requires.groups c.ranges_from-left.ensures.same kept.walked (c.is_opened.ensures c.if-is_opened.false) in
     let size = ap old_size kept.desc in
     let inside = clear.hull.inside in
     omega (arith, size, inside)
@@ -357,7 +357,7 @@ place_after-start-requires-else-is_opened-clause-ascending g c =
     let done = put_down c.loop-placed.builder in
     let run = c.loop-placed.builder.run.items in
     let kept = c.loop-placed.invariant in
-    let clear = clear_group rules d whole gs i p done run c.loop-placed.walk.walker.reached c.loop-placed.replaced.now c.ranges_from-replaced.result.now l is c.requires.groups c.ranges_from-replaced.ensures.same kept.walked (c.is_opened.ensures c.if-is_opened.false) in
+    let clear = clear_group rules d whole gs i p done run c.loop-placed.walk.walker.reached c.loop-placed.left.now c.ranges_from-left.result.now l is c.requires.groups c.ranges_from-left.ensures.same kept.walked (c.is_opened.ensures c.if-is_opened.false) in
     clear.ascend
 
 pub place_after-start-requires-else-is_opened-clause-clear : goal.place_after-start-requires-else-is_opened-clause-clear
@@ -373,7 +373,7 @@ place_after-start-requires-else-is_opened-clause-clear g c =
     let done = put_down c.loop-placed.builder in
     let run = c.loop-placed.builder.run.items in
     let kept = c.loop-placed.invariant in
-    let clear = clear_group rules d whole gs i p done run c.loop-placed.walk.walker.reached c.loop-placed.replaced.now c.ranges_from-replaced.result.now l is c.requires.groups c.ranges_from-replaced.ensures.same kept.walked (c.is_opened.ensures c.if-is_opened.false) in
+    let clear = clear_group rules d whole gs i p done run c.loop-placed.walk.walker.reached c.loop-placed.left.now c.ranges_from-left.result.now l is c.requires.groups c.ranges_from-left.ensures.same kept.walked (c.is_opened.ensures c.if-is_opened.false) in
     subst (λ (x : Sections). IsClear p.start p.start x) (sym kept.desc) clear.hull.clear
 
 pub place_after-start-requires-else-is_opened-clause-same : goal.place_after-start-requires-else-is_opened-clause-same
@@ -387,7 +387,7 @@ place_after-start-requires-else-is_opened-clause-same g c = λ a b m.
     let is = c.placed-item.is in
     let kept = c.loop-placed.invariant in
     let begin = group-at rules gs i p l is c.requires.groups in
-    c.ranges_from-replaced.ensures.same a b m ∙ (kept.walked.same a b (starts_at rules d gs i p l is a begin.0 begin.1 m) ∙ ap (λ (x : Sections). list_any (meets a b) (replaced x)) (sym kept.desc))
+    c.ranges_from-left.ensures.same a b m ∙ (kept.walked.same a b (starts_at rules d gs i p l is a begin.0 begin.1 m) ∙ ap (λ (x : Sections). list_any (meets a b) (replaced x)) (sym kept.desc))
 
 pub share_group-requires-clause-order : goal.share_group-requires-clause-order
 share_group-requires-clause-order g c =
@@ -402,7 +402,7 @@ share_group-requires-clause-order g c =
     let done = put_down c.loop-placed.builder in
     let run = c.loop-placed.builder.run.items in
     let kept = c.loop-placed.invariant in
-    let clear = clear_group rules d whole gs i p done run c.loop-placed.walk.walker.reached c.loop-placed.replaced.now c.ranges_from-replaced.result.now l is c.requires.groups c.ranges_from-replaced.ensures.same kept.walked (c.is_opened.ensures c.if-is_opened.false) in
+    let clear = clear_group rules d whole gs i p done run c.loop-placed.walk.walker.reached c.loop-placed.left.now c.ranges_from-left.result.now l is c.requires.groups c.ranges_from-left.ensures.same kept.walked (c.is_opened.ensures c.if-is_opened.false) in
     clear.order
 
 pub share_group-requires-clause-forward : goal.share_group-requires-clause-forward
@@ -423,7 +423,7 @@ share_group-requires-clause-group g c =
     let done = put_down c.loop-placed.builder in
     let run = c.loop-placed.builder.run.items in
     let kept = c.loop-placed.invariant in
-    let clear = clear_group rules d whole gs i p done run c.loop-placed.walk.walker.reached c.loop-placed.replaced.now c.ranges_from-replaced.result.now l is c.requires.groups c.ranges_from-replaced.ensures.same kept.walked (c.is_opened.ensures c.if-is_opened.false) in
+    let clear = clear_group rules d whole gs i p done run c.loop-placed.walk.walker.reached c.loop-placed.left.now c.ranges_from-left.result.now l is c.requires.groups c.ranges_from-left.ensures.same kept.walked (c.is_opened.ensures c.if-is_opened.false) in
     let start : c.place_after-start-else-is_opened.result ≡ clear_place d p.start =
     c.place_after-start-else-is_opened.ensures.value ∙ (ap (λ (x : Sections). place_after x p.start true) kept.desc ∙ ap (λ o. unwrap_or o 0) (map_pos-clear d p.start true Simple clear.hull.inside clear.hull.clear)) in
     let fits = clear.hull.fits in
@@ -448,7 +448,7 @@ share_group-requires-clause-room g c =
     let done = put_down c.loop-placed.builder in
     let run = c.loop-placed.builder.run.items in
     let kept = c.loop-placed.invariant in
-    let clear = clear_group rules d whole gs i p done run c.loop-placed.walk.walker.reached c.loop-placed.replaced.now c.ranges_from-replaced.result.now l is c.requires.groups c.ranges_from-replaced.ensures.same kept.walked (c.is_opened.ensures c.if-is_opened.false) in
+    let clear = clear_group rules d whole gs i p done run c.loop-placed.walk.walker.reached c.loop-placed.left.now c.ranges_from-left.result.now l is c.requires.groups c.ranges_from-left.ensures.same kept.walked (c.is_opened.ensures c.if-is_opened.false) in
     let a = clear.room in
     let b = c.requires.room in
     omega (arith, a, b)
@@ -474,10 +474,10 @@ loop-placed-preserved g c =
     let done = put_down c.loop-placed.builder in
     let run = c.loop-placed.builder.run.items in
     let reached = c.loop-placed.walk.walker.reached in
-    let reps = c.loop-placed.replaced.now in
-    let after = c.ranges_from-replaced.result.now in
+    let reps = c.loop-placed.left.now in
+    let after = c.ranges_from-left.result.now in
     let kept = c.loop-placed.invariant in
-    let met = c.ranges_from-replaced.ensures.same in
+    let met = c.ranges_from-left.ensures.same in
     let next = spread (drop (i + 1) gs) in
     elim c.if-is_opened.branch [
       | then-is_opened+in_ok-reserve+else-loop-inner-test w ↦
@@ -488,11 +488,11 @@ loop-placed-preserved g c =
           let inner = w.loop-inner.invariant in
           record {
             builder = rw w.builder-is inner.builder;
-            walked = rw (w.builder-is, w.walk-is, w.replaced-is)
-                (subst (λ qs. IsWalked rules d whole qs (put_down w.loop-inner.builder) w.loop-inner.builder.run.items w.loop-inner.walk.walker.reached w.loop-inner.replaced.now) rest inner.walked);
+            walked = rw (w.builder-is, w.walk-is, w.left-is)
+                (subst (λ qs. IsWalked rules d whole qs (put_down w.loop-inner.builder) w.loop-inner.builder.run.items w.loop-inner.walk.walker.reached w.loop-inner.left.now) rest inner.walked);
             desc = rw w.walk-is inner.desc;
             clear = rw w.walk-is inner.clear;
-            begin = rw w.replaced-is inner.begin;
+            begin = rw w.left-is inner.begin;
             cost = rw w.mapped-is (let a = inner.cost in let b = ap (allowance rules d) rest in omega (arith, a, b));
           }
       | else-is_opened+in_ok-share_group w ↦
@@ -503,12 +503,12 @@ loop-placed-preserved g c =
           let share = allowance_group rules d gs i p l is in
           record {
             builder = rw w.builder-is w.in_ok-share_group.ensures.builder;
-            walked = rw (w.builder-is, w.walk-is, w.replaced-is, w.in_ok-share_group.ensures.none)
+            walked = rw (w.builder-is, w.walk-is, w.left-is, w.in_ok-share_group.ensures.none)
                 (walked_less rules d whole next (put_down w.share_group.new.self) [] w.place_after-start-else-is_opened.new.self.walker.reached p.start after w.place_after-start-else-is_opened.ensures.reached
                 (walked_group rules d whole gs i p done run (put_down w.share_group.new.self) reached reps after l is c.requires.groups met kept.walked clear more));
             desc = rw w.walk-is (w.place_after-start-else-is_opened.ensures.desc ∙ kept.desc);
             clear = rw w.walk-is w.place_after-start-else-is_opened.ensures.walk;
-            begin = rw w.replaced-is c.ranges_from-replaced.ensures.order;
+            begin = rw w.left-is c.ranges_from-left.ensures.order;
             cost = rw w.mapped-is (let a = kept.cost in omega (arith, a, share));
           }
     ]
@@ -519,7 +519,7 @@ finish-requires-clause-order g c =
     let gs = c.args.groups.now in
     let done = put_down c.loop-placed.builder in
     let run = c.loop-placed.builder.run.items in
-    let under = at_last rules c.args.changes.now (flat (spread gs)) gs c.loop-placed.placed-index done run c.loop-placed.walk.walker.reached c.loop-placed.replaced.now c.loop-placed-test.false c.loop-placed.invariant.walked in
+    let under = at_last rules c.args.changes.now (flat (spread gs)) gs c.loop-placed.placed-index done run c.loop-placed.walk.walker.reached c.loop-placed.left.now c.loop-placed-test.false c.loop-placed.invariant.walked in
     under_end_order rules c.args.changes.now (flat (spread gs)) done run under
 
 pub finish-requires-clause-forward : goal.finish-requires-clause-forward
@@ -540,7 +540,7 @@ returns-clause-ranges g c =
     let gs = c.args.groups.now in
     let done = put_down c.loop-placed.builder in
     let run = c.loop-placed.builder.run.items in
-    let under = at_last rules d (flat (spread gs)) gs c.loop-placed.placed-index done run c.loop-placed.walk.walker.reached c.loop-placed.replaced.now c.loop-placed-test.false c.loop-placed.invariant.walked in
+    let under = at_last rules d (flat (spread gs)) gs c.loop-placed.placed-index done run c.loop-placed.walk.walker.reached c.loop-placed.left.now c.loop-placed-test.false c.loop-placed.invariant.walked in
     let sorted = sym (under_end rules d (flat (spread gs)) done run under) in
     IfOk-weaker c.finish.result (λ made. flat (spread made.0) ≡ done ++ stable_sort (before rules) run) (λ made. flat (spread made.0) ≡ map_ranges rules d (flat (spread gs))) (λ made e. e ∙ sorted) c.finish.ensures.ranges
 

@@ -11,10 +11,10 @@ invariant-loop-placed g l =
     let rules = g.T.RangeValue.rules in
     record {
       builder : IsMappedBuilder rules l.builder;
-      walked : IsWalked rules l.changes (flat (spread l.groups)) (spread (drop l.placed-index l.groups)) (put_down l.builder) l.builder.run.items l.walk.walker.reached l.replaced;
+      walked : IsWalked rules l.changes (flat (spread l.groups)) (spread (drop l.placed-index l.groups)) (put_down l.builder) l.builder.run.items l.walk.walker.reached l.left;
       desc : l.walk.walker.desc ≡ l.changes;
       clear : IsClearWalk l.walk;
-      begin : BeginAfter 0 l.replaced;
+      begin : BeginAfter 0 l.left;
       cost : l.mapped + allowance rules l.changes (spread (drop l.placed-index l.groups)) ≤ l.initial.mapped + allowance rules l.changes (spread l.groups);
     }
 
@@ -24,9 +24,9 @@ invariant-loop-inner g l =
     let rest = map (move l.placed.start) (drop l.inner-index l.placed.group.value.chunks.items) ++ spread (drop (l.placed-index + 1) l.groups) in
     record {
       builder : IsMappedBuilder rules l.builder;
-      walked : IsWalked rules l.changes (flat (spread l.groups)) rest (put_down l.builder) l.builder.run.items l.walk.walker.reached l.replaced;
+      walked : IsWalked rules l.changes (flat (spread l.groups)) rest (put_down l.builder) l.builder.run.items l.walk.walker.reached l.left;
       desc : l.walk.walker.desc ≡ l.changes;
       clear : IsClearWalk l.walk;
-      begin : BeginAfter 0 l.replaced;
+      begin : BeginAfter 0 l.left;
       cost : l.mapped + allowance rules l.changes rest ≤ l.fn.mapped + allowance rules l.changes (spread l.groups);
     }
