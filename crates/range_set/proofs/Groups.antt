@@ -78,7 +78,7 @@ module _ {T : Type 0} where
   begins start n (r ∷ rs) later some f h = omega (arith, h.0, f)
 
 module _ {T : Type 0} (rules : RangeRules T) where
-  turned_any : (start : ℕ) (rs : List (Ranged T)) → list_any (is_turned rules) (map (shift start) rs) ≡ list_any (is_turned rules) rs
+  pub turned_any : (start : ℕ) (rs : List (Ranged T)) → list_any (is_turned rules) (map (shift start) rs) ≡ list_any (is_turned rules) rs
   turned_any start [] = refl
   turned_any start (r ∷ rs) =
       ap (λ b. b || list_any (is_turned rules) (map (shift start) rs)) (turned-shifted rules start r) ∙ ap (λ b. is_turned rules r || b) (turned_any start rs)

@@ -12,6 +12,7 @@ pub mod Cost
 pub mod Walked
 pub mod Parts
 pub mod WalkedGroups
+pub mod Still
 pub mod Sets
 pub mod Same
 pub mod Adding

@@ -1,7 +1,8 @@
-ghost use Rattle.std.specs.Prelude.{◌≡◌, ◌≢◌, ◌↔◌, ◌+◌, ◌-◌, ◌≤◌, ◌<◌, ◌^◌, true, [], None, Some, length, IfOk, IfErr, IsTrue, filter, option_map, slice_get, map};
+ghost use Rattle.std.specs.Prelude.{◌≡◌, ◌≢◌, ◌↔◌, ◌+◌, ◌-◌, ◌≤◌, ◌<◌, ◌^◌, true, false, [], None, Some, length, IfOk, IfErr, IsTrue, filter, option_map, slice_get, map};
+ghost use Rattle.std.specs.List.{list_any};
 ghost use Rattle.change_desc.specs.Sections.{counted, new_size, old_size};
 ghost use Rattle.range_set.specs.Order.{first_fault};
-ghost use Rattle.range_set.specs.Mapping.{map_ranges, most_mapped, EndWithin};
+ghost use Rattle.range_set.specs.Mapping.{is_turned, map_ranges, most_mapped, EndWithin};
 ghost use Rattle.range_set.specs.Points.{points_of};
 ghost use Rattle.range_set.specs.PrivateChunks.{AreChunks, AreGroups, AreGroupsOf, flat, greatest_end, shift, spread};
 ghost use Rattle.range_set.specs.Seen.{seen};
@@ -229,6 +230,9 @@ impl<T: RangeValue> RangeSet<T> {
         if self.len() == 0 {
             return Ok(RangeSet::empty(alloc));
         }
+        if changes.is_empty() && none_turned(self.groups.as_slice()) {
+            return self.try_copy();
+        }
         let (groups, len) = mapped_groups(alloc, self.groups.as_slice(), changes, mapped)?;
         Ok(RangeSet { groups, len })
     }
@@ -280,6 +284,19 @@ fn in_groups<T: RangeValue>(
     let mut builder = GroupBuilder::for_chunks(alloc, chunks.len());
     builder.put_all(chunks)?;
     builder.finish()
+}
+
+/// Whether no range of some groups is empty with an end side less than its start side.
+fn none_turned<T: RangeValue>(groups: &[PlacedGroup<T>]) -> bool
+    requires { AreGroups T.rules groups.now }
+    ensures { IsTrue result → list_any (is_turned T.rules) (flat (spread groups.now)) ≡ false }
+{
+    for placed in groups {
+        if placed.group.is_turned {
+            return false;
+        }
+    }
+    true
 }
 
 /// Whether each range of some groups lies in a document of `len` characters: whether their hulls do.

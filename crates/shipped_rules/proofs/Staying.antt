@@ -1,5 +1,5 @@
 -- Sets that empty changes leave as they are.
-use Rattle.std.proofs.Common.{◌≡◌, ℕ, suc, ◌+◌, ◌-◌, ◌≤◌, Bool, true, false, ◌&&◌, ◌||◌, cond, ltb, List, [], ◌∷◌, ◌++◌, length, filter_map, Option, Some, None, refl, sym, ap, ◌∙◌, subst, arith}
+use Rattle.std.proofs.Common.{◌≡◌, ℕ, suc, ◌+◌, ◌≤◌, Bool, true, false, ◌&&◌, ◌||◌, cond, List, [], ◌∷◌, ◌++◌, length, filter_map, Option, Some, None, refl, sym, ap, ◌∙◌, subst, arith}
 use Rattle.std.specs.Prelude.{◌==◌, ℤ, pos, filter, int_le, int_lt, nat_lt, option_and_then, option_map}
 use Rattle.std.specs.List.{cons_option}
 use Rattle.std.proofs.lemmas.Bool.Decides.{nat_tests}
@@ -9,7 +9,7 @@ use Rattle.change_desc.specs.declared.section.Section.TheVariants.{Keep, Replace
 use Rattle.change_desc.specs.declared.map_mode.MapMode.{MapMode}
 use Rattle.change_desc.specs.declared.map_mode.MapMode.TheVariants.{Simple}
 use Rattle.change_desc.specs.Positions.{is_negative}
-use Rattle.change_desc.specs.Ranges.{changes_nothing, replaced_from}
+use Rattle.change_desc.specs.Ranges.{changes_nothing}
 use Rattle.change_desc.specs.Sections.{lengths, old_size, spelled}
 use Rattle.change_desc.proofs.Merges.{old_size-lengths}
 use Rattle.stable_order.specs.StableSort.{stable_sort}
@@ -18,29 +18,15 @@ use Rattle.range_set.specs.declared.ranged.Ranged.{Ranged}
 use Rattle.range_set.specs.Mapping.{Changes, Ends, ends_unless_turned, moved, place_of, point_ends, span_ends}
 use Rattle.range_set.specs.Order.{before, first_fault}
 use Rattle.range_set.specs.Ranking.{before-order}
-use Rattle.range_set.proofs.Clear.{clear_place, map_pos-clear}
+use Rattle.range_set.proofs.Clear.{map_pos-clear}
 use Rattle.range_set.proofs.Each.{Within, end_within}
 use Rattle.range_set.proofs.RangeOrder.{rises-no_fault}
+use Rattle.range_set.proofs.Still.{none_replaced, same_place}
 use Rattle.decoration.specs.declared.deco.Deco.{Deco}
 use Rattle.decoration.specs.Sides.{deco_rules, end_side, mode_of, start_side}
 use Rattle.values.specs.Updating.{DecoRanges, is_within, kept_within, mapped_set}
 use Rattle.values.specs.Views.{IsTransaction, TransactionView}
 use Rattle.shipped_rules.proofs.InsideSets.{filter-within, kept_whole}
-
--- empty changes replace nothing
-none_replaced : (a b : ℕ) (s : Changes) → changes_nothing s ≡ true → replaced_from a b s ≡ []
-none_replaced a b [] h = refl
-none_replaced a b (Keep n ∷ s) h = none_replaced (a + n) (b + n) s h
-none_replaced a b (Replace n t ∷ s) h = cc
-
-same_place : (s : Changes) (p : ℕ) → changes_nothing s ≡ true → clear_place s p ≡ p
-same_place [] p h = refl
-same_place (Keep n ∷ s) p h = at (ltb p n) refl (same_place s (p - n) h)
-  where
-    at : (b : Bool) → ltb p n ≡ b → clear_place s (p - n) ≡ p - n → cond b p (n + clear_place s (p - n)) ≡ p
-    at true e f = refl
-    at false e f = let l : n ≤ p = grind (arith, nat_tests) in omega (arith, f, l)
-same_place (Replace n t ∷ s) p h = cc
 
 nothing-lengths : (s : List (Section (List ℕ))) → changes_nothing (lengths spelled s) ≡ changes_nothing s
 nothing-lengths [] = refl
