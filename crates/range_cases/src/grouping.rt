@@ -1,4 +1,5 @@
-// Groups of chunks of points that stand ten characters apart, most of which refuse to be copied.
+// Groups of chunks of points that stand ten characters apart, most of which refuse to be copied. A chunk has 32 points, a group here
+// 16 chunks at most: 6,400 points stand in 13 groups, 2,240 in four of 16 chunks and one of 6.
 use crate::numbered::{Numbered, described};
 use change_desc::Section;
 use range_set::{Iter, RangeSet, Ranged};
@@ -150,14 +151,14 @@ fn changes_far_apart_meet_two_groups(rt: HostRuntime) -> Result<(), Fail> {
     ];
     let steps: [&[Section<u32>]; 1] = [&step];
     let rows = [(1, 1, 0), (2, 19_999, -3), (20_000, 20_000, 0)];
-    let all = [(1, 20_000), (0, 0)];
-    assert!(rt; stand_after(rt.alloc(), 20_000, &all, &steps, &rows)? == Some(true));
+    let ends = [(1, 32), (19_969, 20_000)];
+    assert!(rt; stand_after(rt.alloc(), 20_000, &ends, &steps, &rows)? == Some(true));
     Ok(())
 }
 
-/// 2,240 points, of which the first group keeps one chunk, and an insertion into it: a run and a shared group after it.
+/// The first group keeps its first chunk, of points 1 to 32, and then an insertion meets this: a run stands before a group of 16 chunks.
 #[test]
-fn a_group_after_a_run_is_shared(rt: HostRuntime) -> Result<(), Fail> {
+fn a_run_is_put_before_a_shared_group(rt: HostRuntime) -> Result<(), Fail> {
     let less = [
         Section::Keep(325),
         Section::Replace(4_800, 0),
@@ -174,10 +175,10 @@ fn a_group_after_a_run_is_shared(rt: HostRuntime) -> Result<(), Fail> {
     Ok(())
 }
 
-/// 2,240 points, of which the last group but one keeps one chunk, which becomes one group with those of the last, and insertions into
-/// both.
+/// The fourth group keeps its first chunk, of points 1537 to 1568, which stands before the 6 chunks of the last, and then insertions
+/// meet this chunk and the first of the last group.
 #[test]
-fn two_small_groups_become_one(rt: HostRuntime) -> Result<(), Fail> {
+fn chunks_of_two_small_groups_are_mapped(rt: HostRuntime) -> Result<(), Fail> {
     let less = [
         Section::Keep(15_685),
         Section::Replace(4_800, 0),
@@ -200,6 +201,28 @@ fn two_small_groups_become_one(rt: HostRuntime) -> Result<(), Fail> {
     for (copied, want) in &[
         ([(1537, 1568), (2049, 2080)], Some(true)),
         ([(1537, 1568), (2049, 2079)], None),
+    ] {
+        assert!(rt; stand_after(rt.alloc(), 2240, copied, &steps, &rows)? == *want);
+    }
+    Ok(())
+}
+
+/// The fourth group keeps its last chunk, of points 2017 to 2048, which an insertion meets at once: a run stands before the 6 chunks of
+/// the last group.
+#[test]
+fn a_run_is_put_before_a_small_group(rt: HostRuntime) -> Result<(), Fail> {
+    let step = [
+        Section::Keep(15_365),
+        Section::Replace(4_800, 0),
+        Section::Keep(10),
+        Section::Replace(0, 3),
+        Section::Keep(2_325),
+    ];
+    let steps: [&[Section<u32>]; 1] = [&step];
+    let rows = [(1, 1536, 0), (2017, 2017, -4_800), (2018, 2240, -4_797)];
+    for (copied, want) in &[
+        ([(2017, 2048), (0, 0)], Some(true)),
+        ([(2017, 2047), (0, 0)], None),
     ] {
         assert!(rt; stand_after(rt.alloc(), 2240, copied, &steps, &rows)? == *want);
     }

@@ -293,7 +293,7 @@ fn chunks_that_an_update_leaves_are_shared(rt: HostRuntime) -> Result<(), Fail> 
 
 #[test]
 fn chunks_without_an_added_range_are_shared(rt: HostRuntime) -> Result<(), Fail> {
-    // 20,000 points stand in ten groups, the first chunk of which has points 1 to 32
+    // 20,000 points stand in some 40 groups, the first chunk of which has points 1 to 32
     assert!(rt; has_more(rt.alloc(), 20_000, 0, 300_000, false)? == Some((20_001, true)));
     assert!(rt; has_more(rt.alloc(), 20_000, 0, 5, false)? == Some((20_001, true)));
     assert!(rt; has_more(rt.alloc(), 20_000, 32, 165, false)? == Some((20_001, true)));
