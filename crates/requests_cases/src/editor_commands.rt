@@ -4,10 +4,10 @@ use requests::{DoRequest, EditorCommand, Move, Request};
 use std::alloc::{AllocError, Global};
 use std::test::Fail;
 
-/// What a request asks the editor to do, if it does.
-fn asked(found: &Option<Request>) -> Option<&DoRequest> {
-    match found {
-        Some(Request::Do(asked)) => Some(asked),
+/// What a line asks the editor to do, if it does.
+fn asked(alloc: Global, line: &str) -> Option<DoRequest> {
+    match request(alloc, line)? {
+        Request::Do(asked) => Some(asked),
         _ => None,
     }
 }
@@ -15,7 +15,7 @@ fn asked(found: &Option<Request>) -> Option<&DoRequest> {
 /// The command of the editor of this name.
 fn command_of(alloc: Global, name: &str) -> Result<Option<EditorCommand>, AllocError> {
     let line = format!(in alloc; "{{\"do\":{{\"command\":\"{name}\"}}}}")?;
-    Ok(asked(&request(alloc, line.as_str())).map(|asked| asked.command))
+    Ok(asked(alloc, line.as_str()).map(|asked| asked.command))
 }
 
 const EDITOR_COMMANDS: &[(&str, EditorCommand)] = &[
@@ -54,7 +54,7 @@ fn each_editor_command_is_read(rt: HostRuntime) -> Result<(), Fail> {
 /// The move of this name.
 fn move_of(alloc: Global, name: &str) -> Result<Option<Move>, AllocError> {
     let line = format!(in alloc; "{{\"do\":{{\"command\":\"move\",\"move\":\"{name}\"}}}}")?;
-    Ok(asked(&request(alloc, line.as_str())).map(|asked| asked.direction))
+    Ok(asked(alloc, line.as_str()).map(|asked| asked.direction))
 }
 
 const MOVES: &[(&str, Move)] = &[
@@ -94,7 +94,7 @@ fn has_fields(
     extend: bool,
     time: Option<i64>,
 ) -> Result<bool, AllocError> {
-    match asked(&request(alloc, line)) {
+    match asked(alloc, line) {
         Some(asked) => Ok(
             is(&asked.text, text)?
                 && asked.direction == direction
@@ -117,8 +117,14 @@ fn editor_commands_have_defaults(rt: HostRuntime) -> Result<(), Fail> {
 
 /// The rows and columns of the window that a line asks for.
 fn size_of(alloc: Global, line: &str) -> Option<(u32, u32)> {
-    match &request(alloc, line) {
-        Some(Request::View(size)) => Some((size.rows, size.cols)),
+    let found = request(alloc, line)?;
+    size_in(&found)
+}
+
+/// The rows and columns of the window that a request is for.
+fn size_in(found: &Request) -> Option<(u32, u32)> {
+    match found {
+        Request::View(size) => Some((size.rows, size.cols)),
         _ => None,
     }
 }
@@ -131,9 +137,17 @@ fn windows_of_any_size_are_read(rt: HostRuntime) {
 
 /// Whether a line opens or saves this file.
 fn is_of_file(alloc: Global, line: &str, file: &str) -> Result<bool, AllocError> {
-    match &request(alloc, line) {
-        Some(Request::Open(asked)) => is(&asked.file, file),
-        Some(Request::Save(name)) => is(name, file),
+    match request(alloc, line) {
+        Some(found) => names_file(&found, file),
+        None => Ok(false),
+    }
+}
+
+/// Whether a request opens or saves this file.
+fn names_file(found: &Request, file: &str) -> Result<bool, AllocError> {
+    match found {
+        Request::Open(asked) => is(&asked.file, file),
+        Request::Save(name) => is(name, file),
         _ => Ok(false),
     }
 }

@@ -15,8 +15,8 @@ fn refusal(alloc: Global, line: &str) -> Option<Refusal> {
 
 /// Whether a line is refused for this member.
 fn is_bad(alloc: Global, line: &str, want: &str) -> Result<bool, AllocError> {
-    match &refusal(alloc, line) {
-        Some(Refusal::BadValue { field }) => is(field, want),
+    match refusal(alloc, line) {
+        Some(Refusal::BadValue { field }) => is(&field, want),
         _ => Ok(false),
     }
 }
@@ -62,8 +62,8 @@ const DO: (&str, &str) = ("{\"do\":", "}");
 
 /// Whether a line is refused since there is no command of this name.
 fn is_no_command(alloc: Global, line: &str, want: &str) -> Result<bool, AllocError> {
-    match &refusal(alloc, line) {
-        Some(Refusal::NotCommand { field }) => is(field, want),
+    match refusal(alloc, line) {
+        Some(Refusal::NotCommand { field }) => is(&field, want),
         _ => Ok(false),
     }
 }

@@ -17,14 +17,6 @@ pub(crate) fn declaration(alloc: Global, line: &str) -> Option<Declaration> {
     }
 }
 
-/// What a request declares, if it declares something.
-pub(crate) fn declared(found: &Option<Request>) -> Option<&Declaration> {
-    match found {
-        Some(Request::Declare(declaration)) => Some(declaration),
-        _ => None,
-    }
-}
-
 /// Whether a text is this one.
 pub(crate) fn is(text: &Str, want: &str) -> Result<bool, AllocError> {
     Ok(text.text()?.as_str() == want)

@@ -1,5 +1,5 @@
 // Lines that are read.
-use crate::reading::{are, declared, is, request};
+use crate::reading::{are, declaration, is, request};
 use cm_plain::Str;
 use ext_tree::Precedence;
 use requests::{
@@ -10,21 +10,28 @@ use std::test::Fail;
 
 /// The command of a line that is read.
 fn command_of(alloc: Global, line: &str) -> &'static str {
-    match &request(alloc, line) {
+    match request(alloc, line) {
+        Some(found) => asking(&found),
         None => "none",
-        Some(Request::Declare(declaration)) => declaring(declaration),
-        Some(Request::Start(_)) => "start",
-        Some(Request::Open(_)) => "open",
-        Some(Request::Save(_)) => "save",
-        Some(Request::Update(_)) => "update",
-        Some(Request::Do(_)) => "do",
-        Some(Request::Text) => "text",
-        Some(Request::Selection) => "selection",
-        Some(Request::Get(_)) => "get",
-        Some(Request::Map(_)) => "map",
-        Some(Request::View(_)) => "view",
-        Some(Request::Screen) => "screen",
-        Some(Request::Summary) => "summary",
+    }
+}
+
+/// The command of a request.
+fn asking(found: &Request) -> &'static str {
+    match found {
+        Request::Declare(declaration) => declaring(declaration),
+        Request::Start(_) => "start",
+        Request::Open(_) => "open",
+        Request::Save(_) => "save",
+        Request::Update(_) => "update",
+        Request::Do(_) => "do",
+        Request::Text => "text",
+        Request::Selection => "selection",
+        Request::Get(_) => "get",
+        Request::Map(_) => "map",
+        Request::View(_) => "view",
+        Request::Screen => "screen",
+        Request::Summary => "summary",
     }
 }
 
@@ -119,7 +126,7 @@ fn is_facet(
     is_static: bool,
     enables: &[&str],
 ) -> Result<bool, AllocError> {
-    match declared(&request(alloc, line)) {
+    match declaration(alloc, line) {
         Some(Declaration::Facet(facet)) => Ok(
             facet.def.combine == 5
                 && facet.def.compare_input == compare_input
@@ -156,7 +163,7 @@ fn is_field(
     listens: &[&str],
     rule: Option<u32>,
 ) -> Result<bool, AllocError> {
-    match declared(&request(alloc, line)) {
+    match declaration(alloc, line) {
         Some(Declaration::Field(field)) => Ok(
             field.rules.create == 3
                 && field.rules.update == 2
@@ -220,8 +227,8 @@ fn level_in(declared: &Declaration) -> Result<Option<usize>, AllocError> {
 /// The precedence of a wrapper p of a that a line declares, from 0 for the highest.
 fn level_of(alloc: Global, at: &str) -> Result<Option<usize>, AllocError> {
     let line = format!(in alloc; "{{\"prec\":{{\"name\":\"p\",\"at\":\"{at}\",\"of\":\"a\"}}}}")?;
-    match declared(&request(alloc, line.as_str())) {
-        Some(declared) => level_in(declared),
+    match declaration(alloc, line.as_str()) {
+        Some(declared) => level_in(&declared),
         None => Ok(None),
     }
 }
@@ -248,8 +255,16 @@ fn precedences_are_read(rt: HostRuntime) -> Result<(), Fail> {
 /// The form of the only effect of an update, and the names that stand in it.
 fn is_effect(alloc: Global, effect: &str, form: &str, names: &[&str]) -> Result<bool, AllocError> {
     let line = format!(in alloc; "{{\"update\":[{{\"effects\":[{effect}]}}]}}")?;
-    match &request(alloc, line.as_str()) {
-        Some(Request::Update(specs)) => is_only_effect(specs.as_slice(), form, names),
+    match request(alloc, line.as_str()) {
+        Some(found) => updates_by(&found, form, names),
+        None => Ok(false),
+    }
+}
+
+/// Whether a request is an update whose only effect is of this form and has these names.
+fn updates_by(found: &Request, form: &str, names: &[&str]) -> Result<bool, AllocError> {
+    match found {
+        Request::Update(specs) => is_only_effect(specs.as_slice(), form, names),
         _ => Ok(false),
     }
 }
@@ -294,8 +309,16 @@ fn effects_of_all_forms_are_read(rt: HostRuntime) -> Result<(), Fail> {
 
 /// Whether `start` with these extensions reads them.
 fn starts_with(alloc: Global, line: &str, extensions: &[&str]) -> Result<bool, AllocError> {
-    match &request(alloc, line) {
-        Some(Request::Start(state)) => are(state.extensions.as_slice(), extensions),
+    match request(alloc, line) {
+        Some(found) => has_extensions(&found, extensions),
+        None => Ok(false),
+    }
+}
+
+/// Whether a request is for a state with these extensions.
+fn has_extensions(found: &Request, extensions: &[&str]) -> Result<bool, AllocError> {
+    match found {
+        Request::Start(state) => are(state.extensions.as_slice(), extensions),
         _ => Ok(false),
     }
 }
@@ -308,23 +331,26 @@ fn extensions_are_read(rt: HostRuntime) -> Result<(), Fail> {
     Ok(())
 }
 
-/// How deep the plain value of an input is, if it has one.
-fn depth_in(declared: Option<&Declaration>) -> Option<u64> {
-    match declared {
-        Some(Declaration::Input(input)) => match &input.value {
-            Written::Plain(plain) => Some(plain.depth() as u64),
-            Written::Ranges(_) => None,
-        },
-        _ => None,
-    }
-}
-
 /// How deep the plain value is that a line gives an input, and none where it gives ranges.
 fn depth_of(alloc: Global, value: &str) -> Result<Option<u64>, AllocError> {
     let line = format!(in alloc;
         "{{\"input\":{{\"name\":\"n\",\"facet\":\"f\",\"value\":{value}}}}}"
     )?;
-    Ok(depth_in(declared(&request(alloc, line.as_str()))))
+    match declaration(alloc, line.as_str()) {
+        Some(declared) => Ok(depth_in(&declared)),
+        None => Ok(None),
+    }
+}
+
+/// How deep the plain value of an input is, if it has one.
+fn depth_in(declared: &Declaration) -> Option<u64> {
+    match declared {
+        Declaration::Input(input) => match &input.value {
+            Written::Plain(plain) => Some(plain.depth() as u64),
+            Written::Ranges(_) => None,
+        },
+        _ => None,
+    }
 }
 
 #[test]
