@@ -36,6 +36,10 @@ pub or_second : (x s t : Bool) → x ≡ t → s ≡ false → x ≡ (s || t)
 or_second x true t e h = cc
 or_second x false t e h = e
 
+pub or_false : (b : Bool) → (b || false) ≡ b
+or_false true = refl
+or_false false = refl
+
 pub nonempty : (n len : ℕ) → (len == 0) ≡ false → len ≡ n → 1 ≤ n
 nonempty n len h e = grind (arith, nat_tests)
 
@@ -57,7 +61,7 @@ module _ {T : Type 0} where
   pub flat-push : (ps : List (Placed T)) (p : Placed T) → flat (ps ++ p ∷ []) ≡ flat ps ++ map (shift p.start) p.chunk.value.ranges.items
   flat-push ps p = flat-append ps (p ∷ []) ∙ ap (λ r. flat ps ++ r) (append-nil (map (shift p.start) p.chunk.value.ranges.items))
 
-  greatest-push : (rs : List (Ranged T)) (r : Ranged T) → greatest_end (rs ++ r ∷ []) ≡ max (greatest_end rs) r.to
+  pub greatest-push : (rs : List (Ranged T)) (r : Ranged T) → greatest_end (rs ++ r ∷ []) ≡ max (greatest_end rs) r.to
   greatest-push [] r = omega arith
   greatest-push (q ∷ rs) r = let e = greatest-push rs r in omega (arith, e)
 
@@ -126,7 +130,7 @@ module _ {T : Type 0} (rules : RangeRules T) where
   abbrev pub counted_from : ℕ → Ranged T → Ranged T
   counted_from start r = record { from = r.from - start; to = r.to - start; value = r.value }
 
-  turned-counted : (start : ℕ) (r : Ranged T) → start ≤ r.from → start ≤ r.to → is_turned rules (counted_from start r) ≡ is_turned rules r
+  pub turned-counted : (start : ℕ) (r : Ranged T) → start ≤ r.from → start ≤ r.to → is_turned rules (counted_from start r) ≡ is_turned rules r
   turned-counted start r l m = ap (λ b. b && int_lt (rules.end_side r.value) (rules.start_side r.value)) (same r.from r.to l m)
     where
       same : (a b : ℕ) → start ≤ a → start ≤ b → (a - start == b - start) ≡ (a == b)
@@ -150,10 +154,6 @@ module _ {T : Type 0} (rules : RangeRules T) where
             ∙ (sym (list_any-append (stands rules) before.ranges.items (x ∷ [])) ∙ ap (list_any (stands rules)) (sym items))));
         fits = let k = h.fits in omega (arith, reach);
       }
-    where
-      or_false : (b : Bool) → (b || false) ≡ b
-      or_false true = refl
-      or_false false = refl
 
   pub shift_counted : (start : ℕ) (r : Ranged T) → start ≤ r.from → start ≤ r.to → shift start (counted_from start r) ≡ r
   shift_counted start r l m =

@@ -83,7 +83,7 @@ module _ {T : Type 0} (rules : RangeRules T) where
   turned_any start (r ∷ rs) =
       ap (λ b. b || list_any (is_turned rules) (map (shift start) rs)) (turned-shifted rules start r) ∙ ap (λ b. is_turned rules r || b) (turned_any start rs)
 
-  points_any : (start : ℕ) (rs : List (Ranged T)) → list_any (stands rules) (map (shift start) rs) ≡ list_any (stands rules) rs
+  pub points_any : (start : ℕ) (rs : List (Ranged T)) → list_any (stands rules) (map (shift start) rs) ≡ list_any (stands rules) rs
   points_any start [] = refl
   points_any start (r ∷ rs) = ap (λ b. stands rules r || b) (points_any start rs)
 

@@ -1,7 +1,9 @@
 pub mod RangeOrder
 pub mod Clear
 pub mod Chunks
+pub mod Whole
 pub mod Groups
+pub mod WholeGroups
 pub mod Passing
 pub mod Each
 pub mod Under

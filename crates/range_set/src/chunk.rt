@@ -1,5 +1,6 @@
 ghost use Rattle.std.specs.Prelude.{IfOk, false, [], map, ◌++◌, ◌+◌, ◌∷◌, ◌≡◌, ◌≤◌, ◌<◌, ◌^◌, length};
-ghost use Rattle.range_set.specs.PrivateChunks.{IsChunk, shift};
+ghost use Rattle.range_set.specs.Order.{AllForward};
+ghost use Rattle.range_set.specs.PrivateChunks.{Ascend, IsChunk, first_start, shift};
 
 use crate::range_value::RangeValue;
 use crate::ranged::Ranged;
@@ -49,6 +50,33 @@ impl<T: RangeValue> Chunk<T> {
             reach: 0,
             is_turned: false,
             has_point: false,
+        }
+    }
+
+    /// The chunk of ranges in order at the place `start`, where the first of them starts.
+    pub(crate) fn of(start: u32, mut ranges: Vec<Ranged<T>>) -> Chunk<T>
+        requires few { length ranges.items ≤ 128 }
+        requires first { first_start ranges.items ≡ start }
+        requires order { Ascend start ranges.items }
+        requires forward { AllForward ranges.items }
+        ensures chunk { IsChunk T.rules start result }
+        ensures ranges { map (shift start) result.ranges.items ≡ ranges.items }
+    {
+        let mut reach: u32 = 0;
+        let mut is_turned = false;
+        let mut has_point = false;
+        for range in ranges.iter_mut() {
+            is_turned = is_turned || range.is_turned();
+            has_point = has_point || range.value.is_point();
+            range.from -= start;
+            range.to -= start;
+            reach = reach.max(range.to);
+        }
+        Chunk {
+            ranges,
+            reach,
+            is_turned,
+            has_point,
         }
     }
 

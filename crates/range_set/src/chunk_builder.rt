@@ -1,5 +1,6 @@
 ghost use Rattle.std.specs.Prelude.{IfOk, IsTrue, false, [], ◌++◌, ◌+◌, ◌∷◌, ◌≡◌, ◌≤◌, ◌<◌, ◌^◌, length, map};
-ghost use Rattle.range_set.specs.PrivateChunks.{AreChunks, BeginBy, IsBuilder, IsChunk, built, flat, shift};
+ghost use Rattle.range_set.specs.Order.{AllForward};
+ghost use Rattle.range_set.specs.PrivateChunks.{AreChunks, Ascend, BeginBy, IsBuilder, IsChunk, built, flat, shift};
 
 use crate::chunk::{Chunk, FEW_RANGES, MAX_RANGES, MAX_SHARED_LEN, Placed, stands_alone};
 use crate::range_value::RangeValue;
@@ -34,6 +35,32 @@ impl<T: RangeValue> ChunkBuilder<T> {
         ensures { IsTrue result → built self.now ≡ [] }
     {
         self.done.is_empty() && self.growing.ranges.is_empty()
+    }
+
+    /// Whether ranges are to be a chunk of their own that grows: whether none is growing, they are few enough for one, and none of
+    /// them is too long to share it.
+    pub(crate) fn takes_whole(&self, ranges: &[Ranged<T>]) -> bool
+        ensures growing { IsTrue result → self.now.growing.ranges.items ≡ [] }
+        ensures few { IsTrue result → length ranges.now ≤ 128 }
+    {
+        self.growing.ranges.is_empty() && ranges.len() <= MAX_RANGES && are_short(ranges)
+    }
+
+    /// Puts ranges in order after those of the chunks that are done, where none is growing, as the chunk that grows.
+    pub(crate) fn put_whole(&mut self, ranges: Vec<Ranged<T>>)
+        requires builder { IsBuilder T.rules self.old }
+        requires growing { self.old.growing.ranges.items ≡ [] }
+        requires few { length ranges.items ≤ 128 }
+        requires order { Ascend 0 ranges.items }
+        requires forward { AllForward ranges.items }
+        ensures builder { IsBuilder T.rules self.new }
+        ensures ranges { built self.new ≡ built self.old ++ ranges.items }
+    {
+        if let Some(first) = ranges.first() {
+            let start = first.from;
+            self.start = start;
+            self.growing = Chunk::of(start, ranges);
+        }
     }
 
     /// Puts a range after the others, the first of `left` that are still to come of a run. `Err`: out of memory.
@@ -99,6 +126,13 @@ impl<T: RangeValue> ChunkBuilder<T> {
         seal(&mut self.done, self.start, &mut self.growing)?;
         Ok(self.done)
     }
+}
+
+/// Whether no range is too long to share a chunk with others.
+fn are_short<T>(ranges: &[Ranged<T>]) -> bool {
+    ranges
+        .iter()
+        .all(|range| range.to.saturating_sub(range.from) <= MAX_SHARED_LEN)
 }
 
 /// Whether a chunk of `len` ranges grows no more, where `left` are still to come of its run: it has the most that a chunk may have,

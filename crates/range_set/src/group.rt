@@ -1,5 +1,5 @@
 ghost use Rattle.std.specs.Prelude.{IfOk, [], drop, map, take, ◌++◌, ◌∷◌, ◌+◌, ◌≡◌, ◌≤◌, ◌<◌, ◌^◌, length};
-ghost use Rattle.range_set.specs.PrivateChunks.{IsChunk, IsGroup, flat, move};
+ghost use Rattle.range_set.specs.PrivateChunks.{AreChunks, Ascend, IsChunk, IsGroup, first_start, flat, move};
 
 use crate::chunk::Placed;
 use crate::range_value::RangeValue;
@@ -70,6 +70,37 @@ impl<T: RangeValue> Group<T> {
             reach: 0,
             is_turned: false,
             has_point: false,
+        }
+    }
+
+    /// The group of chunks in order at the place `start`, where the first of them stands.
+    pub(crate) fn of(start: u32, mut chunks: Vec<Placed<T>>) -> Group<T>
+        requires few { length chunks.items ≤ 64 }
+        requires chunks { AreChunks T.rules chunks.items }
+        requires first { first_start (flat chunks.items) ≡ start }
+        requires order { Ascend start (flat chunks.items) }
+        requires room { length (flat chunks.items) < 2 ^ 64 }
+        ensures group { IsGroup T.rules start result }
+        ensures chunks { map (move start) result.chunks.items ≡ chunks.items }
+    {
+        let mut count: usize = 0;
+        let mut reach: u32 = 0;
+        let mut is_turned = false;
+        let mut has_point = false;
+        for placed in chunks.iter_mut() {
+            let from = placed.start - start;
+            count += placed.chunk.ranges.len();
+            reach = reach.max(from + placed.chunk.reach);
+            is_turned = is_turned || placed.chunk.is_turned;
+            has_point = has_point || placed.chunk.has_point;
+            placed.start = from;
+        }
+        Group {
+            chunks,
+            count,
+            reach,
+            is_turned,
+            has_point,
         }
     }
 

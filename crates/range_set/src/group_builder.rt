@@ -1,4 +1,4 @@
-ghost use Rattle.std.specs.Prelude.{IfOk, false, [], ◌++◌, ◌∷◌, ◌+◌, ◌≡◌, ◌≤◌, ◌<◌, ◌^◌, length, map};
+ghost use Rattle.std.specs.Prelude.{IfOk, IsTrue, false, [], ◌++◌, ◌∷◌, ◌+◌, ◌≡◌, ◌≤◌, ◌<◌, ◌^◌, length, map};
 ghost use Rattle.range_set.specs.PrivateChunks.{AreChunks, AreGroups, AreGroupsOf, Ascend, BeginBy, IsChunk, IsGroup, IsGroupBuilder, flat, grouped, move, spread};
 
 use crate::chunk::Placed;
@@ -58,12 +58,44 @@ impl<T: RangeValue> GroupBuilder<T> {
         ensures builder { IfOk result (λ _. IsGroupBuilder T.rules self.new) }
         ensures ranges { IfOk result (λ _. grouped self.new ≡ grouped self.old ++ chunks.items) }
     {
+        if self.takes_whole(chunks.len()) {
+            self.put_whole(chunks);
+            return Ok(());
+        }
         let mut left = chunks.len();
         for placed in chunks {
             self.push(placed, left)?;
             left -= 1;
         }
         Ok(())
+    }
+
+    /// Whether so many chunks are to be a group of their own that grows: whether none is growing, and they are few enough for one.
+    fn takes_whole(&self, len: usize) -> bool
+        ensures growing { IsTrue result → self.now.growing.chunks.items ≡ [] }
+        ensures few { IsTrue result → len ≤ 64 }
+    {
+        self.growing.chunks.is_empty() && len <= self.full && len <= MAX_CHUNKS
+    }
+
+    /// Puts chunks in order after those of the groups that are done, where none is growing, as the group that grows.
+    fn put_whole(&mut self, chunks: Vec<Placed<T>>)
+        requires builder { IsGroupBuilder T.rules self.old }
+        requires growing { self.old.growing.chunks.items ≡ [] }
+        requires few { length chunks.items ≤ 64 }
+        requires chunks { AreChunks T.rules chunks.items }
+        requires room { length (flat (grouped self.old)) + length (flat chunks.items) < 2 ^ 64 }
+        requires order { Ascend 0 (flat chunks.items) }
+        ensures builder { IsGroupBuilder T.rules self.new }
+        ensures ranges { grouped self.new ≡ grouped self.old ++ chunks.items }
+    {
+        if let Some(first) = chunks.first() {
+            let start = first.start;
+            let group = Group::of(start, chunks);
+            self.len += group.count;
+            self.start = start;
+            self.growing = group;
+        }
     }
 
     /// Puts a chunk after the others, the first of `left` that are still to come of a run. `Err`: out of memory.

@@ -313,7 +313,7 @@ fn groups_end_within<T: RangeValue>(groups: &[PlacedGroup<T>], len: u32) -> bool
 }
 
 /// The first fault of a list of ranges.
-fn fault_in<T: RangeValue>(ranges: &[Ranged<T>]) -> Option<RangeError>
+pub(crate) fn fault_in<T: RangeValue>(ranges: &[Ranged<T>]) -> Option<RangeError>
     ensures value { result ≡ first_fault T.rules ranges.now }
 {
     let mut last = None;

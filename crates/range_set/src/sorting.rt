@@ -4,6 +4,7 @@ ghost use Rattle.range_set.specs.PrivateChunks.{Ascend, IsBuilder, built};
 ghost use Rattle.stable_order.specs.StableSort.{stable_sort};
 
 use crate::chunk_builder::ChunkBuilder;
+use crate::range_set::fault_in;
 use crate::range_value::RangeValue;
 use crate::ranged::Ranged;
 use stable_order::sort_stably;
@@ -42,8 +43,23 @@ fn put_run<T: RangeValue>(
 {
     let alloc = *run.allocator();
     let mut ranges = mem::replace(run, Vec::new(alloc));
-    sort_stably(&mut ranges)?;
-    put_all(ranges, builder)
+    sort(&mut ranges)?;
+    if builder.takes_whole(&ranges) {
+        builder.put_whole(ranges);
+        Ok(())
+    } else {
+        put_all(ranges, builder)
+    }
+}
+
+/// Sorts ranges, which mostly are in order. `Err`: out of memory.
+fn sort<T: RangeValue>(ranges: &mut Vec<Ranged<T>>) -> Result<(), AllocError>
+    ensures { IfOk result (λ _. ranges.new.items ≡ stable_sort (before T.rules) ranges.old.items) }
+{
+    match fault_in(ranges) {
+        None => Ok(()),
+        Some(_) => sort_stably(ranges),
+    }
 }
 
 /// Puts a run of ranges in order after those of a builder. `Err`: out of memory.

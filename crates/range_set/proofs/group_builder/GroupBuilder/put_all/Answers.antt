@@ -1,9 +1,15 @@
 use Rattle.std.proofs.Common.{◌++◌, ◌∷◌, [], length, map, ap, subst, sym, ◌∙◌, arith, append_assoc}
 use Rattle.std.proofs.lemmas.List.{append-nil, length-append}
 use Rattle.range_set.specs.PrivateChunks.{AreChunks, Ascend, flat, grouped, shift}
-use Rattle.range_set.proofs.Chunks.{flat-append, length_shifted}
+use Rattle.range_set.proofs.Chunks.{ascend-rest, flat-append, length_shifted}
 use Rattle.range_set.proofs.Groups.{begin_by_chunk}
 use Rattle.range_set.proofs.group_builder.GroupBuilder.put_all.Goals as goal
+
+pub put_whole-requires-clause-order : goal.put_whole-requires-clause-order
+put_whole-requires-clause-order g c =
+    let old = grouped c.args.self.now in
+    let chunks = c.args.chunks.items in
+    ascend-rest 0 (flat old) (flat chunks) (subst (Ascend 0) (flat-append old chunks) c.requires.order)
 
 pub push-requires : goal.push-requires
 push-requires g c =
