@@ -1,5 +1,5 @@
 -- Groups that are made at once of chunks in order.
-use Rattle.std.proofs.Common.{◌≡◌, ℕ, zero, suc, ◌+◌, ◌-◌, ◌^◌, ◌<◌, ◌≤◌, max, Bool, ◌||◌, List, [], ◌∷◌, ◌++◌, length, get_or, take, map, refl, sym, ◌∙◌, ap, subst, arith}
+use Rattle.std.proofs.Common.{◌≡◌, ℕ, zero, suc, ◌+◌, ◌-◌, ◌^◌, ◌<◌, ◌≤◌, max, ◌||◌, List, [], ◌∷◌, ◌++◌, length, get_or, take, map, refl, sym, ◌∙◌, ap, arith}
 use Rattle.std.proofs.lemmas.List.{length-append, length-map, map-append, take_more}
 use Rattle.std.proofs.lemmas.List.Folds.{list_any-append}
 use Rattle.std.specs.List.{list_any}
@@ -10,7 +10,7 @@ use Rattle.range_set.specs.PrivateChunks.{AreChunks, Ascend, IsChunk, IsGroup, f
 use Rattle.range_set.specs.declared.ranged.Ranged.{Ranged}
 use Rattle.range_set.specs.declared.chunk.Placed.{Placed}
 use Rattle.range_set.specs.declared.group.Group.{Group}
-use Rattle.range_set.proofs.Chunks.{ascend-less, ascend-rest, chunk-at, flat-append, flat-push, greatest_shifted, length_shifted}
+use Rattle.range_set.proofs.Chunks.{ascend-less, ascend-rest, flat-push, greatest_shifted, length_shifted}
 use Rattle.range_set.proofs.Groups.{chunk_placed, counted_chunk, greatest-append, points_any, turned_any}
 
 module _ {T : Type 0} (rules : RangeRules T) where
@@ -63,7 +63,7 @@ module _ {T : Type 0} (rules : RangeRules T) where
 
   pub group_reach_more : (start : ℕ) (ps : List (Placed T)) (i : ℕ) (p : Placed T) → i < length ps → IsChunk rules (get_or ps i p).start (get_or ps i p).chunk.value → 1 ≤ length (get_or ps i p).chunk.value.ranges.items
       → greatest_end (flat (map (counted_chunk rules start) (take (i + 1) ps)))
-        ≡ max (greatest_end (flat (map (counted_chunk rules start) (take i ps)))) ((get_or ps i p).start - start + (get_or ps i p).chunk.value.reach)
+      ≡ max (greatest_end (flat (map (counted_chunk rules start) (take i ps)))) ((get_or ps i p).start - start + (get_or ps i p).chunk.value.reach)
   group_reach_more start ps i p l h some =
       let q = get_or ps i p in
       let f = counted_chunk rules start in

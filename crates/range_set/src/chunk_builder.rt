@@ -37,13 +37,14 @@ impl<T: RangeValue> ChunkBuilder<T> {
         self.done.is_empty() && self.growing.ranges.is_empty()
     }
 
-    /// Whether ranges are to be a chunk of their own that grows: whether none is growing, they are few enough for one, and none of
-    /// them is too long to share it.
+    /// Whether ranges are to be a chunk of their own that grows: whether none is growing, and they are one range, or few enough for a
+    /// chunk and none of them too long to share it.
     pub(crate) fn takes_whole(&self, ranges: &[Ranged<T>]) -> bool
         ensures growing { IsTrue result → self.now.growing.ranges.items ≡ [] }
         ensures few { IsTrue result → length ranges.now ≤ 128 }
     {
-        self.growing.ranges.is_empty() && ranges.len() <= MAX_RANGES && are_short(ranges)
+        self.growing.ranges.is_empty()
+            && (ranges.len() == 1 || (ranges.len() <= MAX_RANGES && are_short(ranges)))
     }
 
     /// Puts ranges in order after those of the chunks that are done, where none is growing, as the chunk that grows.
@@ -130,9 +131,7 @@ impl<T: RangeValue> ChunkBuilder<T> {
 
 /// Whether no range is too long to share a chunk with others.
 fn are_short<T>(ranges: &[Ranged<T>]) -> bool {
-    ranges
-        .iter()
-        .all(|range| range.to.saturating_sub(range.from) <= MAX_SHARED_LEN)
+    ranges.iter().all(|range| range.to.saturating_sub(range.from) <= MAX_SHARED_LEN)
 }
 
 /// Whether a chunk of `len` ranges grows no more, where `left` are still to come of its run: it has the most that a chunk may have,

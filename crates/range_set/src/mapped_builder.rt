@@ -51,9 +51,12 @@ impl<T: RangeValue> MappedBuilder<T> {
     /// Whether a group of so many chunks is to become one with those that stand before it and aren't in a group yet: whether all of
     /// them fill at most three quarters of a full group. No contract speaks of this: it only decides which groups are shared.
     pub(crate) fn joins(&self, len: usize) -> bool {
+        if self.run.is_empty() && self.chunks.done.is_empty() {
+            return false;
+        }
         let of_run = self.run.len().saturating_add(MAX_RANGES - 1) / MAX_RANGES;
         let open = self.chunks.done.len().saturating_add(of_run);
-        0 < open && open.saturating_add(len) <= joined_of(self.groups.full)
+        open.saturating_add(len) <= joined_of(self.groups.full)
     }
 
     /// Sorts the run and puts a chunk after it, at a place of its own, and shares it. `Err`: out of memory.

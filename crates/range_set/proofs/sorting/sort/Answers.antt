@@ -1,5 +1,4 @@
 use Rattle.std.proofs.Common.{ap, sym, ◌∙◌}
-use Rattle.stable_order.specs.StableSort.{stable_sort}
 use Rattle.stable_order.proofs.StableSort.{stable_sort-risen}
 use Rattle.range_set.specs.Order.{before, first_fault}
 use Rattle.range_set.specs.Ranking.{before-order}

@@ -1,10 +1,9 @@
-use Rattle.std.proofs.Common.{◌≡◌, ◌+◌, ◌-◌, ◌^◌, ◌≤◌, ◌<◌, ◌||◌, max, List, length, get_or, map, take, drop, ap, sym, subst, ◌∙◌, arith}
+use Rattle.std.proofs.Common.{◌≡◌, ◌+◌, ◌-◌, ◌≤◌, ◌<◌, ◌||◌, max, List, length, get_or, map, take, drop, ap, sym, subst, ◌∙◌, arith}
 use Rattle.std.proofs.lemmas.List.{length-append, take_all, take_at, take-append-drop}
 use Rattle.std.specs.List.{list_any}
 use Rattle.range_set.specs.Mapping.{is_turned}
 use Rattle.range_set.specs.Points.{stands}
 use Rattle.range_set.specs.PrivateChunks.{flat, greatest_end, move}
-use Rattle.range_set.specs.declared.chunk.Placed.{Placed}
 use Rattle.range_set.specs.declared.chunk.Chunk.{Chunk}
 use Rattle.range_set.proofs.Chunks.{flat-append, or_first, or_second}
 use Rattle.range_set.proofs.Groups.{counted_chunk}
