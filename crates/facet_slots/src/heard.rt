@@ -5,13 +5,11 @@ ghost use Rattle.values.specs.declared.shown_effect.ShownEffect.{ShownEffect as 
 ghost use Rattle.facet_slots.specs.Found.{scene_of};
 ghost use Rattle.facet_slots.specs.Stepping.{heard as heard_of};
 
-use cm_plain::KeptEffect;
 use line_tree::Text;
 use listed::Listed;
 use selection::Selection;
 use std::alloc::{AllocError, Global};
-use transaction::Annotation;
-use values::{Scene, ShownEffect, TrNotes, TrView};
+use values::{Scene, ShownEffect, TrView};
 
 /// Whether a kind of effect is among these.
 fn is_listened(listens: &[u32], id: u32) -> bool
@@ -45,54 +43,6 @@ fn effects_heard(
     Ok(heard)
 }
 
-fn inverted_again(alloc: Global, inverted: &[KeptEffect]) -> Result<Listed<KeptEffect>, AllocError>
-    ensures { IfOk result (λ copy. copy ≡ inverted.now) }
-{
-    let mut copy = Vec::with_capacity(alloc, inverted.len())?;
-    for effect in inverted {
-        copy.push(effect.try_copy(alloc)?)?;
-    }
-    Ok(Listed::new(copy))
-}
-
-fn annotation_again(alloc: Global, annotation: &Annotation) -> Result<Annotation, AllocError>
-    ensures { IfOk result (λ copy. copy ≡ annotation.now) }
-{
-    Ok(Annotation {
-        kind: annotation.kind.try_copy()?,
-        value: annotation.value.try_copy(alloc)?,
-    })
-}
-
-fn annotations_again(
-    alloc: Global,
-    annotations: &[Annotation],
-) -> Result<Listed<Annotation>, AllocError>
-    ensures { IfOk result (λ copy. copy ≡ annotations.now) }
-{
-    let mut copy = Vec::with_capacity(alloc, annotations.len())?;
-    for annotation in annotations {
-        copy.push(annotation_again(alloc, annotation)?)?;
-    }
-    Ok(Listed::new(copy))
-}
-
-/// What a transaction carries, of its effects those of these kinds.
-fn notes_heard(alloc: Global, transaction: &TrView, listens: &[u32]) -> Result<TrNotes, AllocError>
-    ensures effects { IfOk result (λ notes. notes.effects ≡ (heard_of listens.now transaction.now).effects) }
-    ensures inverted { IfOk result (λ notes. notes.inverted ≡ transaction.now.inverted) }
-    ensures annotations { IfOk result (λ notes. notes.annotations ≡ transaction.now.annotations) }
-{
-    let effects = effects_heard(alloc, transaction.effects(), listens)?;
-    let inverted = inverted_again(alloc, transaction.inverted())?;
-    let annotations = annotations_again(alloc, transaction.annotations())?;
-    Ok(TrNotes {
-        effects,
-        inverted,
-        annotations,
-    })
-}
-
 /// A document with its selection once more. The text is shared. `Err`: out of memory.
 pub fn scene_again(document: &Text, selection: &Selection) -> Result<Scene, AllocError>
     ensures document { IfOk result (λ scene. scene.document.characters ≡ document.now.characters) }
@@ -118,15 +68,12 @@ pub fn end_scene(transaction: &TrView) -> Result<Scene, AllocError>
     scene_again(transaction.document(), transaction.selection())
 }
 
-/// A transaction as a field that listens to these kinds of effects is shown it: of the effects those, in order. Texts are
+/// A transaction as a field that listens to these kinds of effects is shown it: of the effects those, in order. All else is
 /// shared. `Err`: out of memory.
 pub fn heard(alloc: Global, transaction: &TrView, listens: &[u32]) -> Result<TrView, AllocError>
     ensures { IfOk result (λ view. view ≡ heard_of listens.now transaction.now) }
 {
     transaction.known();
-    let changes = transaction.changes().try_copy()?;
-    let start = scene_again(transaction.start(), transaction.start_selection())?;
-    let end = scene_again(transaction.document(), transaction.selection())?;
-    let notes = notes_heard(alloc, transaction, listens)?;
-    Ok(TrView::new(changes, start, end, transaction.is_given(), notes))
+    let effects = effects_heard(alloc, transaction.effects(), listens)?;
+    transaction.with_effects(effects)
 }

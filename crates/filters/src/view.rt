@@ -158,5 +158,12 @@ pub fn shown(
     notes.known();
     before.selection.known();
     after.selection.known();
-    Ok(TrView::new(changes, before, after, draft.selection.is_some(), notes))
+    TrView::new(
+        alloc,
+        changes,
+        before,
+        after,
+        draft.selection.is_some(),
+        notes,
+    )
 }

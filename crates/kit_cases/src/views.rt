@@ -86,7 +86,7 @@ fn typed(alloc: Global) -> Result<TrView, Fail> {
     let start = start(alloc)?;
     let changes = changes(alloc, start.document.len())?;
     let end = end_of(alloc, &changes, &start.document)?;
-    Ok(TrView::new(changes, start, end, false, notes))
+    Ok(TrView::new(alloc, changes, start, end, false, notes)?)
 }
 
 /// No reads.

@@ -123,6 +123,7 @@ fn no_notes(alloc: Global) -> TrNotes {
 
 /// What is shown of a transaction that leads to this end.
 fn viewed(
+    alloc: Global,
     slots: &Slots<Shipped>,
     changes: ChangeSet,
     end: Scene,
@@ -140,7 +141,7 @@ fn viewed(
     slots.known();
     notes.known();
     let start = start_of(slots)?;
-    Ok(TrView::new(changes, start, end, is_given, notes))
+    TrView::new(alloc, changes, start, end, is_given, notes)
 }
 
 /// A transaction that gives no selection.
@@ -150,7 +151,7 @@ fn mapped(alloc: Global, slots: &Slots<Shipped>, changes: ChangeSet) -> Result<T
 {
     let selection = moved(slots.selection(), &changes)?;
     let end = end_of(slots, &changes, selection)?;
-    viewed(slots, changes, end, false, no_notes(alloc))
+    viewed(alloc, slots, changes, end, false, no_notes(alloc))
 }
 
 fn typed(
@@ -184,7 +185,7 @@ fn cursor(alloc: Global, slots: &Slots<Shipped>, head: u32) -> Result<TrView, Al
     let set = changes(alloc, &[], slots.document().len())?;
     let selection = Selection::single(alloc, head, head)?;
     let end = end_of(slots, &set, selection)?;
-    viewed(slots, set, end, true, no_notes(alloc))
+    viewed(alloc, slots, set, end, true, no_notes(alloc))
 }
 
 /// What is shown of a transaction; `Err` where it is refused, too.

@@ -29,6 +29,7 @@ mod rule_lists;
 mod scene;
 mod shown_effect;
 mod sort;
+mod tr_core;
 mod tr_filter;
 mod tr_notes;
 mod tr_view;

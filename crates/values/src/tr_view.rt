@@ -1,29 +1,30 @@
-ghost use Rattle.std.specs.Prelude.{◌≡◌, ◌≤◌, length, IfOk, IsTrue};
-ghost use Rattle.line_tree.specs.Text.{max_len};
-ghost use Rattle.change_desc.specs.Sections.{apply, old_size};
-ghost use Rattle.selection.specs.Selections.{LieIn};
+ghost use Rattle.std.specs.Prelude.{◌≡◌, IfOk};
+ghost use Rattle.std.specs.List.{AllByRecursion};
+ghost use Rattle.values.specs.InRange.{IsShownInRange};
 ghost use Rattle.values.specs.Views.{IsTransaction, TransactionView};
 
 use crate::scene::Scene;
 use crate::shown_effect::ShownEffect;
+use crate::tr_core::TrCore;
 use crate::tr_notes::TrNotes;
 use change_set::ChangeSet;
 use cm_plain::KeptEffect;
 use line_tree::Text;
+use listed::Listed;
 use selection::Selection;
+use std::alloc::{AllocError, Global};
 use std::marker::Model;
+use std::rc::Rc;
 use transaction::Annotation;
 
 /// What a rule is shown of a transaction (Reference Manual, Transaction). Contracts see documents as their characters. Neither
 /// document has more than 16,777,216 characters, the changes lead from the start document to the new one, each selection is one
-/// in normal form that lies in its document, and the numbers of effects and annotations lie in the ranges of their types.
+/// in normal form that lies in its document, and the numbers of effects and annotations lie in the ranges of their types. A
+/// view that `with_effects` makes of another one shares all but the effects with it.
 #[derive(Drop)]
 pub struct TrView {
-    changes: ChangeSet,
-    start: Scene,
-    end: Scene,
-    is_given: bool,
-    notes: TrNotes,
+    core: Rc<TrCore>,
+    effects: Listed<ShownEffect>,
 }
 
 impl Model for TrView {
@@ -36,102 +37,119 @@ impl Model for TrView {
 
     ghost coded = { Prim.hlevel (codes, coded_datum) };
 
-    ghost view = { λ t. shown t.changes t.start t.end t.is_given t.notes };
+    ghost view = { λ t. shown t.core.value.changes t.core.value.start t.core.value.end t.core.value.is_given (record { effects = t.effects; inverted = t.core.value.inverted; annotations = t.core.value.annotations }) };
 
-    ghost invariant = { λ t. IsTransaction (shown t.changes t.start t.end t.is_given t.notes) };
+    ghost invariant = { λ t. IsTransaction (shown t.core.value.changes t.core.value.start t.core.value.end t.core.value.is_given (record { effects = t.effects; inverted = t.core.value.inverted; annotations = t.core.value.annotations })) };
 }
 
 impl TrView {
     ghost use Rattle.values.specs.Transactions.{shown};
 
     /// What is shown: the changes, the start and the new document with their selections, whether the new selection was given,
-    /// and what else the transaction carries.
+    /// and what else the transaction carries. `Err`: out of memory.
     pub fn new(
+        alloc: Global,
         changes: ChangeSet,
         start: Scene,
         end: Scene,
         is_given: bool,
         notes: TrNotes,
-    ) -> TrView
+    ) -> Result<TrView, AllocError>
         requires { IsTransaction (shown changes start end is_given notes) }
-        ensures { result ≡ shown changes start end is_given notes }
+        ensures { IfOk result (λ t. t ≡ shown changes start end is_given notes) }
     {
-        TrView {
+        let effects = notes.effects;
+        let core = TrCore {
             changes,
             start,
             end,
             is_given,
-            notes,
+            inverted: notes.inverted,
+            annotations: notes.annotations,
+        };
+        match Rc::new(alloc, core) {
+            Ok(core) => Ok(TrView { core, effects }),
+            Err(_) => Err(AllocError),
         }
+    }
+
+    /// The same transaction with these effects in place of its own. What else it shows is shared. `Err`: no further owner can be
+    /// counted.
+    pub fn with_effects(&self, effects: Listed<ShownEffect>) -> Result<TrView, AllocError>
+        requires { AllByRecursion IsShownInRange effects }
+        ensures { IfOk result (λ t. t ≡ record self.now { effects = effects }) }
+    {
+        let core = self.core.clone()?;
+        Ok(TrView { core, effects })
     }
 
     /// The changes of the start document.
     pub fn changes(&self) -> &ChangeSet
         ensures { result.now ≡ self.now.changes }
     {
-        &self.changes
+        &self.core.changes
     }
 
     /// The start document.
     pub fn start(&self) -> &Text
         ensures { result.now.characters ≡ self.now.start }
     {
-        &self.start.document
+        &self.core.start.document
     }
 
     /// The new document.
     pub fn document(&self) -> &Text
         ensures { result.now.characters ≡ self.now.document }
     {
-        &self.end.document
+        &self.core.end.document
     }
 
     /// The selection of the start document.
     pub fn start_selection(&self) -> &Selection
         ensures { result.now ≡ self.now.start_selection }
     {
-        &self.start.selection
+        &self.core.start.selection
     }
 
     /// The selection of the new document.
     pub fn selection(&self) -> &Selection
         ensures { result.now ≡ self.now.selection }
     {
-        &self.end.selection
+        &self.core.end.selection
     }
 
     /// Whether the transaction gives the new selection; else it is the start one, mapped.
     pub fn is_given(&self) -> bool
         ensures { result ≡ self.now.given }
     {
-        self.is_given
+        self.core.is_given
     }
 
     /// The effects that the rule listens to, in order.
     pub fn effects(&self) -> &[ShownEffect]
         ensures { result.now ≡ self.now.effects }
     {
-        self.notes.effects.as_slice()
+        self.effects.as_slice()
     }
 
     /// What undoes the transaction's effects, in the start document.
     pub fn inverted(&self) -> &[KeptEffect]
         ensures { result.now ≡ self.now.inverted }
     {
-        self.notes.inverted.as_slice()
+        self.core.inverted.as_slice()
     }
 
     /// The annotations, in order.
     pub fn annotations(&self) -> &[Annotation]
         ensures { result.now ≡ self.now.annotations }
     {
-        self.notes.annotations.as_slice()
+        self.core.annotations.as_slice()
     }
 
     /// What may be relied on in what is shown.
     pub fn known(&self)
         ensures { IsTransaction self.now }
     {
-        let _ = &self.changes;
+        let _ = &self.core;
     }
 }

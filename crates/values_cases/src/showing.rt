@@ -2,6 +2,7 @@
 use crate::made::{Made, Of};
 use crate::views::{Note, TYPED, given, shown};
 use cm_plain::Plain;
+use listed::Listed;
 use std::alloc::Global;
 use std::test::*;
 use values::{TrView, Val};
@@ -79,9 +80,24 @@ fn with_selection(alloc: Global) -> Result<bool, Fail> {
     )
 }
 
+/// Whether the same transaction with no effects has all else, and the first view its effect still.
+fn with_no_effects(alloc: Global) -> Result<bool, Fail> {
+    let note = Note::Of("time", Made::Int(5));
+    let view = shown(alloc, TYPED, Of(&[Made::Int(7)]), note)?;
+    let other = view.with_effects(Listed::empty(alloc))?;
+    Ok(
+        is_typed(&other, 0)
+            && !other.is_given()
+            && other.effects().is_empty()
+            && has_time(&other, 5)
+            && has_effect(&view, 7),
+    )
+}
+
 #[test]
 fn a_transaction_is_shown(rt: HostRuntime) -> Result<(), Fail> {
     assert!(rt; with_time(rt.alloc())?);
     assert!(rt; with_selection(rt.alloc())?);
+    assert!(rt; with_no_effects(rt.alloc())?);
     Ok(())
 }

@@ -237,7 +237,7 @@ fn viewed(
     let start = start_of(alloc, typed)?;
     let changes = changes(alloc, typed, start.document.len())?;
     let end = end_of(alloc, &changes, &start.document, given.unwrap_or(0))?;
-    Ok(TrView::new(changes, start, end, given.is_some(), notes))
+    Ok(TrView::new(alloc, changes, start, end, given.is_some(), notes)?)
 }
 
 /// What is shown of a transaction with effects of these values and a note, which gives a cursor.
