@@ -1,5 +1,6 @@
 -- Chunks and builders of them, seen as lists of ranges.
 use Rattle.std.proofs.Common.{◌≡◌, ℕ, zero, suc, ◌+◌, ◌-◌, ◌^◌, ◌<◌, ◌≤◌, max, Bool, true, false, ◌&&◌, ◌||◌, List, [], ◌∷◌, ◌++◌, length, get_or, drop, map, refl, sym, ◌∙◌, ap, subst, arith, add-one, append_assoc}
+use Rattle.std.proofs.Math.Bool.{or-false}
 use Rattle.std.proofs.lemmas.List.{append-nil, map-append, length_push}
 use Rattle.std.proofs.lemmas.List.Folds.{list_any-append}
 use Rattle.std.proofs.lemmas.Bool.Decides.{nat_tests}
@@ -35,10 +36,6 @@ or_first x false t e h = cc
 pub or_second : (x s t : Bool) → x ≡ t → s ≡ false → x ≡ (s || t)
 or_second x true t e h = cc
 or_second x false t e h = e
-
-pub or_false : (b : Bool) → (b || false) ≡ b
-or_false true = refl
-or_false false = refl
 
 pub nonempty : (n len : ℕ) → (len == 0) ≡ false → len ≡ n → 1 ≤ n
 nonempty n len h e = grind (arith, nat_tests)
@@ -147,10 +144,10 @@ module _ {T : Type 0} (rules : RangeRules T) where
         forward = rw items (forward-append before.ranges.items (x ∷ []) h.forward (is_not_less (r.to - start) (r.from - start) (omega arith), tt));
         reach = reach ∙ (ap (λ n. max n (r.to - start)) h.reach ∙ (sym (greatest-push before.ranges.items x) ∙ ap greatest_end (sym items)));
         turned = turned ∙ (ap (λ b. b || is_turned rules r) h.turned
-            ∙ (ap (λ b. list_any (is_turned rules) before.ranges.items || b) (sym (turned-counted start r l (omega arith)) ∙ sym (or_false (is_turned rules x)))
+            ∙ (ap (λ b. list_any (is_turned rules) before.ranges.items || b) (sym (turned-counted start r l (omega arith)) ∙ sym (or-false (is_turned rules x)))
             ∙ (sym (list_any-append (is_turned rules) before.ranges.items (x ∷ [])) ∙ ap (list_any (is_turned rules)) (sym items))));
         points = points ∙ (ap (λ b. b || stands rules r) h.points
-            ∙ (ap (λ b. list_any (stands rules) before.ranges.items || b) (sym (or_false (stands rules r)))
+            ∙ (ap (λ b. list_any (stands rules) before.ranges.items || b) (sym (or-false (stands rules r)))
             ∙ (sym (list_any-append (stands rules) before.ranges.items (x ∷ [])) ∙ ap (list_any (stands rules)) (sym items))));
         fits = let k = h.fits in omega (arith, reach);
       }

@@ -4,6 +4,7 @@ pub mod Chunks
 pub mod Whole
 pub mod Groups
 pub mod WholeGroups
+pub mod Carried
 pub mod Passing
 pub mod Each
 pub mod Under

@@ -1,24 +1,24 @@
 -- Groups of which some are opened, and their chunks walked one by one.
-use Rattle.std.proofs.Common.{◌≡◌, ℕ, zero, suc, ◌+◌, ◌<◌, ◌≤◌, ◌||◌, true, false, Bool, cond, List, [], ◌∷◌, ◌++◌, length, get_or, drop, map, refl, sym, ap, subst, ◌∙◌, arith}
-use Rattle.std.proofs.lemmas.List.{length-append}
+use Rattle.std.proofs.Common.{◌≡◌, ℕ, zero, suc, ◌+◌, ◌-◌, ◌^◌, ◌<◌, ◌≤◌, ◌||◌, true, false, Bool, cond, List, [], ◌∷◌, ◌++◌, length, get_or, drop, map, refl, sym, ap, subst, ◌∙◌, arith, append_assoc}
+use Rattle.std.proofs.lemmas.List.{append-nil, length-append}
 use Rattle.std.specs.List.{list_any}
-use Rattle.change_desc.specs.Sections.{old_size}
+use Rattle.change_desc.specs.Sections.{counted, new_size, old_size}
 use Rattle.change_desc.specs.Ranges.{meets, replaced}
 use Rattle.change_desc.specs.declared.changed_range.ChangedRange.{ChangedRange}
 use Rattle.stable_order.specs.StableSort.{stable_sort}
 use Rattle.range_set.specs.Rules.{RangeRules}
 use Rattle.range_set.specs.Order.{before}
-use Rattle.range_set.specs.PrivateChunks.{AreChunks, AreGroups, Ascend, IsGroup, first_start, flat, move, shift, spread}
+use Rattle.range_set.specs.PrivateChunks.{AllApart, AllCarried, AreChunks, AreGroups, Ascend, IsGroup, carry, first_start, flat, move, shift, spread}
 use Rattle.range_set.specs.declared.ranged.Ranged.{Ranged}
 use Rattle.range_set.specs.declared.chunk.Placed.{Placed}
 use Rattle.range_set.specs.declared.group.PlacedGroup.{PlacedGroup}
-use Rattle.range_set.proofs.Chunks.{length_shifted, rest_at}
-use Rattle.range_set.proofs.Clear.{Sections, clear_place}
+use Rattle.range_set.proofs.Chunks.{ascend-less, length_shifted, rest_at}
+use Rattle.range_set.proofs.Clear.{IsClear, Sections, clear_apart, clear_place, none-narrow}
 use Rattle.range_set.proofs.Cost.{allowance, chunk_affected}
 use Rattle.range_set.proofs.Each.{Within}
-use Rattle.range_set.proofs.Groups.{flat-spread, flat_forward, group-at}
+use Rattle.range_set.proofs.Groups.{flat-spread, flat_forward}
 use Rattle.range_set.proofs.Under.{IsUnder, under_clear, under_order}
-use Rattle.range_set.proofs.Walked.{IsClearHull, IsWalked, StartsBy, ascend_hull, clear_hull, start_in, within_prefix, within_rest}
+use Rattle.range_set.proofs.Walked.{IsClearHull, IsWalked, StartsBy, ascend_hull, clear_hull, clear_within, hull_within, start_in, walked_less, within_prefix, within_rest}
 
 or_left : (a b : Bool) → (a || b) ≡ false → a ≡ false
 or_left false b h = refl
@@ -72,12 +72,9 @@ module _ {T : Type 0} (rules : RangeRules T) (d : Sections) where
   are_left (p ∷ ps) qs h = are_left ps qs h.1
 
   -- the chunks from a group on begin by each place that isn't before it
-  pub starts_at : (gs : List (PlacedGroup T)) (i : ℕ) (g : PlacedGroup T) → i < length gs → g ≡ get_or gs i g → (a : ℕ) → IsGroup rules g.start g.group.value → 1 ≤ length (flat g.group.value.chunks.items) → g.start ≤ a
-      → StartsBy a (spread (drop i gs))
-  starts_at gs i g l e a group some m =
-      let next = spread (drop (i + 1) gs) in
-      subst (StartsBy a) (sym (ap spread (rest_at gs i g l e)))
-      (starts_more g.start a (map (move g.start) g.group.value.chunks.items) next m (group_first g.start g.group.value.chunks.items next group.chunks some group.first))
+  pub starts_at : (g : PlacedGroup T) (others : List (PlacedGroup T)) (a : ℕ) → IsGroup rules g.start g.group.value → 1 ≤ length (flat g.group.value.chunks.items) → g.start ≤ a → StartsBy a (spread (g ∷ others))
+  starts_at g others a group some m =
+      starts_more g.start a (map (move g.start) g.group.value.chunks.items) (spread others) m (group_first g.start g.group.value.chunks.items (spread others) group.chunks some group.first)
 
   -- what comes after the next chunks or groups begins no earlier than they
   skipped : (n start a : ℕ) (rs : List (Ranged T)) (ps : List (Placed T)) → AreChunks rules ps → 1 ≤ length rs → first_start rs ≡ 0 → Ascend n (map (shift start) rs ++ flat ps) → StartsBy a ps → start ≤ a
@@ -89,20 +86,16 @@ module _ {T : Type 0} (rules : RangeRules T) (d : Sections) where
       at (q ∷ qs) some f k = omega (arith, k.0, f, s)
 
   -- a group is opened
-  pub walked_open : (whole : List (Ranged T)) (gs : List (PlacedGroup T)) (i : ℕ) (g : PlacedGroup T) (done run : List (Ranged T)) (reached : ℕ) (reps after : List ChangedRange) → i < length gs → g ≡ get_or gs i g
-      → 1 ≤ length (flat g.group.value.chunks.items) → ((a b : ℕ) → g.start ≤ a → list_any (meets a b) after ≡ list_any (meets a b) reps)
-      → IsWalked rules d whole (spread (drop i gs)) done run reached reps
-      → IsWalked rules d whole (map (move g.start) g.group.value.chunks.items ++ spread (drop (i + 1) gs)) done run reached after
-  walked_open whole gs i g done run reached reps after l e some f h =
-      let rest : spread (drop i gs) ≡ map (move g.start) g.group.value.chunks.items ++ spread (drop (i + 1) gs) = ap spread (rest_at gs i g l e) in
-      let here = subst (λ ps. IsWalked rules d whole ps done run reached reps) rest h in
-      record {
-        under = here.under;
-        chunks = here.chunks;
-        within = here.within;
-        ascend = here.ascend;
-        same = λ a b s. f a b (group_before g.start a g.group.value.chunks.items (spread (drop (i + 1) gs)) some s) ∙ here.same a b s;
-      }
+  pub walked_open : (whole : List (Ranged T)) (g : PlacedGroup T) (others : List (PlacedGroup T)) (done run : List (Ranged T)) (reached : ℕ) (reps after : List ChangedRange) → 1 ≤ length (flat g.group.value.chunks.items)
+      → ((a b : ℕ) → g.start ≤ a → list_any (meets a b) after ≡ list_any (meets a b) reps) → IsWalked rules d whole (spread (g ∷ others)) done run reached reps
+      → IsWalked rules d whole (map (move g.start) g.group.value.chunks.items ++ spread others) done run reached after
+  walked_open whole g others done run reached reps after some f h = record {
+    under = h.under;
+    chunks = h.chunks;
+    within = h.within;
+    ascend = h.ascend;
+    same = λ a b s. f a b (group_before g.start a g.group.value.chunks.items (spread others) some s) ∙ h.same a b s;
+  }
 
   -- What a group that no change affects gives.
   pub record IsClearGroup (whole : List (Ranged T)) (g : PlacedGroup T) (done run : List (Ranged T)) (reached : ℕ) : Type 0 where
@@ -111,21 +104,18 @@ module _ {T : Type 0} (rules : RangeRules T) (d : Sections) where
     pub order : Ascend 0 (done ++ stable_sort (before rules) run)
     pub room : length done + length run + length (flat g.group.value.chunks.items) ≤ length whole
 
-  flat_rest : (gs : List (PlacedGroup T)) (i : ℕ) (g : PlacedGroup T) → i < length gs → g ≡ get_or gs i g → flat (spread (drop i gs)) ≡ map (shift g.start) (flat g.group.value.chunks.items) ++ flat (spread (drop (i + 1) gs))
-  flat_rest gs i g l e = ap (λ hs. flat (spread hs)) (rest_at gs i g l e) ∙ flat-spread g (drop (i + 1) gs)
-
-  pub clear_group : (whole : List (Ranged T)) (gs : List (PlacedGroup T)) (i : ℕ) (g : PlacedGroup T) (done run : List (Ranged T)) (reached : ℕ) (reps after : List ChangedRange) → i < length gs → g ≡ get_or gs i g
-      → AreGroups rules gs → ((a b : ℕ) → g.start ≤ a → list_any (meets a b) after ≡ list_any (meets a b) reps) → IsWalked rules d whole (spread (drop i gs)) done run reached reps
+  pub clear_group : (whole : List (Ranged T)) (g : PlacedGroup T) (others : List (PlacedGroup T)) (done run : List (Ranged T)) (reached : ℕ) (reps after : List ChangedRange) → AreGroups rules (g ∷ others)
+      → ((a b : ℕ) → g.start ≤ a → list_any (meets a b) after ≡ list_any (meets a b) reps) → IsWalked rules d whole (spread (g ∷ others)) done run reached reps
       → (g.group.value.is_turned || list_any (meets g.start (g.start + g.group.value.reach)) after) ≡ false → IsClearGroup whole g done run reached
-  clear_group whole gs i g done run reached reps after l e h f w none =
-      let group = group-at rules gs i g l e h in
+  clear_group whole g others done run reached reps after h f w none =
+      let group = h.0 in
       let ranges = flat g.group.value.chunks.items in
-      let later = flat (spread (drop (i + 1) gs)) in
-      let is = flat_rest gs i g l e in
+      let later = flat (spread others) in
+      let is = flat-spread g others in
       let inside = subst (Within (old_size d)) is w.within in
       let order = subst (Ascend reached) is w.ascend in
       let under = subst (λ rs. IsUnder rules d whole done run rs) is w.under in
-      let first = subst (StartsBy g.start) (sym (ap spread (rest_at gs i g l e))) (group_first g.start g.group.value.chunks.items (spread (drop (i + 1) gs)) group.0.chunks group.1 group.0.first) in
+      let first = group_first g.start g.group.value.chunks.items (spread others) group.0.chunks group.1 group.0.first in
       let met : list_any (meets g.start (g.start + g.group.value.reach)) (replaced d) ≡ false =
       sym (w.same g.start _ first) ∙ (sym (f g.start _ (omega arith)) ∙ or_right g.group.value.is_turned _ none) in
       let turned = sym group.0.turned ∙ or_left g.group.value.is_turned (list_any (meets g.start (g.start + g.group.value.reach)) after) none in
@@ -139,21 +129,21 @@ module _ {T : Type 0} (rules : RangeRules T) (d : Sections) where
         room = let k = under.room in let m = length-append (map (shift g.start) ranges) later in omega (arith, k, m, n);
       }
 
-  pub walked_group : (whole : List (Ranged T)) (gs : List (PlacedGroup T)) (i : ℕ) (g : PlacedGroup T) (done run more : List (Ranged T)) (reached : ℕ) (reps after : List ChangedRange) → i < length gs → g ≡ get_or gs i g
-      → AreGroups rules gs → ((a b : ℕ) → g.start ≤ a → list_any (meets a b) after ≡ list_any (meets a b) reps) → IsWalked rules d whole (spread (drop i gs)) done run reached reps
+  pub walked_group : (whole : List (Ranged T)) (g : PlacedGroup T) (others : List (PlacedGroup T)) (done run more : List (Ranged T)) (reached : ℕ) (reps after : List ChangedRange) → AreGroups rules (g ∷ others)
+      → ((a b : ℕ) → g.start ≤ a → list_any (meets a b) after ≡ list_any (meets a b) reps) → IsWalked rules d whole (spread (g ∷ others)) done run reached reps
       → IsClearGroup whole g done run reached → more ≡ done ++ stable_sort (before rules) run ++ map (shift (clear_place d g.start)) (flat g.group.value.chunks.items)
-      → IsWalked rules d whole (spread (drop (i + 1) gs)) more [] g.start after
-  walked_group whole gs i g done run more reached reps after l e h f w k m =
-      let group = group-at rules gs i g l e h in
+      → IsWalked rules d whole (spread others) more [] g.start after
+  walked_group whole g others done run more reached reps after h f w k m =
+      let group = h.0 in
       let ranges = flat g.group.value.chunks.items in
-      let next = spread (drop (i + 1) gs) in
+      let next = spread others in
       let later = flat next in
-      let is = flat_rest gs i g l e in
+      let is = flat-spread g others in
       let inside = within_rest (old_size d) (map (shift g.start) ranges) later (subst (Within (old_size d)) is w.within) in
       let order = subst (Ascend reached) is w.ascend in
       let n = length_shifted rules g.start ranges in
       let some : 0 < length (map (shift g.start) ranges) = let s = group.1 in omega (arith, n, s) in
-      let chunks = are_left (map (move g.start) g.group.value.chunks.items) next (subst (AreChunks rules) (ap spread (rest_at gs i g l e)) w.chunks) in
+      let chunks = are_left (map (move g.start) g.group.value.chunks.items) next w.chunks in
       let first = group_first g.start g.group.value.chunks.items next group.0.chunks group.1 group.0.first in
       record {
         under = under_clear rules d whole done run (map (shift g.start) ranges) later more (subst (λ rs. IsUnder rules d whole done run rs) is w.under) some k.hull.each (start_in rules d later inside)
@@ -163,8 +153,51 @@ module _ {T : Type 0} (rules : RangeRules T) (d : Sections) where
         ascend = (ascend_hull reached g.start ranges later group.1 group.0.first order).1;
         same = λ a b s.
             let at = skipped reached g.start a ranges next chunks group.1 group.0.first order s in
-            f a b at ∙ w.same a b (subst (StartsBy a) (sym (ap spread (rest_at gs i g l e))) (starts_more g.start a (map (move g.start) g.group.value.chunks.items) next at first));
+            f a b at ∙ w.same a b (starts_more g.start a (map (move g.start) g.group.value.chunks.items) next at first);
       }
+
+  -- Groups that are carried as far as the place from, up to whose ends no change is met, are walked.
+  pub walked_carried : (whole : List (Ranged T)) (from : ℕ) (gs others : List (PlacedGroup T)) (done more : List (Ranged T)) (reached : ℕ) (reps : List ChangedRange) → AreGroups rules (gs ++ others)
+      → reached ≤ from → IsWalked rules d whole (spread (gs ++ others)) done [] reached reps → Ascend from (flat (spread (gs ++ others))) → ((b : ℕ) → list_any (meets from b) reps ≡ list_any (meets from b) (replaced d)) → AllApart from reps gs
+      → more ≡ done ++ flat (spread (map (carry from (clear_place d from)) gs)) → IsWalked rules d whole (spread others) more [] reached reps
+  walked_carried whole from [] others done more reached reps h l w asc f apart e = subst (λ rs. IsWalked rules d whole (spread others) rs [] reached reps) (sym (e ∙ append-nil done)) w
+  walked_carried whole from (g ∷ gs) others done more reached reps h l w asc f apart e =
+      let ranges = flat g.group.value.chunks.items in
+      let rest = gs ++ others in
+      let hull = ascend_hull from g.start ranges (flat (spread rest)) h.0.1 h.0.0.first (subst (Ascend from) (flat-spread g rest) asc) in
+      let met : IsClear from (g.start + g.group.value.reach) d = sym (f (g.start + g.group.value.reach)) ∙ apart.0.1 in
+      let here : IsClear from g.start d = none-narrow from (g.start + g.group.value.reach) from g.start (replaced d) (omega arith) (omega arith) met in
+      let first = starts_at g rest g.start h.0.0 h.0.1 (omega arith) in
+      let narrow : list_any (meets g.start (g.start + g.group.value.reach)) reps ≡ false =
+      w.same g.start _ first ∙ none-narrow from (g.start + g.group.value.reach) g.start (g.start + g.group.value.reach) (replaced d) hull.0 (omega arith) met in
+      let none : (g.group.value.is_turned || list_any (meets g.start (g.start + g.group.value.reach)) reps) ≡ false = ap (λ b. b || list_any (meets g.start (g.start + g.group.value.reach)) reps) apart.0.0 ∙ narrow in
+      let clear = clear_group whole g rest done [] reached reps reps h (λ a b s. refl) w none in
+      let place : clear_place d g.start ≡ g.start - from + clear_place d from = let k = clear_apart d from g.start hull.0 here in omega (arith, k) in
+      let put = map (shift (g.start - from + clear_place d from)) ranges in
+      let next = walked_group whole g rest done [] (done ++ put) reached reps reps h (λ a b s. refl) w clear
+      (ap (λ n. done ++ map (shift n) ranges) (sym place) ∙ sym (ap (λ rs. rs ++ map (shift (clear_place d g.start)) ranges) (append-nil done))) in
+      walked_carried whole from gs others (done ++ put) more reached reps h.1 l (walked_less rules d whole (spread rest) (done ++ put) [] reached g.start reps clear.ascend next)
+      (ascend-less from g.start (flat (spread rest)) hull.0 hull.1) f apart.1
+      (e ∙ (ap (λ rs. done ++ rs) (flat-spread (carry from (clear_place d from) g) (map (carry from (clear_place d from)) gs)) ∙ sym (append_assoc done put (flat (spread (map (carry from (clear_place d from)) gs))))))
+
+  pub carried_fit : (from : ℕ) (changed : List ChangedRange) (gs : List (PlacedGroup T)) → AreGroups rules gs → Ascend from (flat (spread gs)) → Within (old_size d) (flat (spread gs))
+      → ((b : ℕ) → list_any (meets from b) changed ≡ list_any (meets from b) (replaced d)) → new_size counted d < 2 ^ 32 → AllCarried from (clear_place d from) changed gs
+  carried_fit from changed [] h asc w f size = tt
+  carried_fit from changed (g ∷ gs) h asc w f size =
+      let ranges = flat g.group.value.chunks.items in
+      let later = flat (spread gs) in
+      let end = g.start + g.group.value.reach in
+      let hull = ascend_hull from g.start ranges later h.0.1 h.0.0.first (subst (Ascend from) (flat-spread g gs) asc) in
+      let inside = subst (Within (old_size d)) (flat-spread g gs) w in
+      let last = hull_within rules d (old_size d) g.start ranges h.0.1 (within_prefix (old_size d) (map (shift g.start) ranges) later inside) in
+      let reach = h.0.0.reach in (
+        λ none.
+            let met : IsClear from end d = sym (f end) ∙ none in
+            let far = clear_apart d from end (omega (arith, hull.0)) met in
+            let bound = clear_within d end (omega (arith, last, reach)) (none-narrow from end end end (replaced d) (omega (arith, hull.0)) (omega arith) met) in
+            omega (arith, far, bound, size, hull.0),
+        carried_fit from changed gs h.1 (ascend-less from g.start later hull.0 hull.1) (within_rest (old_size d) (map (shift g.start) ranges) later inside) f size,
+      )
 
   -- the next chunk of a group that is opened
   pub at_inner : (whole : List (Ranged T)) (start : ℕ) (ps : List (Placed T)) (i : ℕ) (p : Placed T) (later : List (Placed T)) (done run : List (Ranged T)) (reached : ℕ) (reps : List ChangedRange) → i < length ps → p ≡ get_or ps i p
@@ -176,16 +209,11 @@ module _ {T : Type 0} (rules : RangeRules T) (d : Sections) where
   allowance_inner start ps i p later b l e a =
       ap (allowance rules d) (next_inner start ps i p later l e) ∙ ap (λ x. cond x 128 0 + allowance rules d (map (move start) (drop (i + 1) ps) ++ later)) a
 
-  pub allowance_open : (gs : List (PlacedGroup T)) (i : ℕ) (g : PlacedGroup T) → i < length gs → g ≡ get_or gs i g
-      → allowance rules d (spread (drop i gs)) ≡ allowance rules d (map (move g.start) g.group.value.chunks.items ++ spread (drop (i + 1) gs))
-  allowance_open gs i g l e = ap (allowance rules d) (ap spread (rest_at gs i g l e))
-
   -- a group's share of how many ranges are mapped by themselves at most
-  pub allowance_group : (gs : List (PlacedGroup T)) (i : ℕ) (g : PlacedGroup T) → i < length gs → g ≡ get_or gs i g
-      → allowance rules d (spread (drop i gs)) ≡ allowance rules d (map (move g.start) g.group.value.chunks.items) + allowance rules d (spread (drop (i + 1) gs))
-  allowance_group gs i g l e = allowance_open gs i g l e ∙ allowance-append (map (move g.start) g.group.value.chunks.items) (spread (drop (i + 1) gs))
+  pub allowance_group : (g : PlacedGroup T) (others : List (PlacedGroup T)) → allowance rules d (spread (g ∷ others)) ≡ allowance rules d (map (move g.start) g.group.value.chunks.items) + allowance rules d (spread others)
+  allowance_group g others = allowance-append (map (move g.start) g.group.value.chunks.items) (spread others)
 
-  -- all groups are walked
-  pub at_last : (whole : List (Ranged T)) (gs : List (PlacedGroup T)) (i : ℕ) (done run : List (Ranged T)) (reached : ℕ) (reps : List ChangedRange) → length gs ≤ i
-      → IsWalked rules d whole (spread (drop i gs)) done run reached reps → IsUnder rules d whole done run []
-  at_last whole gs i done run reached reps l h = subst (λ (hs : List (PlacedGroup T)). IsUnder rules d whole done run (flat (spread hs))) (none_from gs i l) h.under
+  -- groups that are passed leave no more to be mapped
+  pub allowance_passed : (gs others : List (PlacedGroup T)) → allowance rules d (spread others) ≤ allowance rules d (spread (gs ++ others))
+  allowance_passed [] others = omega arith
+  allowance_passed (g ∷ gs) others = let k = allowance_passed gs others in let e = allowance_group g (gs ++ others) in omega (arith, k, e)

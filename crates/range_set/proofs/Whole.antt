@@ -10,7 +10,7 @@ use Rattle.range_set.specs.Points.{stands}
 use Rattle.range_set.specs.PrivateChunks.{Ascend, IsChunk, first_start, greatest_end, shift}
 use Rattle.range_set.specs.declared.ranged.Ranged.{Ranged}
 use Rattle.range_set.specs.declared.chunk.Chunk.{Chunk}
-use Rattle.range_set.proofs.Chunks.{ascend-less, counted_from, greatest-push, is_not_less, not_less, or_false, shift_counted, turned-counted}
+use Rattle.range_set.proofs.Chunks.{ascend-less, counted_from, greatest-push, is_not_less, not_less, shift_counted, turned-counted}
 
 -- a list of which the first elements were written anew
 module _ {X : Type 0} (f : X → X) where
@@ -42,21 +42,16 @@ module _ {X : Type 0} (f : X → X) where
   pub written-all : (xs ys : List X) (i : ℕ) → xs ≡ map f (take i ys) ++ drop i ys → length ys ≤ i → xs ≡ map f ys
   written-all xs ys i e l = e ∙ all_written ys i l
 
-pub any_more : {X : Type 0} (q : X → Bool) (ys : List X) (i : ℕ) (x : X) → i < length ys → list_any q (take (i + 1) ys) ≡ (list_any q (take i ys) || q (get_or ys i x))
-any_more q ys i x l =
-    ap (list_any q) (take_more ys i x l)
-    ∙ (list_any-append q (take i ys) (get_or ys i x ∷ []) ∙ ap (λ b. list_any q (take i ys) || b) (or_false (q (get_or ys i x))))
-
 module _ {T : Type 0} where
   pub ascend_at : (n : ℕ) (rs : List (Ranged T)) (i : ℕ) (r : Ranged T) → i < length rs → Ascend n rs → n ≤ (get_or rs i r).from
   ascend_at n [] i r l h = absurd (omega arith)
   ascend_at n (q ∷ rs) zero r l h = h.0
   ascend_at n (q ∷ rs) (suc i) r l h = ascend_at n rs i r (omega arith) (ascend-less n q.from rs h.0 h.1)
 
-  pub forward_item : (rs : List (Ranged T)) (i : ℕ) (r : Ranged T) → i < length rs → AllForward rs → (get_or rs i r).from ≤ (get_or rs i r).to
-  forward_item [] i r l h = absurd (omega arith)
-  forward_item (q ∷ rs) zero r l h = not_less q.to q.from h.0
-  forward_item (q ∷ rs) (suc i) r l h = forward_item rs i r (omega arith) h.1
+  pub forward_at_item : (rs : List (Ranged T)) (i : ℕ) (r : Ranged T) → i < length rs → AllForward rs → (get_or rs i r).from ≤ (get_or rs i r).to
+  forward_at_item [] i r l h = absurd (omega arith)
+  forward_at_item (q ∷ rs) zero r l h = not_less q.to q.from h.0
+  forward_at_item (q ∷ rs) (suc i) r l h = forward_at_item rs i r (omega arith) h.1
 
 module _ {T : Type 0} (rules : RangeRules T) where
   pub reach_more : (start : ℕ) (rs : List (Ranged T)) (i : ℕ) (r : Ranged T) → i < length rs

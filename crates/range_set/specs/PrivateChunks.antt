@@ -1,6 +1,8 @@
 -- Groups of chunks as one list of ranges. Private: contracts of sets see that list alone.
-use Rattle.std.specs.Prelude.{◌≡◌, ◌⊎◌, ℕ, ◌+◌, ◌^◌, ◌<◌, ◌≤◌, max, List, None, [], ◌∷◌, ◌++◌, length, map}
+use Rattle.std.specs.Prelude.{◌≡◌, ◌⊎◌, ℕ, false, ◌+◌, ◌-◌, ◌^◌, ◌<◌, ◌≤◌, max, List, None, [], ◌∷◌, ◌++◌, length, map}
 use Rattle.std.specs.List.{list_any}
+use Rattle.change_desc.specs.Ranges.{meets}
+use Rattle.change_desc.specs.declared.changed_range.ChangedRange.{ChangedRange}
 use Rattle.range_set.specs.Rules.{RangeRules}
 use Rattle.range_set.specs.Order.{AllForward, first_fault}
 use Rattle.range_set.specs.Mapping.{is_turned}
@@ -68,6 +70,27 @@ module _ {T : Type 0} where
   -- the ranges that a builder of mapped ranges has put down: those of its groups, and of the chunks after them
   abbrev pub put_down : MappedBuilder T → List (Ranged T)
   put_down b = flat (grouped b.groups) ++ built b.chunks
+
+  -- the group as far on as the place from goes to the place to
+  abbrev pub carry : (from to : ℕ) → PlacedGroup T → PlacedGroup T
+  carry from to g = record { start = g.start - from + to; group = g.group }
+
+  -- none of the groups is turned, and no range meets what is from a place to the end of one of them
+  abbrev pub AllApart : (from : ℕ) → List ChangedRange → List (PlacedGroup T) → Type 0
+  AllApart from changed [] = Unit {0}
+  AllApart from changed (g ∷ gs) = ((g.group.value.is_turned ≡ false) × (list_any (meets from (g.start + g.group.value.reach)) changed ≡ false)) × AllApart from changed gs
+
+  -- the groups fit their types as far on as the place from goes to the place to, where no range meets what is between
+  abbrev pub AllCarried : (from to : ℕ) → List ChangedRange → List (PlacedGroup T) → Type 0
+  AllCarried from to changed [] = Unit {0}
+  AllCarried from to changed (g ∷ gs) = (list_any (meets from (g.start + g.group.value.reach)) changed ≡ false → g.start - from + to + g.group.value.reach < 2 ^ 32) × AllCarried from to changed gs
+
+  -- the first of some groups were put after ranges, as far on as the place from goes to the place to, and the others were left
+  pub record AreShared (from to : ℕ) (changed : List ChangedRange) (groups rest : List (PlacedGroup T)) (old new : List (Ranged T)) : Type 0 where
+    pub taken : List (PlacedGroup T)
+    pub is : groups ≡ taken ++ rest
+    pub apart : AllApart from changed taken
+    pub ranges : new ≡ old ++ flat (spread (map (carry from to) taken))
 
   -- a chunk at a place is the first of those that were left
   pub record IsNextChunk (old : List (Placed T)) (start : ℕ) (chunk : Chunk T) (new : List (Placed T)) : Type 0 where

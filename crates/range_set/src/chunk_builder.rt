@@ -37,8 +37,9 @@ impl<T: RangeValue> ChunkBuilder<T> {
         self.done.is_empty() && self.growing.ranges.is_empty()
     }
 
-    /// Whether ranges are to be a chunk of their own that grows: whether none is growing, and they are one range, or few enough for a
-    /// chunk and none of them too long to share it.
+    /// Whether ranges become the growing chunk as they are: whether none is growing, and they are one range, or at most `MAX_RANGES`
+    /// of which none is longer than `MAX_SHARED_LEN`. `push` would put just these into one chunk too. No contract speaks of this: it
+    /// only decides where chunks are cut.
     pub(crate) fn takes_whole(&self, ranges: &[Ranged<T>]) -> bool
         ensures growing { IsTrue result → self.now.growing.ranges.items ≡ [] }
         ensures few { IsTrue result → length ranges.now ≤ 128 }
@@ -47,7 +48,7 @@ impl<T: RangeValue> ChunkBuilder<T> {
             && (ranges.len() == 1 || (ranges.len() <= MAX_RANGES && are_short(ranges)))
     }
 
-    /// Puts ranges in order after those of the chunks that are done, where none is growing, as the chunk that grows.
+    /// Makes ranges in order the growing chunk, where none is growing. It keeps their list.
     pub(crate) fn put_whole(&mut self, ranges: Vec<Ranged<T>>)
         requires builder { IsBuilder T.rules self.old }
         requires growing { self.old.growing.ranges.items ≡ [] }
@@ -129,7 +130,7 @@ impl<T: RangeValue> ChunkBuilder<T> {
     }
 }
 
-/// Whether no range is too long to share a chunk with others.
+/// Whether no range is too long to share a chunk with others. No contract speaks of this: it only decides where chunks are cut.
 fn are_short<T>(ranges: &[Ranged<T>]) -> bool {
     ranges.iter().all(|range| range.to.saturating_sub(range.from) <= MAX_SHARED_LEN)
 }

@@ -1,10 +1,12 @@
 ghost use Rattle.std.specs.Prelude.{IfOk, IsTrue, false, [], ◌++◌, ◌∷◌, ◌+◌, ◌≡◌, ◌≤◌, ◌<◌, ◌^◌, length, map};
-ghost use Rattle.range_set.specs.PrivateChunks.{AreChunks, AreGroups, AreGroupsOf, Ascend, BeginBy, IsChunk, IsGroup, IsGroupBuilder, flat, grouped, move, spread};
+ghost use Rattle.change_desc.specs.Meeting.{BeginAfter, EndsAtOrAfter};
+ghost use Rattle.range_set.specs.PrivateChunks.{AllCarried, AreChunks, AreGroups, AreGroupsOf, AreShared, Ascend, BeginBy, IsChunk, IsGroup, IsGroupBuilder, flat, grouped, move, spread};
 
 use crate::chunk::Placed;
 use crate::group::{Group, MAX_CHUNKS, PlacedGroup, few_of, full_among, full_for};
 use crate::group_list::GroupList;
 use crate::range_value::RangeValue;
+use change_desc::{ChangedRange, first_meets};
 use std::alloc::{AllocError, Global};
 use std::mem;
 use std::rc::Rc;
@@ -50,7 +52,7 @@ impl<T: RangeValue> GroupBuilder<T> {
     }
 
     /// Puts chunks in order after the others. `Err`: out of memory.
-    pub(crate) fn put_all(&mut self, chunks: Vec<Placed<T>>) -> Result<(), AllocError>
+    pub(crate) fn put_all(&mut self, mut chunks: Vec<Placed<T>>) -> Result<(), AllocError>
         requires builder { IsGroupBuilder T.rules self.old }
         requires chunks { AreChunks T.rules chunks.items }
         requires room { length (flat (grouped self.old)) + length (flat chunks.items) < 2 ^ 64 }
@@ -59,6 +61,7 @@ impl<T: RangeValue> GroupBuilder<T> {
         ensures ranges { IfOk result (λ _. grouped self.new ≡ grouped self.old ++ chunks.items) }
     {
         if self.takes_whole(chunks.len()) {
+            chunks.shrink_to_fit();
             self.put_whole(chunks);
             return Ok(());
         }
@@ -70,7 +73,8 @@ impl<T: RangeValue> GroupBuilder<T> {
         Ok(())
     }
 
-    /// Whether so many chunks are to be a group of their own that grows: whether none is growing, and they are few enough for one.
+    /// Whether so many chunks become the growing group as they are: whether none is growing, and they are no more than make one full.
+    /// `push` would put just these into one group too.
     fn takes_whole(&self, len: usize) -> bool
         ensures growing { IsTrue result → self.now.growing.chunks.items ≡ [] }
         ensures few { IsTrue result → len ≤ 64 }
@@ -78,7 +82,7 @@ impl<T: RangeValue> GroupBuilder<T> {
         self.growing.chunks.is_empty() && len <= self.full && len <= MAX_CHUNKS
     }
 
-    /// Puts chunks in order after those of the groups that are done, where none is growing, as the group that grows.
+    /// Makes chunks in order the growing group, where none is growing. It keeps their list.
     fn put_whole(&mut self, chunks: Vec<Placed<T>>)
         requires builder { IsGroupBuilder T.rules self.old }
         requires growing { self.old.growing.chunks.items ≡ [] }
@@ -147,6 +151,20 @@ impl<T: RangeValue> GroupBuilder<T> {
         ensures ranges { IfOk result (λ _. grouped self.new ≡ grouped self.old ++ map (move start) group.now.value.chunks.items) }
     {
         seal(&mut self.done, self.start, &mut self.growing)?;
+        self.put_shared(start, group)
+    }
+
+    /// Puts a group after those that are done, where none is growing, at a place of its own, and shares it. `Err`: out of memory.
+    fn put_shared(&mut self, start: u32, group: &Rc<Group<T>>) -> Result<(), AllocError>
+        requires builder { IsGroupBuilder T.rules self.old }
+        requires growing { self.old.growing.chunks.items ≡ [] }
+        requires group { IsGroup T.rules start group.now.value }
+        requires some { 1 ≤ length (flat group.now.value.chunks.items) }
+        requires room { length (flat (grouped self.old)) + length (flat group.now.value.chunks.items) < 2 ^ 64 }
+        ensures builder { IfOk result (λ _. IsGroupBuilder T.rules self.new) }
+        ensures growing { IfOk result (λ _. self.new.growing ≡ self.old.growing) }
+        ensures ranges { IfOk result (λ _. grouped self.new ≡ grouped self.old ++ map (move start) group.now.value.chunks.items) }
+    {
         let count = group.count;
         self.done.push(PlacedGroup {
             start,
@@ -154,6 +172,39 @@ impl<T: RangeValue> GroupBuilder<T> {
         })?;
         self.len += count;
         Ok(())
+    }
+
+    /// Puts the first groups after the ranges, up to one that is turned, or from the place `from` to the end of which a range that is
+    /// replaced is met; each as far on as `from` goes to `to`; and shares them. Gives the others. Of the replaced ranges the first
+    /// doesn't end before `from`. `Err`: out of memory.
+    pub(crate) fn share_carried<'a>(
+        &mut self,
+        groups: &'a [PlacedGroup<T>],
+        from: u32,
+        to: u32,
+        changed: &[ChangedRange],
+    ) -> Result<&'a [PlacedGroup<T>], AllocError>
+        requires builder { IsGroupBuilder T.rules self.old }
+        requires groups { AreGroups T.rules groups.now }
+        requires ascend { Ascend from (flat (spread groups.now)) }
+        requires fits { AllCarried from to changed.now groups.now }
+        requires order { BeginAfter 0 changed.now }
+        requires first { EndsAtOrAfter from changed.now }
+        requires room { length (flat (grouped self.old)) + length (flat (spread groups.now)) < 2 ^ 64 }
+        ensures builder { IfOk result (λ _. IsGroupBuilder T.rules self.new) }
+        ensures shared { IfOk result (λ rest. AreShared from to changed.now groups.now rest.now (flat (grouped self.old)) (flat (grouped self.new))) }
+    {
+        seal(&mut self.done, self.start, &mut self.growing)?;
+        let mut rest = groups;
+        while let Some((placed, others)) = rest.split_first() {
+            let end = placed.start + placed.group.reach;
+            if placed.group.is_turned || first_meets(changed, from, end) {
+                return Ok(rest);
+            }
+            self.put_shared(placed.start - from + to, &placed.group)?;
+            rest = others;
+        }
+        Ok(rest)
     }
 
     /// Puts groups after the ranges, each at its place, and shares them. `Err`: out of memory.

@@ -48,8 +48,8 @@ impl<T: RangeValue> MappedBuilder<T> {
         self.chunks.done.reserve(chunks)
     }
 
-    /// Whether a group of so many chunks is to become one with those that stand before it and aren't in a group yet: whether all of
-    /// them fill at most three quarters of a full group. No contract speaks of this: it only decides which groups are shared.
+    /// Whether a group of so many chunks is to become one with those that stand before it and aren't in a group yet: whether there are
+    /// any, and all of them fill at most three quarters of a full group. No contract speaks of this: it only decides which groups are shared.
     pub(crate) fn joins(&self, len: usize) -> bool {
         if self.run.is_empty() && self.chunks.done.is_empty() {
             return false;
@@ -85,6 +85,7 @@ impl<T: RangeValue> MappedBuilder<T> {
         ensures builder { IfOk result (λ _. IsMappedBuilder T.rules self.new) }
         ensures ranges { IfOk result (λ _. put_down self.new ≡ put_down self.old ++ stable_sort (before T.rules) self.old.run.items ++ map (shift start) (flat group.now.value.chunks.items)) }
         ensures none { IfOk result (λ _. self.new.run.items ≡ []) }
+        ensures ended { IfOk result (λ _. built self.new.chunks ≡ []) }
     {
         put_sorted(&mut self.run, &mut self.chunks)?;
         self.end_groups()?;

@@ -73,8 +73,10 @@ fn map_all<'a, T: RangeValue, L: Ledger>(
     let mut left = changed;
     let mut walk = ClearWalk::new(changes);
     let mut builder = MappedBuilder::for_groups(alloc, groups.len())?;
-    for placed in groups {
+    let mut rest = groups;
+    while let Some((placed, others)) = rest.split_first() {
         left = ranges_from(left, placed.start);
+        rest = others;
         if is_opened(placed, left, &builder) {
             builder.reserve(placed.group.chunks.len())?;
             for inner in &placed.group.chunks {
@@ -98,6 +100,9 @@ fn map_all<'a, T: RangeValue, L: Ledger>(
         } else {
             let start = walk.place_after(placed.start, left);
             builder.share_group(start, &placed.group)?;
+            rest = builder
+                .groups
+                .share_carried(others, placed.start, start, left)?;
         }
     }
     builder.finish()

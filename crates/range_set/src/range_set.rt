@@ -22,7 +22,7 @@ use crate::points::Points;
 use crate::range_error::RangeError;
 use crate::range_ref::RangeRef;
 use crate::range_value::RangeValue;
-use crate::ranged::Ranged;
+use crate::ranged::{Ranged, fault_in};
 use crate::sorting::put_all;
 use crate::updating::{added_groups, updated_chunks};
 use change_desc::Desc;
@@ -310,23 +310,6 @@ fn groups_end_within<T: RangeValue>(groups: &[PlacedGroup<T>], len: u32) -> bool
         }
     }
     true
-}
-
-/// The first fault of a list of ranges.
-pub(crate) fn fault_in<T: RangeValue>(ranges: &[Ranged<T>]) -> Option<RangeError>
-    ensures value { result ≡ first_fault T.rules ranges.now }
-{
-    let mut last = None;
-    for (index, range) in ranges.iter().enumerate() {
-        if range.from > range.to {
-            return Some(RangeError::Reversed { index });
-        }
-        if range.precedes(last) {
-            return Some(RangeError::NotSorted { index });
-        }
-        last = Some(range);
-    }
-    None
 }
 
 /// The last range of some groups.

@@ -1,9 +1,10 @@
 ghost use Rattle.std.specs.Prelude.{◌≡◌, option_copied};
 ghost use Rattle.std.specs.Ordering.{is_lt};
-ghost use Rattle.range_set.specs.Order.{before, precedes};
+ghost use Rattle.range_set.specs.Order.{before, first_fault, precedes};
 ghost use Rattle.range_set.specs.Mapping.{is_turned};
 ghost use Rattle.range_set.specs.Ranking.{before-order};
 
+use crate::range_error::RangeError;
 use crate::range_ref::RangeRef;
 use crate::range_value::RangeValue;
 use stable_order::Ranked;
@@ -59,4 +60,21 @@ impl<T: RangeValue> Ranged<T> {
         };
         range.is_turned()
     }
+}
+
+/// The first fault of a list of ranges.
+pub(crate) fn fault_in<T: RangeValue>(ranges: &[Ranged<T>]) -> Option<RangeError>
+    ensures value { result ≡ first_fault T.rules ranges.now }
+{
+    let mut last = None;
+    for (index, range) in ranges.iter().enumerate() {
+        if range.from > range.to {
+            return Some(RangeError::Reversed { index });
+        }
+        if range.precedes(last) {
+            return Some(RangeError::NotSorted { index });
+        }
+        last = Some(range);
+    }
+    None
 }

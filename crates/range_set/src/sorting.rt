@@ -4,9 +4,8 @@ ghost use Rattle.range_set.specs.PrivateChunks.{Ascend, IsBuilder, built};
 ghost use Rattle.stable_order.specs.StableSort.{stable_sort};
 
 use crate::chunk_builder::ChunkBuilder;
-use crate::range_set::fault_in;
 use crate::range_value::RangeValue;
-use crate::ranged::Ranged;
+use crate::ranged::{Ranged, fault_in};
 use stable_order::sort_stably;
 use std::alloc::AllocError;
 use std::mem;
@@ -44,15 +43,10 @@ fn put_run<T: RangeValue>(
     let alloc = *run.allocator();
     let mut ranges = mem::replace(run, Vec::new(alloc));
     sort(&mut ranges)?;
-    if builder.takes_whole(&ranges) {
-        builder.put_whole(ranges);
-        Ok(())
-    } else {
-        put_all(ranges, builder)
-    }
+    put_all(ranges, builder)
 }
 
-/// Sorts ranges, which mostly are in order. `Err`: out of memory.
+/// Sorts ranges stably. Those that are in order, as most runs are, are only looked at. `Err`: out of memory.
 fn sort<T: RangeValue>(ranges: &mut Vec<Ranged<T>>) -> Result<(), AllocError>
     ensures { IfOk result (λ _. ranges.new.items ≡ stable_sort (before T.rules) ranges.old.items) }
 {
@@ -64,7 +58,7 @@ fn sort<T: RangeValue>(ranges: &mut Vec<Ranged<T>>) -> Result<(), AllocError>
 
 /// Puts a run of ranges in order after those of a builder. `Err`: out of memory.
 pub(crate) fn put_all<T: RangeValue>(
-    ranges: Vec<Ranged<T>>,
+    mut ranges: Vec<Ranged<T>>,
     builder: &mut ChunkBuilder<T>,
 ) -> Result<(), AllocError>
     requires builder { IsBuilder T.rules builder.old }
@@ -73,6 +67,11 @@ pub(crate) fn put_all<T: RangeValue>(
     ensures builder { IfOk result (λ _. IsBuilder T.rules builder.new) }
     ensures ranges { IfOk result (λ _. built builder.new ≡ built builder.old ++ ranges.items) }
 {
+    if builder.takes_whole(&ranges) {
+        ranges.shrink_to_fit();
+        builder.put_whole(ranges);
+        return Ok(());
+    }
     let mut left = ranges.len();
     for range in ranges {
         builder.push(range, left)?;

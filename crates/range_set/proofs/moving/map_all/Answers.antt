@@ -1,4 +1,5 @@
-use Rattle.std.proofs.Common.{[], ◌≡◌, ◌+◌, ◌<◌, ◌≤◌, List, get_or, ◌++◌, drop, map, filter_map, length, true, false, ap, subst, sym, ◌∙◌, arith}
+use Rattle.std.proofs.Common.{[], ◌≡◌, ℕ, ◌+◌, ◌<◌, ◌≤◌, List, get_or, ◌++◌, drop, map, filter_map, length, true, false, ap, subst, sym, ◌∙◌, arith}
+use Rattle.std.proofs.lemmas.List.{append-nil, length-append, nil_from_length}
 use Rattle.std.proofs.lemmas.Result.{IfOk-weaker}
 use Rattle.std.specs.Prelude.{unwrap_or}
 use Rattle.std.specs.List.{list_any}
@@ -12,20 +13,20 @@ use Rattle.change_desc.proofs.RangesMet.{replaced-begin}
 use Rattle.stable_order.specs.StableSort.{stable_sort}
 use Rattle.range_set.specs.Order.{before}
 use Rattle.range_set.specs.Mapping.{map_ranges, moved}
-use Rattle.range_set.specs.PrivateChunks.{flat, move, put_down, shift, spread}
+use Rattle.range_set.specs.PrivateChunks.{AllCarried, AreGroups, Ascend, built, carry, flat, grouped, move, put_down, shift, spread}
 use Rattle.range_set.specs.declared.chunk.Placed.{Placed}
 use Rattle.range_set.specs.declared.group.Group.{Group}
 use Rattle.range_set.proofs.Chunks.{ascend-prefix}
 use Rattle.range_set.proofs.Clear.{IsClear, Sections, clear_place, map_pos-clear}
 use Rattle.range_set.proofs.Cost.{allowance, allowed}
 use Rattle.range_set.proofs.Each.{Within, end_within, within}
-use Rattle.range_set.proofs.Groups.{are_spread, chunk_placed, group-at, group_placed}
+use Rattle.range_set.proofs.Groups.{are_spread, chunk_placed, group_placed, groups_right}
 use Rattle.range_set.proofs.RangeOrder.{rises-no_fault}
-use Rattle.range_set.proofs.Under.{rises_ascend, under_end, under_end_order}
+use Rattle.range_set.proofs.Under.{IsUnder, rises_ascend, under_end, under_end_order}
 use Rattle.range_set.proofs.Walked.{IsWalked, affected_same, clear_chunk, run_forward, walked_clear, walked_each, walked_init, walked_less, within_prefix}
-use Rattle.range_set.proofs.WalkedGroups.{allowance_group, allowance_inner, allowance_open, at_inner, at_last, clear_group, no_inner, starts_at, walked_group, walked_open}
+use Rattle.range_set.proofs.WalkedGroups.{allowance_group, allowance_inner, allowance_passed, at_inner, carried_fit, clear_group, no_inner, starts_at, walked_carried, walked_group, walked_open}
 use Rattle.range_set.proofs.moving.map_all.Goals as goal
-use Rattle.range_set.proofs.moving.map_all.Goals.{then-is_affected+in_ok-map_each, else-is_affected+in_ok-share_chunk, then-is_opened+in_ok-reserve+else-loop-inner-test, else-is_opened+in_ok-share_group}
+use Rattle.range_set.proofs.moving.map_all.Goals.{then-is_affected+in_ok-map_each, else-is_affected+in_ok-share_chunk}
 
 pub loop-placed-init : goal.loop-placed-init
 loop-placed-init g c =
@@ -35,6 +36,7 @@ loop-placed-init g c =
     let reps = c.requires.replaced in
     record {
       builder = c.in_ok-builder.ensures.builder;
+      groups = c.requires.groups;
       walked = rw (c.in_ok-builder.ensures.ranges, c.in_ok-builder.ensures.none, c.new-walk.ensures.start)
           (walked_init rules d ps c.args.changed.now (are_spread rules c.args.groups.now c.requires.groups) (rises-no_fault rules (flat ps) c.requires.order) (within (old_size d) (flat ps) c.requires.inside) reps);
       desc = ap (λ (w : Walk). w.desc) c.new-walk.ensures.start;
@@ -45,7 +47,7 @@ loop-placed-init g c =
 
 pub is_opened-requires-clause-fits : goal.is_opened-requires-clause-fits
 is_opened-requires-clause-fits g c =
-    (group-at g.T.RangeValue.rules c.args.groups.now c.loop-placed.placed-index c.placed-item.result c.loop-placed-test.true c.placed-item.is c.requires.groups).0.fits
+    (subst (AreGroups g.T.RangeValue.rules) c.in-Some.ensures.cases.0 c.loop-placed.invariant.groups).0.0.fits
 
 pub returns-in_err-reserve-clause-cost : goal.returns-in_err-reserve-clause-cost
 returns-in_err-reserve-clause-cost g c =
@@ -60,18 +62,19 @@ loop-inner-init g c =
     let rules = g.T.RangeValue.rules in
     let d = c.args.changes.now in
     let gs = c.args.groups.now in
-    let i = c.loop-placed.placed-index in
-    let p = c.placed-item.result in
-    let l = c.loop-placed-test.true in
+    let p = c.in-Some.placed.now in
+    let others = c.in-Some.others.now in
     let kept = c.loop-placed.invariant in
+    let groups = subst (AreGroups rules) c.in-Some.ensures.cases.0 kept.groups in
+    let walked = subst (λ hs. IsWalked rules d (flat (spread gs)) (spread hs) (put_down c.loop-placed.builder) c.loop-placed.builder.run.items c.loop-placed.walk.walker.reached c.loop-placed.left.now) c.in-Some.ensures.cases.0 kept.walked in
     record {
       builder = c.reserve.ensures.builder;
-      walked = rw (c.reserve.ensures.ranges, ap (λ v. v.items) c.reserve.ensures.run) (walked_open rules d (flat (spread gs)) gs i p (put_down c.loop-placed.builder) c.loop-placed.builder.run.items c.loop-placed.walk.walker.reached c.loop-placed.left.now c.ranges_from-left.result.now l c.placed-item.is
-          (group-at rules gs i p l c.placed-item.is c.requires.groups).1 c.ranges_from-left.ensures.same kept.walked);
+      walked = rw (c.reserve.ensures.ranges, ap (λ v. v.items) c.reserve.ensures.run) (walked_open rules d (flat (spread gs)) p others (put_down c.loop-placed.builder) c.loop-placed.builder.run.items c.loop-placed.walk.walker.reached c.loop-placed.left.now c.ranges_from-left.result.now
+          groups.0.1 c.ranges_from-left.ensures.same walked);
       desc = kept.desc;
       clear = kept.clear;
       begin = c.ranges_from-left.ensures.order;
-      cost = let a = kept.cost in let b = allowance_open rules d gs i p l c.placed-item.is in omega (arith, a, b);
+      cost = let a = kept.cost in let b = ap (λ hs. allowance rules d (spread hs)) c.in-Some.ensures.cases.0 in omega (arith, a, b);
     }
 
 pub map_each-requires-clause-inside : goal.map_each-requires-clause-inside
@@ -79,14 +82,14 @@ map_each-requires-clause-inside g c =
     let rules = g.T.RangeValue.rules in
     let d = c.args.changes.now in
     let gs = c.args.groups.now in
-    let ps = c.placed-item.result.group.value.chunks.items in
+    let ps = c.in-Some.placed.now.group.value.chunks.items in
     let p = c.inner-item.result in
     let same = c.deref-inner-items.ensures.value ∙ ap (λ (x : Group g.row.T.Denot). x.chunks.items) c.deref-then-is_opened.ensures in
     let l : c.loop-inner.inner-index < length ps = subst (λ (xs : List (Placed g.row.T.Denot)). c.loop-inner.inner-index < length xs) same c.loop-inner-test.true in
     let is : p ≡ get_or ps c.loop-inner.inner-index p = subst (λ (xs : List (Placed g.row.T.Denot)). p ≡ get_or xs c.loop-inner.inner-index p) same c.inner-item.is in
-    let start = c.placed-item.result.start in
+    let start = c.in-Some.placed.now.start in
     let j = c.loop-inner.inner-index in
-    let later = spread (drop (c.loop-placed.placed-index + 1) gs) in
+    let later = spread c.in-Some.others.now in
     let rest = map (move start) (drop (j + 1) ps) ++ later in
     let ranges = map (shift (p.start + start)) p.chunk.value.ranges.items in
     let kept = c.loop-inner.invariant in
@@ -99,14 +102,14 @@ map_each-requires-clause-ascending g c =
     let rules = g.T.RangeValue.rules in
     let d = c.args.changes.now in
     let gs = c.args.groups.now in
-    let ps = c.placed-item.result.group.value.chunks.items in
+    let ps = c.in-Some.placed.now.group.value.chunks.items in
     let p = c.inner-item.result in
     let same = c.deref-inner-items.ensures.value ∙ ap (λ (x : Group g.row.T.Denot). x.chunks.items) c.deref-then-is_opened.ensures in
     let l : c.loop-inner.inner-index < length ps = subst (λ (xs : List (Placed g.row.T.Denot)). c.loop-inner.inner-index < length xs) same c.loop-inner-test.true in
     let is : p ≡ get_or ps c.loop-inner.inner-index p = subst (λ (xs : List (Placed g.row.T.Denot)). p ≡ get_or xs c.loop-inner.inner-index p) same c.inner-item.is in
-    let start = c.placed-item.result.start in
+    let start = c.in-Some.placed.now.start in
     let j = c.loop-inner.inner-index in
-    let later = spread (drop (c.loop-placed.placed-index + 1) gs) in
+    let later = spread c.in-Some.others.now in
     let rest = map (move start) (drop (j + 1) ps) ++ later in
     let kept = c.loop-inner.invariant in
     let here = at_inner rules d (flat (spread gs)) start ps j p later (put_down c.loop-inner.builder) c.loop-inner.builder.run.items c.loop-inner.walk.walker.reached c.loop-inner.left.now l is kept.walked in
@@ -116,13 +119,13 @@ pub map_each-requires-clause-same : goal.map_each-requires-clause-same
 map_each-requires-clause-same g c = λ a b l.
     let d = c.args.changes.now in
     let gs = c.args.groups.now in
-    let ps = c.placed-item.result.group.value.chunks.items in
+    let ps = c.in-Some.placed.now.group.value.chunks.items in
     let p = c.inner-item.result in
     let same = c.deref-inner-items.ensures.value ∙ ap (λ (x : Group g.row.T.Denot). x.chunks.items) c.deref-then-is_opened.ensures in
     let in_range : c.loop-inner.inner-index < length ps = subst (λ (xs : List (Placed g.row.T.Denot)). c.loop-inner.inner-index < length xs) same c.loop-inner-test.true in
     let is : p ≡ get_or ps c.loop-inner.inner-index p = subst (λ (xs : List (Placed g.row.T.Denot)). p ≡ get_or xs c.loop-inner.inner-index p) same c.inner-item.is in
     let kept = c.loop-inner.invariant in
-    let here = at_inner g.T.RangeValue.rules d (flat (spread gs)) c.placed-item.result.start ps c.loop-inner.inner-index p (spread (drop (c.loop-placed.placed-index + 1) gs)) (put_down c.loop-inner.builder) c.loop-inner.builder.run.items
+    let here = at_inner g.T.RangeValue.rules d (flat (spread gs)) c.in-Some.placed.now.start ps c.loop-inner.inner-index p (spread c.in-Some.others.now) (put_down c.loop-inner.builder) c.loop-inner.builder.run.items
     c.loop-inner.walk.walker.reached c.loop-inner.left.now in_range is kept.walked in
     c.ranges_from-left-in-loop-inner.ensures.same a b l ∙ (here.same a b l ∙ ap (λ (x : Sections). list_any (meets a b) (replaced x)) (sym kept.desc))
 
@@ -131,14 +134,14 @@ returns-in_err-map_each-clause-cost g c =
     let rules = g.T.RangeValue.rules in
     let d = c.args.changes.now in
     let gs = c.args.groups.now in
-    let ps = c.placed-item.result.group.value.chunks.items in
+    let ps = c.in-Some.placed.now.group.value.chunks.items in
     let p = c.inner-item.result in
     let same = c.deref-inner-items.ensures.value ∙ ap (λ (x : Group g.row.T.Denot). x.chunks.items) c.deref-then-is_opened.ensures in
     let l : c.loop-inner.inner-index < length ps = subst (λ (xs : List (Placed g.row.T.Denot)). c.loop-inner.inner-index < length xs) same c.loop-inner-test.true in
     let is : p ≡ get_or ps c.loop-inner.inner-index p = subst (λ (xs : List (Placed g.row.T.Denot)). p ≡ get_or xs c.loop-inner.inner-index p) same c.inner-item.is in
-    let start = c.placed-item.result.start in
+    let start = c.in-Some.placed.now.start in
     let j = c.loop-inner.inner-index in
-    let later = spread (drop (c.loop-placed.placed-index + 1) gs) in
+    let later = spread c.in-Some.others.now in
     let rest = map (move start) (drop (j + 1) ps) ++ later in
     let done = put_down c.loop-inner.builder in
     let run = c.loop-inner.builder.run.items in
@@ -154,19 +157,69 @@ returns-in_err-map_each-clause-cost g c =
     let share = allowance_inner rules d start ps j p later true l is (sym affected ∙ c.if-is_affected.true) in
     omega (arith, top, spent, each, few, share)
 
+pub place_after-start-requires-clause-inside : goal.place_after-start-requires-clause-inside
+place_after-start-requires-clause-inside g c =
+    let rules = g.T.RangeValue.rules in
+    let d = c.args.changes.now in
+    let gs = c.args.groups.now in
+    let ps = c.in-Some.placed.now.group.value.chunks.items in
+    let p = c.inner-item.result in
+    let same = c.deref-inner-items.ensures.value ∙ ap (λ (x : Group g.row.T.Denot). x.chunks.items) c.deref-then-is_opened.ensures in
+    let l : c.loop-inner.inner-index < length ps = subst (λ (xs : List (Placed g.row.T.Denot)). c.loop-inner.inner-index < length xs) same c.loop-inner-test.true in
+    let is : p ≡ get_or ps c.loop-inner.inner-index p = subst (λ (xs : List (Placed g.row.T.Denot)). p ≡ get_or xs c.loop-inner.inner-index p) same c.inner-item.is in
+    let start = c.in-Some.placed.now.start in
+    let j = c.loop-inner.inner-index in
+    let later = spread c.in-Some.others.now in
+    let rest = map (move start) (drop (j + 1) ps) ++ later in
+    let done = put_down c.loop-inner.builder in
+    let run = c.loop-inner.builder.run.items in
+    let reached = c.loop-inner.walk.walker.reached in
+    let reps = c.loop-inner.left.now in
+    let kept = c.loop-inner.invariant in
+    let here = at_inner rules d (flat (spread gs)) start ps j p later done run reached reps l is kept.walked in
+    let affected = affected_same rules d (flat (spread gs)) (move start p) rest done run reached reps c.ranges_from-left-in-loop-inner.result.now here c.ranges_from-left-in-loop-inner.ensures.same c.is_affected.result c.is_affected.ensures in
+    let clear = clear_chunk rules d (flat (spread gs)) (move start p) rest done run reached reps here (sym affected ∙ c.if-is_affected.false) in
+    let size = ap old_size kept.desc in
+    let inside = clear.inside in
+    omega (arith, size, inside)
+
+pub place_after-start-requires-clause-ascending : goal.place_after-start-requires-clause-ascending
+place_after-start-requires-clause-ascending g c =
+    let rules = g.T.RangeValue.rules in
+    let d = c.args.changes.now in
+    let gs = c.args.groups.now in
+    let ps = c.in-Some.placed.now.group.value.chunks.items in
+    let p = c.inner-item.result in
+    let same = c.deref-inner-items.ensures.value ∙ ap (λ (x : Group g.row.T.Denot). x.chunks.items) c.deref-then-is_opened.ensures in
+    let l : c.loop-inner.inner-index < length ps = subst (λ (xs : List (Placed g.row.T.Denot)). c.loop-inner.inner-index < length xs) same c.loop-inner-test.true in
+    let is : p ≡ get_or ps c.loop-inner.inner-index p = subst (λ (xs : List (Placed g.row.T.Denot)). p ≡ get_or xs c.loop-inner.inner-index p) same c.inner-item.is in
+    let start = c.in-Some.placed.now.start in
+    let j = c.loop-inner.inner-index in
+    let later = spread c.in-Some.others.now in
+    let rest = map (move start) (drop (j + 1) ps) ++ later in
+    let done = put_down c.loop-inner.builder in
+    let run = c.loop-inner.builder.run.items in
+    let reached = c.loop-inner.walk.walker.reached in
+    let reps = c.loop-inner.left.now in
+    let kept = c.loop-inner.invariant in
+    let here = at_inner rules d (flat (spread gs)) start ps j p later done run reached reps l is kept.walked in
+    let affected = affected_same rules d (flat (spread gs)) (move start p) rest done run reached reps c.ranges_from-left-in-loop-inner.result.now here c.ranges_from-left-in-loop-inner.ensures.same c.is_affected.result c.is_affected.ensures in
+    let clear = clear_chunk rules d (flat (spread gs)) (move start p) rest done run reached reps here (sym affected ∙ c.if-is_affected.false) in
+    clear.ascend
+
 pub place_after-start-requires-clause-clear : goal.place_after-start-requires-clause-clear
 place_after-start-requires-clause-clear g c =
     let rules = g.T.RangeValue.rules in
     let d = c.args.changes.now in
     let gs = c.args.groups.now in
-    let ps = c.placed-item.result.group.value.chunks.items in
+    let ps = c.in-Some.placed.now.group.value.chunks.items in
     let p = c.inner-item.result in
     let same = c.deref-inner-items.ensures.value ∙ ap (λ (x : Group g.row.T.Denot). x.chunks.items) c.deref-then-is_opened.ensures in
     let l : c.loop-inner.inner-index < length ps = subst (λ (xs : List (Placed g.row.T.Denot)). c.loop-inner.inner-index < length xs) same c.loop-inner-test.true in
     let is : p ≡ get_or ps c.loop-inner.inner-index p = subst (λ (xs : List (Placed g.row.T.Denot)). p ≡ get_or xs c.loop-inner.inner-index p) same c.inner-item.is in
-    let start = c.placed-item.result.start in
+    let start = c.in-Some.placed.now.start in
     let j = c.loop-inner.inner-index in
-    let later = spread (drop (c.loop-placed.placed-index + 1) gs) in
+    let later = spread c.in-Some.others.now in
     let rest = map (move start) (drop (j + 1) ps) ++ later in
     let done = put_down c.loop-inner.builder in
     let run = c.loop-inner.builder.run.items in
@@ -183,14 +236,14 @@ place_after-start-requires-clause-same g c = λ a b m.
     let rules = g.T.RangeValue.rules in
     let d = c.args.changes.now in
     let gs = c.args.groups.now in
-    let ps = c.placed-item.result.group.value.chunks.items in
+    let ps = c.in-Some.placed.now.group.value.chunks.items in
     let p = c.inner-item.result in
     let same = c.deref-inner-items.ensures.value ∙ ap (λ (x : Group g.row.T.Denot). x.chunks.items) c.deref-then-is_opened.ensures in
     let l : c.loop-inner.inner-index < length ps = subst (λ (xs : List (Placed g.row.T.Denot)). c.loop-inner.inner-index < length xs) same c.loop-inner-test.true in
     let is : p ≡ get_or ps c.loop-inner.inner-index p = subst (λ (xs : List (Placed g.row.T.Denot)). p ≡ get_or xs c.loop-inner.inner-index p) same c.inner-item.is in
-    let start = c.placed-item.result.start in
+    let start = c.in-Some.placed.now.start in
     let j = c.loop-inner.inner-index in
-    let later = spread (drop (c.loop-placed.placed-index + 1) gs) in
+    let later = spread c.in-Some.others.now in
     let rest = map (move start) (drop (j + 1) ps) ++ later in
     let done = put_down c.loop-inner.builder in
     let run = c.loop-inner.builder.run.items in
@@ -205,14 +258,14 @@ share_chunk-requires-clause-order g c =
     let rules = g.T.RangeValue.rules in
     let d = c.args.changes.now in
     let gs = c.args.groups.now in
-    let ps = c.placed-item.result.group.value.chunks.items in
+    let ps = c.in-Some.placed.now.group.value.chunks.items in
     let p = c.inner-item.result in
     let same = c.deref-inner-items.ensures.value ∙ ap (λ (x : Group g.row.T.Denot). x.chunks.items) c.deref-then-is_opened.ensures in
     let l : c.loop-inner.inner-index < length ps = subst (λ (xs : List (Placed g.row.T.Denot)). c.loop-inner.inner-index < length xs) same c.loop-inner-test.true in
     let is : p ≡ get_or ps c.loop-inner.inner-index p = subst (λ (xs : List (Placed g.row.T.Denot)). p ≡ get_or xs c.loop-inner.inner-index p) same c.inner-item.is in
-    let start = c.placed-item.result.start in
+    let start = c.in-Some.placed.now.start in
     let j = c.loop-inner.inner-index in
-    let later = spread (drop (c.loop-placed.placed-index + 1) gs) in
+    let later = spread c.in-Some.others.now in
     let rest = map (move start) (drop (j + 1) ps) ++ later in
     let done = put_down c.loop-inner.builder in
     let run = c.loop-inner.builder.run.items in
@@ -227,7 +280,7 @@ share_chunk-requires-clause-order g c =
 pub share_chunk-requires-clause-forward : goal.share_chunk-requires-clause-forward
 share_chunk-requires-clause-forward g c =
     let gs = c.args.groups.now in
-    let rest = map (move c.placed-item.result.start) (drop c.loop-inner.inner-index c.placed-item.result.group.value.chunks.items) ++ spread (drop (c.loop-placed.placed-index + 1) gs) in
+    let rest = map (move c.in-Some.placed.now.start) (drop c.loop-inner.inner-index c.in-Some.placed.now.group.value.chunks.items) ++ spread c.in-Some.others.now in
     run_forward g.T.RangeValue.rules c.args.changes.now (flat (spread gs)) (put_down c.loop-inner.builder) c.loop-inner.builder.run.items (flat rest) c.loop-inner.invariant.walked.under
 
 pub share_chunk-requires-clause-chunk : goal.share_chunk-requires-clause-chunk
@@ -235,14 +288,14 @@ share_chunk-requires-clause-chunk g c =
     let rules = g.T.RangeValue.rules in
     let d = c.args.changes.now in
     let gs = c.args.groups.now in
-    let ps = c.placed-item.result.group.value.chunks.items in
+    let ps = c.in-Some.placed.now.group.value.chunks.items in
     let p = c.inner-item.result in
     let same = c.deref-inner-items.ensures.value ∙ ap (λ (x : Group g.row.T.Denot). x.chunks.items) c.deref-then-is_opened.ensures in
     let l : c.loop-inner.inner-index < length ps = subst (λ (xs : List (Placed g.row.T.Denot)). c.loop-inner.inner-index < length xs) same c.loop-inner-test.true in
     let is : p ≡ get_or ps c.loop-inner.inner-index p = subst (λ (xs : List (Placed g.row.T.Denot)). p ≡ get_or xs c.loop-inner.inner-index p) same c.inner-item.is in
-    let base = c.placed-item.result.start in
+    let base = c.in-Some.placed.now.start in
     let j = c.loop-inner.inner-index in
-    let later = spread (drop (c.loop-placed.placed-index + 1) gs) in
+    let later = spread c.in-Some.others.now in
     let rest = map (move base) (drop (j + 1) ps) ++ later in
     let done = put_down c.loop-inner.builder in
     let run = c.loop-inner.builder.run.items in
@@ -272,14 +325,14 @@ loop-inner-preserved g c =
     let rules = g.T.RangeValue.rules in
     let d = c.args.changes.now in
     let gs = c.args.groups.now in
-    let ps = c.placed-item.result.group.value.chunks.items in
+    let ps = c.in-Some.placed.now.group.value.chunks.items in
     let p = c.inner-item.result in
     let same = c.deref-inner-items.ensures.value ∙ ap (λ (x : Group g.row.T.Denot). x.chunks.items) c.deref-then-is_opened.ensures in
     let l : c.loop-inner.inner-index < length ps = subst (λ (xs : List (Placed g.row.T.Denot)). c.loop-inner.inner-index < length xs) same c.loop-inner-test.true in
     let is : p ≡ get_or ps c.loop-inner.inner-index p = subst (λ (xs : List (Placed g.row.T.Denot)). p ≡ get_or xs c.loop-inner.inner-index p) same c.inner-item.is in
-    let base = c.placed-item.result.start in
+    let base = c.in-Some.placed.now.start in
     let j = c.loop-inner.inner-index in
-    let later = spread (drop (c.loop-placed.placed-index + 1) gs) in
+    let later = spread c.in-Some.others.now in
     let rest = map (move base) (drop (j + 1) ps) ++ later in
     let ranges = map (shift (p.start + base)) p.chunk.value.ranges.items in
     let done = put_down c.loop-inner.builder in
@@ -332,14 +385,14 @@ place_after-start-requires-else-is_opened-clause-inside g c =
     let d = c.args.changes.now in
     let gs = c.args.groups.now in
     let whole = flat (spread gs) in
-    let i = c.loop-placed.placed-index in
-    let p = c.placed-item.result in
-    let l = c.loop-placed-test.true in
-    let is = c.placed-item.is in
+    let p = c.in-Some.placed.now in
+    let others = c.in-Some.others.now in
     let done = put_down c.loop-placed.builder in
     let run = c.loop-placed.builder.run.items in
     let kept = c.loop-placed.invariant in
-    let clear = clear_group rules d whole gs i p done run c.loop-placed.walk.walker.reached c.loop-placed.left.now c.ranges_from-left.result.now l is c.requires.groups c.ranges_from-left.ensures.same kept.walked (c.is_opened.ensures c.if-is_opened.false) in
+    let groups = subst (AreGroups rules) c.in-Some.ensures.cases.0 kept.groups in
+    let walked = subst (λ hs. IsWalked rules d (flat (spread gs)) (spread hs) (put_down c.loop-placed.builder) c.loop-placed.builder.run.items c.loop-placed.walk.walker.reached c.loop-placed.left.now) c.in-Some.ensures.cases.0 kept.walked in
+    let clear = clear_group rules d whole p others done run c.loop-placed.walk.walker.reached c.loop-placed.left.now c.ranges_from-left.result.now groups c.ranges_from-left.ensures.same walked (c.is_opened.ensures c.if-is_opened.false) in
     let size = ap old_size kept.desc in
     let inside = clear.hull.inside in
     omega (arith, size, inside)
@@ -350,14 +403,14 @@ place_after-start-requires-else-is_opened-clause-ascending g c =
     let d = c.args.changes.now in
     let gs = c.args.groups.now in
     let whole = flat (spread gs) in
-    let i = c.loop-placed.placed-index in
-    let p = c.placed-item.result in
-    let l = c.loop-placed-test.true in
-    let is = c.placed-item.is in
+    let p = c.in-Some.placed.now in
+    let others = c.in-Some.others.now in
     let done = put_down c.loop-placed.builder in
     let run = c.loop-placed.builder.run.items in
     let kept = c.loop-placed.invariant in
-    let clear = clear_group rules d whole gs i p done run c.loop-placed.walk.walker.reached c.loop-placed.left.now c.ranges_from-left.result.now l is c.requires.groups c.ranges_from-left.ensures.same kept.walked (c.is_opened.ensures c.if-is_opened.false) in
+    let groups = subst (AreGroups rules) c.in-Some.ensures.cases.0 kept.groups in
+    let walked = subst (λ hs. IsWalked rules d (flat (spread gs)) (spread hs) (put_down c.loop-placed.builder) c.loop-placed.builder.run.items c.loop-placed.walk.walker.reached c.loop-placed.left.now) c.in-Some.ensures.cases.0 kept.walked in
+    let clear = clear_group rules d whole p others done run c.loop-placed.walk.walker.reached c.loop-placed.left.now c.ranges_from-left.result.now groups c.ranges_from-left.ensures.same walked (c.is_opened.ensures c.if-is_opened.false) in
     clear.ascend
 
 pub place_after-start-requires-else-is_opened-clause-clear : goal.place_after-start-requires-else-is_opened-clause-clear
@@ -366,14 +419,14 @@ place_after-start-requires-else-is_opened-clause-clear g c =
     let d = c.args.changes.now in
     let gs = c.args.groups.now in
     let whole = flat (spread gs) in
-    let i = c.loop-placed.placed-index in
-    let p = c.placed-item.result in
-    let l = c.loop-placed-test.true in
-    let is = c.placed-item.is in
+    let p = c.in-Some.placed.now in
+    let others = c.in-Some.others.now in
     let done = put_down c.loop-placed.builder in
     let run = c.loop-placed.builder.run.items in
     let kept = c.loop-placed.invariant in
-    let clear = clear_group rules d whole gs i p done run c.loop-placed.walk.walker.reached c.loop-placed.left.now c.ranges_from-left.result.now l is c.requires.groups c.ranges_from-left.ensures.same kept.walked (c.is_opened.ensures c.if-is_opened.false) in
+    let groups = subst (AreGroups rules) c.in-Some.ensures.cases.0 kept.groups in
+    let walked = subst (λ hs. IsWalked rules d (flat (spread gs)) (spread hs) (put_down c.loop-placed.builder) c.loop-placed.builder.run.items c.loop-placed.walk.walker.reached c.loop-placed.left.now) c.in-Some.ensures.cases.0 kept.walked in
+    let clear = clear_group rules d whole p others done run c.loop-placed.walk.walker.reached c.loop-placed.left.now c.ranges_from-left.result.now groups c.ranges_from-left.ensures.same walked (c.is_opened.ensures c.if-is_opened.false) in
     subst (λ (x : Sections). IsClear p.start p.start x) (sym kept.desc) clear.hull.clear
 
 pub place_after-start-requires-else-is_opened-clause-same : goal.place_after-start-requires-else-is_opened-clause-same
@@ -381,13 +434,13 @@ place_after-start-requires-else-is_opened-clause-same g c = λ a b m.
     let rules = g.T.RangeValue.rules in
     let d = c.args.changes.now in
     let gs = c.args.groups.now in
-    let i = c.loop-placed.placed-index in
-    let p = c.placed-item.result in
-    let l = c.loop-placed-test.true in
-    let is = c.placed-item.is in
+    let p = c.in-Some.placed.now in
+    let others = c.in-Some.others.now in
     let kept = c.loop-placed.invariant in
-    let begin = group-at rules gs i p l is c.requires.groups in
-    c.ranges_from-left.ensures.same a b m ∙ (kept.walked.same a b (starts_at rules d gs i p l is a begin.0 begin.1 m) ∙ ap (λ (x : Sections). list_any (meets a b) (replaced x)) (sym kept.desc))
+    let groups = subst (AreGroups rules) c.in-Some.ensures.cases.0 kept.groups in
+    let walked = subst (λ hs. IsWalked rules d (flat (spread gs)) (spread hs) (put_down c.loop-placed.builder) c.loop-placed.builder.run.items c.loop-placed.walk.walker.reached c.loop-placed.left.now) c.in-Some.ensures.cases.0 kept.walked in
+    let begin = groups.0 in
+    c.ranges_from-left.ensures.same a b m ∙ (walked.same a b (starts_at rules d p others a begin.0 begin.1 m) ∙ ap (λ (x : Sections). list_any (meets a b) (replaced x)) (sym kept.desc))
 
 pub share_group-requires-clause-order : goal.share_group-requires-clause-order
 share_group-requires-clause-order g c =
@@ -395,20 +448,20 @@ share_group-requires-clause-order g c =
     let d = c.args.changes.now in
     let gs = c.args.groups.now in
     let whole = flat (spread gs) in
-    let i = c.loop-placed.placed-index in
-    let p = c.placed-item.result in
-    let l = c.loop-placed-test.true in
-    let is = c.placed-item.is in
+    let p = c.in-Some.placed.now in
+    let others = c.in-Some.others.now in
     let done = put_down c.loop-placed.builder in
     let run = c.loop-placed.builder.run.items in
     let kept = c.loop-placed.invariant in
-    let clear = clear_group rules d whole gs i p done run c.loop-placed.walk.walker.reached c.loop-placed.left.now c.ranges_from-left.result.now l is c.requires.groups c.ranges_from-left.ensures.same kept.walked (c.is_opened.ensures c.if-is_opened.false) in
+    let groups = subst (AreGroups rules) c.in-Some.ensures.cases.0 kept.groups in
+    let walked = subst (λ hs. IsWalked rules d (flat (spread gs)) (spread hs) (put_down c.loop-placed.builder) c.loop-placed.builder.run.items c.loop-placed.walk.walker.reached c.loop-placed.left.now) c.in-Some.ensures.cases.0 kept.walked in
+    let clear = clear_group rules d whole p others done run c.loop-placed.walk.walker.reached c.loop-placed.left.now c.ranges_from-left.result.now groups c.ranges_from-left.ensures.same walked (c.is_opened.ensures c.if-is_opened.false) in
     clear.order
 
 pub share_group-requires-clause-forward : goal.share_group-requires-clause-forward
 share_group-requires-clause-forward g c =
     let gs = c.args.groups.now in
-    run_forward g.T.RangeValue.rules c.args.changes.now (flat (spread gs)) (put_down c.loop-placed.builder) c.loop-placed.builder.run.items (flat (spread (drop c.loop-placed.placed-index gs))) c.loop-placed.invariant.walked.under
+    run_forward g.T.RangeValue.rules c.args.changes.now (flat (spread gs)) (put_down c.loop-placed.builder) c.loop-placed.builder.run.items (flat (spread c.loop-placed.rest.now)) c.loop-placed.invariant.walked.under
 
 pub share_group-requires-clause-group : goal.share_group-requires-clause-group
 share_group-requires-clause-group g c =
@@ -416,24 +469,24 @@ share_group-requires-clause-group g c =
     let d = c.args.changes.now in
     let gs = c.args.groups.now in
     let whole = flat (spread gs) in
-    let i = c.loop-placed.placed-index in
-    let p = c.placed-item.result in
-    let l = c.loop-placed-test.true in
-    let is = c.placed-item.is in
+    let p = c.in-Some.placed.now in
+    let others = c.in-Some.others.now in
     let done = put_down c.loop-placed.builder in
     let run = c.loop-placed.builder.run.items in
     let kept = c.loop-placed.invariant in
-    let clear = clear_group rules d whole gs i p done run c.loop-placed.walk.walker.reached c.loop-placed.left.now c.ranges_from-left.result.now l is c.requires.groups c.ranges_from-left.ensures.same kept.walked (c.is_opened.ensures c.if-is_opened.false) in
+    let groups = subst (AreGroups rules) c.in-Some.ensures.cases.0 kept.groups in
+    let walked = subst (λ hs. IsWalked rules d (flat (spread gs)) (spread hs) (put_down c.loop-placed.builder) c.loop-placed.builder.run.items c.loop-placed.walk.walker.reached c.loop-placed.left.now) c.in-Some.ensures.cases.0 kept.walked in
+    let clear = clear_group rules d whole p others done run c.loop-placed.walk.walker.reached c.loop-placed.left.now c.ranges_from-left.result.now groups c.ranges_from-left.ensures.same walked (c.is_opened.ensures c.if-is_opened.false) in
     let start : c.place_after-start-else-is_opened.result ≡ clear_place d p.start =
     c.place_after-start-else-is_opened.ensures.value ∙ (ap (λ (x : Sections). place_after x p.start true) kept.desc ∙ ap (λ o. unwrap_or o 0) (map_pos-clear d p.start true Simple clear.hull.inside clear.hull.clear)) in
     let fits = clear.hull.fits in
     let bound = c.new_len-new_len.ensures in
     let size = c.new_len-new_len.type_inv in
-    group_placed rules p.start c.place_after-start-else-is_opened.result p.group.value (group-at rules gs i p l is c.requires.groups).0 (omega (arith, start, fits, bound, size))
+    group_placed rules p.start c.place_after-start-else-is_opened.result p.group.value groups.0.0 (omega (arith, start, fits, bound, size))
 
 pub share_group-requires-clause-some : goal.share_group-requires-clause-some
 share_group-requires-clause-some g c =
-    (group-at g.T.RangeValue.rules c.args.groups.now c.loop-placed.placed-index c.placed-item.result c.loop-placed-test.true c.placed-item.is c.requires.groups).1
+    (subst (AreGroups g.T.RangeValue.rules) c.in-Some.ensures.cases.0 c.loop-placed.invariant.groups).0.1
 
 pub share_group-requires-clause-room : goal.share_group-requires-clause-room
 share_group-requires-clause-room g c =
@@ -441,14 +494,14 @@ share_group-requires-clause-room g c =
     let d = c.args.changes.now in
     let gs = c.args.groups.now in
     let whole = flat (spread gs) in
-    let i = c.loop-placed.placed-index in
-    let p = c.placed-item.result in
-    let l = c.loop-placed-test.true in
-    let is = c.placed-item.is in
+    let p = c.in-Some.placed.now in
+    let others = c.in-Some.others.now in
     let done = put_down c.loop-placed.builder in
     let run = c.loop-placed.builder.run.items in
     let kept = c.loop-placed.invariant in
-    let clear = clear_group rules d whole gs i p done run c.loop-placed.walk.walker.reached c.loop-placed.left.now c.ranges_from-left.result.now l is c.requires.groups c.ranges_from-left.ensures.same kept.walked (c.is_opened.ensures c.if-is_opened.false) in
+    let groups = subst (AreGroups rules) c.in-Some.ensures.cases.0 kept.groups in
+    let walked = subst (λ hs. IsWalked rules d (flat (spread gs)) (spread hs) (put_down c.loop-placed.builder) c.loop-placed.builder.run.items c.loop-placed.walk.walker.reached c.loop-placed.left.now) c.in-Some.ensures.cases.0 kept.walked in
+    let clear = clear_group rules d whole p others done run c.loop-placed.walk.walker.reached c.loop-placed.left.now c.ranges_from-left.result.now groups c.ranges_from-left.ensures.same walked (c.is_opened.ensures c.if-is_opened.false) in
     let a = clear.room in
     let b = c.requires.room in
     omega (arith, a, b)
@@ -461,16 +514,35 @@ returns-in_err-share_group-clause-cost g c =
     let spent = c.loop-placed.invariant.cost in
     omega (arith, top, spent)
 
-pub loop-placed-preserved : goal.loop-placed-preserved
-loop-placed-preserved g c =
+pub loop-placed-preserved-in-loop-inner : goal.loop-placed-preserved-in-loop-inner
+loop-placed-preserved-in-loop-inner g c =
+    let rules = g.T.RangeValue.rules in
+    let d = c.args.changes.now in
+    let p = c.in-Some.placed.now in
+    let others = c.in-Some.others.now in
+    let ps = p.group.value.chunks.items in
+    let same = c.deref-inner-items.ensures.value ∙ ap (λ (x : Group g.row.T.Denot). x.chunks.items) c.deref-then-is_opened.ensures in
+    let end : length ps ≤ c.loop-inner.inner-index = subst (λ (xs : List (Placed g.row.T.Denot)). length xs ≤ c.loop-inner.inner-index) same c.loop-inner-test.false in
+    let rest = no_inner p.start ps c.loop-inner.inner-index (spread others) end in
+    let inner = c.loop-inner.invariant in
+    record {
+      builder = inner.builder;
+      groups = (subst (AreGroups rules) c.in-Some.ensures.cases.0 c.loop-placed.invariant.groups).1;
+      walked = subst (λ qs. IsWalked rules d (flat (spread c.args.groups.now)) qs (put_down c.loop-inner.builder) c.loop-inner.builder.run.items c.loop-inner.walk.walker.reached c.loop-inner.left.now) rest inner.walked;
+      desc = inner.desc;
+      clear = inner.clear;
+      begin = inner.begin;
+      cost = let a = inner.cost in let b = ap (allowance rules d) rest in omega (arith, a, b);
+    }
+
+pub share_carried-requires-clause-ascend : goal.share_carried-requires-clause-ascend
+share_carried-requires-clause-ascend g c =
     let rules = g.T.RangeValue.rules in
     let d = c.args.changes.now in
     let gs = c.args.groups.now in
     let whole = flat (spread gs) in
-    let i = c.loop-placed.placed-index in
-    let p = c.placed-item.result in
-    let l = c.loop-placed-test.true in
-    let is = c.placed-item.is in
+    let p = c.in-Some.placed.now in
+    let others = c.in-Some.others.now in
     let done = put_down c.loop-placed.builder in
     let run = c.loop-placed.builder.run.items in
     let reached = c.loop-placed.walk.walker.reached in
@@ -478,40 +550,136 @@ loop-placed-preserved g c =
     let after = c.ranges_from-left.result.now in
     let kept = c.loop-placed.invariant in
     let met = c.ranges_from-left.ensures.same in
-    let next = spread (drop (i + 1) gs) in
-    elim c.if-is_opened.branch [
-      | then-is_opened+in_ok-reserve+else-loop-inner-test w ↦
-          let ps = p.group.value.chunks.items in
-          let same = w.deref-inner-items.ensures.value ∙ ap (λ (x : Group g.row.T.Denot). x.chunks.items) w.deref-then-is_opened.ensures in
-          let end : length ps ≤ w.loop-inner.inner-index = subst (λ (xs : List (Placed g.row.T.Denot)). length xs ≤ w.loop-inner.inner-index) same w.loop-inner-test.false in
-          let rest = no_inner p.start ps w.loop-inner.inner-index next end in
-          let inner = w.loop-inner.invariant in
-          record {
-            builder = rw w.builder-is inner.builder;
-            walked = rw (w.builder-is, w.walk-is, w.left-is)
-                (subst (λ qs. IsWalked rules d whole qs (put_down w.loop-inner.builder) w.loop-inner.builder.run.items w.loop-inner.walk.walker.reached w.loop-inner.left.now) rest inner.walked);
-            desc = rw w.walk-is inner.desc;
-            clear = rw w.walk-is inner.clear;
-            begin = rw w.left-is inner.begin;
-            cost = rw w.mapped-is (let a = inner.cost in let b = ap (allowance rules d) rest in omega (arith, a, b));
-          }
-      | else-is_opened+in_ok-share_group w ↦
-          let clear = clear_group rules d whole gs i p done run reached reps after l is c.requires.groups met kept.walked (c.is_opened.ensures w.if-is_opened.false) in
-          let start : w.place_after-start-else-is_opened.result ≡ clear_place d p.start =
-          w.place_after-start-else-is_opened.ensures.value ∙ (ap (λ (x : Sections). place_after x p.start true) kept.desc ∙ ap (λ o. unwrap_or o 0) (map_pos-clear d p.start true Simple clear.hull.inside clear.hull.clear)) in
-          let more = w.in_ok-share_group.ensures.ranges ∙ ap (λ n. done ++ stable_sort (before rules) run ++ map (shift n) (flat p.group.value.chunks.items)) start in
-          let share = allowance_group rules d gs i p l is in
-          record {
-            builder = rw w.builder-is w.in_ok-share_group.ensures.builder;
-            walked = rw (w.builder-is, w.walk-is, w.left-is, w.in_ok-share_group.ensures.none)
-                (walked_less rules d whole next (put_down w.share_group.new.self) [] w.place_after-start-else-is_opened.new.self.walker.reached p.start after w.place_after-start-else-is_opened.ensures.reached
-                (walked_group rules d whole gs i p done run (put_down w.share_group.new.self) reached reps after l is c.requires.groups met kept.walked clear more));
-            desc = rw w.walk-is (w.place_after-start-else-is_opened.ensures.desc ∙ kept.desc);
-            clear = rw w.walk-is w.place_after-start-else-is_opened.ensures.walk;
-            begin = rw w.left-is c.ranges_from-left.ensures.order;
-            cost = rw w.mapped-is (let a = kept.cost in omega (arith, a, share));
-          }
-    ]
+    let groups = subst (AreGroups rules) c.in-Some.ensures.cases.0 kept.groups in
+    let walked = subst (λ hs. IsWalked rules d whole (spread hs) done run reached reps) c.in-Some.ensures.cases.0 kept.walked in
+    let clear = clear_group rules d whole p others done run reached reps after groups met walked (c.is_opened.ensures c.if-is_opened.false) in
+    let start : c.place_after-start-else-is_opened.result ≡ clear_place d p.start =
+    c.place_after-start-else-is_opened.ensures.value ∙ (ap (λ (x : Sections). place_after x p.start true) kept.desc ∙ ap (λ o. unwrap_or o 0) (map_pos-clear d p.start true Simple clear.hull.inside clear.hull.clear)) in
+    let put = put_down c.share_group.new.self in
+    let more = c.in_ok-share_group.ensures.ranges ∙ ap (λ n. done ++ stable_sort (before rules) run ++ map (shift n) (flat p.group.value.chunks.items)) start in
+    let next = walked_group rules d whole p others done run put reached reps after groups met walked clear more in
+    next.ascend
+
+pub share_carried-requires-clause-fits : goal.share_carried-requires-clause-fits
+share_carried-requires-clause-fits g c =
+    let rules = g.T.RangeValue.rules in
+    let d = c.args.changes.now in
+    let gs = c.args.groups.now in
+    let whole = flat (spread gs) in
+    let p = c.in-Some.placed.now in
+    let others = c.in-Some.others.now in
+    let done = put_down c.loop-placed.builder in
+    let run = c.loop-placed.builder.run.items in
+    let reached = c.loop-placed.walk.walker.reached in
+    let reps = c.loop-placed.left.now in
+    let after = c.ranges_from-left.result.now in
+    let kept = c.loop-placed.invariant in
+    let met = c.ranges_from-left.ensures.same in
+    let groups = subst (AreGroups rules) c.in-Some.ensures.cases.0 kept.groups in
+    let walked = subst (λ hs. IsWalked rules d whole (spread hs) done run reached reps) c.in-Some.ensures.cases.0 kept.walked in
+    let clear = clear_group rules d whole p others done run reached reps after groups met walked (c.is_opened.ensures c.if-is_opened.false) in
+    let start : c.place_after-start-else-is_opened.result ≡ clear_place d p.start =
+    c.place_after-start-else-is_opened.ensures.value ∙ (ap (λ (x : Sections). place_after x p.start true) kept.desc ∙ ap (λ o. unwrap_or o 0) (map_pos-clear d p.start true Simple clear.hull.inside clear.hull.clear)) in
+    let put = put_down c.share_group.new.self in
+    let more = c.in_ok-share_group.ensures.ranges ∙ ap (λ n. done ++ stable_sort (before rules) run ++ map (shift n) (flat p.group.value.chunks.items)) start in
+    let next = walked_group rules d whole p others done run put reached reps after groups met walked clear more in
+    let same : (b : ℕ) → list_any (meets p.start b) after ≡ list_any (meets p.start b) (replaced d) = λ b. met p.start b (omega arith) ∙ walked.same p.start b (starts_at rules d p others p.start groups.0.0 groups.0.1 (omega arith)) in
+    let bound = c.new_len-new_len.ensures in
+    let size = c.new_len-new_len.type_inv in
+    subst (λ n. AllCarried p.start n after others) (sym start) (carried_fit rules d p.start after others groups.1 next.ascend next.within same (omega (arith, bound, size)))
+
+pub share_carried-requires-clause-room : goal.share_carried-requires-clause-room
+share_carried-requires-clause-room g c =
+    let rules = g.T.RangeValue.rules in
+    let d = c.args.changes.now in
+    let gs = c.args.groups.now in
+    let whole = flat (spread gs) in
+    let p = c.in-Some.placed.now in
+    let others = c.in-Some.others.now in
+    let done = put_down c.loop-placed.builder in
+    let run = c.loop-placed.builder.run.items in
+    let reached = c.loop-placed.walk.walker.reached in
+    let reps = c.loop-placed.left.now in
+    let after = c.ranges_from-left.result.now in
+    let kept = c.loop-placed.invariant in
+    let met = c.ranges_from-left.ensures.same in
+    let groups = subst (AreGroups rules) c.in-Some.ensures.cases.0 kept.groups in
+    let walked = subst (λ hs. IsWalked rules d whole (spread hs) done run reached reps) c.in-Some.ensures.cases.0 kept.walked in
+    let clear = clear_group rules d whole p others done run reached reps after groups met walked (c.is_opened.ensures c.if-is_opened.false) in
+    let start : c.place_after-start-else-is_opened.result ≡ clear_place d p.start =
+    c.place_after-start-else-is_opened.ensures.value ∙ (ap (λ (x : Sections). place_after x p.start true) kept.desc ∙ ap (λ o. unwrap_or o 0) (map_pos-clear d p.start true Simple clear.hull.inside clear.hull.clear)) in
+    let put = put_down c.share_group.new.self in
+    let more = c.in_ok-share_group.ensures.ranges ∙ ap (λ n. done ++ stable_sort (before rules) run ++ map (shift n) (flat p.group.value.chunks.items)) start in
+    let next = walked_group rules d whole p others done run put reached reps after groups met walked clear more in
+    let n = length-append (flat (grouped c.share_group.new.self.groups)) (built c.share_group.new.self.chunks) in
+    let a = next.under.room in
+    let b = c.requires.room in
+    omega (arith, n, a, b)
+
+pub returns-in_err-rest-clause-cost : goal.returns-in_err-rest-clause-cost
+returns-in_err-rest-clause-cost g c =
+    let rules = g.T.RangeValue.rules in
+    let gs = c.args.groups.now in
+    let top = allowed rules c.args.changes.now 0 (spread gs) (are_spread rules gs c.requires.groups) (rises_ascend rules (flat (spread gs)) (rises-no_fault rules (flat (spread gs)) c.requires.order)) in
+    let spent = c.loop-placed.invariant.cost in
+    omega (arith, top, spent)
+
+pub loop-placed-preserved : goal.loop-placed-preserved
+loop-placed-preserved g c =
+    let rules = g.T.RangeValue.rules in
+    let d = c.args.changes.now in
+    let gs = c.args.groups.now in
+    let whole = flat (spread gs) in
+    let p = c.in-Some.placed.now in
+    let others = c.in-Some.others.now in
+    let done = put_down c.loop-placed.builder in
+    let run = c.loop-placed.builder.run.items in
+    let reached = c.loop-placed.walk.walker.reached in
+    let reps = c.loop-placed.left.now in
+    let after = c.ranges_from-left.result.now in
+    let kept = c.loop-placed.invariant in
+    let met = c.ranges_from-left.ensures.same in
+    let groups = subst (AreGroups rules) c.in-Some.ensures.cases.0 kept.groups in
+    let walked = subst (λ hs. IsWalked rules d whole (spread hs) done run reached reps) c.in-Some.ensures.cases.0 kept.walked in
+    let clear = clear_group rules d whole p others done run reached reps after groups met walked (c.is_opened.ensures c.if-is_opened.false) in
+    let start : c.place_after-start-else-is_opened.result ≡ clear_place d p.start =
+    c.place_after-start-else-is_opened.ensures.value ∙ (ap (λ (x : Sections). place_after x p.start true) kept.desc ∙ ap (λ o. unwrap_or o 0) (map_pos-clear d p.start true Simple clear.hull.inside clear.hull.clear)) in
+    let put = put_down c.share_group.new.self in
+    let more = c.in_ok-share_group.ensures.ranges ∙ ap (λ n. done ++ stable_sort (before rules) run ++ map (shift n) (flat p.group.value.chunks.items)) start in
+    let next = walked_group rules d whole p others done run put reached reps after groups met walked clear more in
+    let same : (b : ℕ) → list_any (meets p.start b) after ≡ list_any (meets p.start b) (replaced d) = λ b. met p.start b (omega arith) ∙ walked.same p.start b (starts_at rules d p others p.start groups.0.0 groups.0.1 (omega arith)) in
+    let shared = c.in_ok-rest.ensures.shared in
+    let rest = c.in_ok-rest.rest.now in
+    let taken = shared.taken in
+    let walk = c.place_after-start-else-is_opened.new.self.walker.reached in
+    let old = flat (grouped c.share_group.new.self.groups) in
+    let new = flat (grouped c.share_carried.new.self) in
+    let chunks = built c.share_group.new.self.chunks in
+    let ended = c.in_ok-share_group.ensures.ended in
+    let carried = flat (spread (map (carry p.start (clear_place d p.start)) taken)) in
+    let is : new ++ chunks ≡ put ++ carried =
+    ap (λ rs. new ++ rs) ended
+    ∙ (append-nil new
+    ∙ (shared.ranges
+    ∙ (ap (λ n. old ++ flat (spread (map (carry p.start n) taken))) start
+    ∙ ap (λ rs. rs ++ carried) (sym (ap (λ rs. old ++ rs) ended ∙ append-nil old))))) in
+    let cost = kept.cost in
+    let at = ap (λ hs. allowance rules d (spread hs)) c.in-Some.ensures.cases.0 in
+    let share = allowance_group rules d p others in
+    let parts = ap (λ hs. allowance rules d (spread hs)) shared.is in
+    let passed = allowance_passed rules d taken rest in
+    record {
+      builder = record { groups = c.in_ok-rest.ensures.builder; chunks = c.in_ok-share_group.ensures.builder.chunks };
+      groups = groups_right rules taken rest (subst (AreGroups rules) shared.is groups.1);
+      walked = subst (λ rs. IsWalked rules d whole (spread rest) (new ++ chunks) rs walk after) (sym c.in_ok-share_group.ensures.none)
+          (walked_carried rules d whole p.start taken rest put (new ++ chunks) walk after (subst (AreGroups rules) shared.is groups.1) c.place_after-start-else-is_opened.ensures.reached
+          (subst (λ hs. IsWalked rules d whole (spread hs) put [] walk after) shared.is (walked_less rules d whole (spread others) put [] walk p.start after c.place_after-start-else-is_opened.ensures.reached next))
+          (subst (λ hs. Ascend p.start (flat (spread hs))) shared.is next.ascend) same shared.apart is);
+      desc = c.place_after-start-else-is_opened.ensures.desc ∙ kept.desc;
+      clear = c.place_after-start-else-is_opened.ensures.walk;
+      begin = c.ranges_from-left.ensures.order;
+      cost = omega (arith, cost, at, share, parts, passed);
+    }
 
 pub finish-requires-clause-order : goal.finish-requires-clause-order
 finish-requires-clause-order g c =
@@ -519,13 +687,13 @@ finish-requires-clause-order g c =
     let gs = c.args.groups.now in
     let done = put_down c.loop-placed.builder in
     let run = c.loop-placed.builder.run.items in
-    let under = at_last rules c.args.changes.now (flat (spread gs)) gs c.loop-placed.placed-index done run c.loop-placed.walk.walker.reached c.loop-placed.left.now c.loop-placed-test.false c.loop-placed.invariant.walked in
+    let under = subst (λ hs. IsUnder rules c.args.changes.now (flat (spread gs)) done run (flat (spread hs))) (nil_from_length c.loop-placed.rest.now c.in_default.ensures.cases) c.loop-placed.invariant.walked.under in
     under_end_order rules c.args.changes.now (flat (spread gs)) done run under
 
 pub finish-requires-clause-forward : goal.finish-requires-clause-forward
 finish-requires-clause-forward g c =
     let gs = c.args.groups.now in
-    run_forward g.T.RangeValue.rules c.args.changes.now (flat (spread gs)) (put_down c.loop-placed.builder) c.loop-placed.builder.run.items (flat (spread (drop c.loop-placed.placed-index gs))) c.loop-placed.invariant.walked.under
+    run_forward g.T.RangeValue.rules c.args.changes.now (flat (spread gs)) (put_down c.loop-placed.builder) c.loop-placed.builder.run.items (flat (spread c.loop-placed.rest.now)) c.loop-placed.invariant.walked.under
 
 pub finish-requires-clause-room : goal.finish-requires-clause-room
 finish-requires-clause-room g c =
@@ -540,7 +708,7 @@ returns-clause-ranges g c =
     let gs = c.args.groups.now in
     let done = put_down c.loop-placed.builder in
     let run = c.loop-placed.builder.run.items in
-    let under = at_last rules d (flat (spread gs)) gs c.loop-placed.placed-index done run c.loop-placed.walk.walker.reached c.loop-placed.left.now c.loop-placed-test.false c.loop-placed.invariant.walked in
+    let under = subst (λ hs. IsUnder rules d (flat (spread gs)) done run (flat (spread hs))) (nil_from_length c.loop-placed.rest.now c.in_default.ensures.cases) c.loop-placed.invariant.walked.under in
     let sorted = sym (under_end rules d (flat (spread gs)) done run under) in
     IfOk-weaker c.finish.result (λ made. flat (spread made.0) ≡ done ++ stable_sort (before rules) run) (λ made. flat (spread made.0) ≡ map_ranges rules d (flat (spread gs))) (λ made e. e ∙ sorted) c.finish.ensures.ranges
 

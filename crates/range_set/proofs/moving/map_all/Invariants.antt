@@ -1,6 +1,6 @@
-use Rattle.std.proofs.Common.{◌≡◌, ◌+◌, ◌≤◌, ◌++◌, drop, map}
+use Rattle.std.proofs.Common.{◌≡◌, ◌+◌, ◌≤◌, ◌++◌, drop, length, map}
 use Rattle.change_desc.specs.Meeting.{BeginAfter}
-use Rattle.range_set.specs.PrivateChunks.{IsMappedBuilder, flat, move, put_down, spread}
+use Rattle.range_set.specs.PrivateChunks.{AreGroups, IsMappedBuilder, flat, move, put_down, spread}
 use Rattle.range_set.specs.PrivateMoving.{IsClearWalk}
 use Rattle.range_set.proofs.Cost.{allowance}
 use Rattle.range_set.proofs.Walked.{IsWalked}
@@ -11,17 +11,18 @@ invariant-loop-placed g l =
     let rules = g.T.RangeValue.rules in
     record {
       builder : IsMappedBuilder rules l.builder;
-      walked : IsWalked rules l.changes (flat (spread l.groups)) (spread (drop l.placed-index l.groups)) (put_down l.builder) l.builder.run.items l.walk.walker.reached l.left;
+      groups : AreGroups rules l.rest;
+      walked : IsWalked rules l.changes (flat (spread l.groups)) (spread l.rest) (put_down l.builder) l.builder.run.items l.walk.walker.reached l.left;
       desc : l.walk.walker.desc ≡ l.changes;
       clear : IsClearWalk l.walk;
       begin : BeginAfter 0 l.left;
-      cost : l.mapped + allowance rules l.changes (spread (drop l.placed-index l.groups)) ≤ l.initial.mapped + allowance rules l.changes (spread l.groups);
+      cost : l.mapped + allowance rules l.changes (spread l.rest) ≤ l.fn.mapped + allowance rules l.changes (spread l.groups);
     }
 
 abbrev pub invariant-loop-inner : goal.invariant-loop-inner
 invariant-loop-inner g l =
     let rules = g.T.RangeValue.rules in
-    let rest = map (move l.placed.start) (drop l.inner-index l.placed.group.value.chunks.items) ++ spread (drop (l.placed-index + 1) l.groups) in
+    let rest = map (move l.placed.start) (drop l.inner-index l.placed.group.value.chunks.items) ++ spread l.rest in
     record {
       builder : IsMappedBuilder rules l.builder;
       walked : IsWalked rules l.changes (flat (spread l.groups)) rest (put_down l.builder) l.builder.run.items l.walk.walker.reached l.left;
@@ -30,3 +31,6 @@ invariant-loop-inner g l =
       begin : BeginAfter 0 l.left;
       cost : l.mapped + allowance rules l.changes rest ≤ l.fn.mapped + allowance rules l.changes (spread l.groups);
     }
+
+abbrev pub decreases-loop-placed : goal.decreases-loop-placed
+decreases-loop-placed g l = length l.rest

@@ -2,8 +2,11 @@ use Rattle.std.proofs.Common.{◌++◌, ◌∷◌, [], length, ap, subst, sym, �
 use Rattle.std.proofs.lemmas.List.{append-nil}
 use Rattle.range_set.specs.Order.{AllForward}
 use Rattle.range_set.specs.PrivateChunks.{Ascend, built}
-use Rattle.range_set.proofs.Chunks.{begin_by-next, not_less}
+use Rattle.range_set.proofs.Chunks.{ascend-rest, begin_by-next, not_less}
 use Rattle.range_set.proofs.sorting.put_all.Goals as goal
+
+pub put_whole-requires-clause-order : goal.put_whole-requires-clause-order
+put_whole-requires-clause-order g c = subst (Ascend 0) (sym c.shrink_to_fit.ensures.items) (ascend-rest 0 (built c.args.builder.now) c.args.ranges.items c.requires.order)
 
 pub push-requires : goal.push-requires
 push-requires g c =

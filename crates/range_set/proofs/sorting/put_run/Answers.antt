@@ -2,23 +2,8 @@ use Rattle.std.proofs.Common.{◌++◌, ap, subst, sym, ◌∙◌}
 use Rattle.stable_order.specs.StableSort.{stable_sort}
 use Rattle.range_set.specs.Order.{AllForward, before}
 use Rattle.range_set.specs.PrivateChunks.{Ascend, built}
-use Rattle.range_set.proofs.Chunks.{ascend-rest}
 use Rattle.range_set.proofs.RangeOrder.{forward_sort}
 use Rattle.range_set.proofs.sorting.put_run.Goals as goal
-
-pub put_whole-requires-clause-order : goal.put_whole-requires-clause-order
-put_whole-requires-clause-order g c =
-    let order = before g.T.RangeValue.rules in
-    let same = ap (λ v. v.items) c.replace-ranges.ensures.value in
-    let sorted = c.in_ok-sort.ensures ∙ ap (stable_sort order) same in
-    subst (Ascend 0) (sym sorted) (ascend-rest 0 (built c.args.builder.now) (stable_sort order c.args.run.now.items) c.requires.order)
-
-pub put_whole-requires-clause-forward : goal.put_whole-requires-clause-forward
-put_whole-requires-clause-forward g c =
-    let order = before g.T.RangeValue.rules in
-    let same = ap (λ v. v.items) c.replace-ranges.ensures.value in
-    let sorted = c.in_ok-sort.ensures ∙ ap (stable_sort order) same in
-    subst AllForward (sym sorted) (forward_sort g.T.RangeValue.rules c.args.run.now.items c.requires.forward)
 
 pub put_all-requires : goal.put_all-requires
 put_all-requires g c =

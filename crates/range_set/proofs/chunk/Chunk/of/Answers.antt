@@ -1,11 +1,12 @@
 use Rattle.std.proofs.Common.{◌≡◌, ◌-◌, ◌≤◌, ◌<◌, ◌||◌, max, List, length, get_or, map, take, ap, sym, subst, ◌∙◌, arith}
 use Rattle.std.proofs.lemmas.List.{take_all, take_at}
+use Rattle.std.proofs.lemmas.List.Folds.{list_any_more}
 use Rattle.std.specs.List.{list_any}
 use Rattle.range_set.specs.Mapping.{is_turned}
 use Rattle.range_set.specs.Points.{stands}
 use Rattle.range_set.specs.PrivateChunks.{greatest_end, shift}
 use Rattle.range_set.proofs.Chunks.{counted_from, or_first, or_second}
-use Rattle.range_set.proofs.Whole.{any_more, ascend_at, counted_back, forward_item, item_at, reach_more, whole_chunk, written, written-all}
+use Rattle.range_set.proofs.Whole.{ascend_at, counted_back, forward_at_item, item_at, reach_more, whole_chunk, written, written-all}
 use Rattle.range_set.proofs.chunk.Chunk.of.Goals as goal
 use Rattle.range_set.proofs.chunk.Chunk.of.Goals.{then-is_turned, else-is_turned, then-has_point, else-has_point}
 
@@ -29,7 +30,7 @@ overflow_sub-range-in-loop-range g c =
     let is = item_at (counted_from g.T.RangeValue.rules c.args.start) c.loop-range.range-items olds i x c.loop-range.invariant.items lt in
     let to = ap (λ r. r.to) is in
     let k = ascend_at c.args.start olds i x lt c.requires.order in
-    let l = forward_item olds i x lt c.requires.forward in
+    let l = forward_at_item olds i x lt c.requires.forward in
     omega (arith, to, k, l)
 
 pub loop-range-preserved : goal.loop-range-preserved
@@ -59,13 +60,13 @@ loop-range-preserved g c =
           let k = at.fits in
           let to = ap (λ r. r.to) is in
           let l = ascend_at start olds i x lt c.requires.order in
-          let n = forward_item olds i x lt c.requires.forward in
+          let n = forward_at_item olds i x lt c.requires.forward in
           let o = ap (λ r. r.to) c.range-item.is in
           omega (arith, most, k, to, l, n, o);
       turned = turned ∙ (ap (λ b. b || is_turned rules (get_or c.loop-range.range-items i x)) at.turned
-          ∙ (ap (λ r. list_any (is_turned rules) (take i olds) || is_turned rules r) is ∙ sym (any_more (is_turned rules) olds i x lt)));
+          ∙ (ap (λ r. list_any (is_turned rules) (take i olds) || is_turned rules r) is ∙ sym (list_any_more (is_turned rules) olds i x lt)));
       points = points ∙ (ap (λ b. b || stands rules (get_or c.loop-range.range-items i x)) at.points
-          ∙ (ap (λ r. list_any (stands rules) (take i olds) || stands rules r) is ∙ sym (any_more (stands rules) olds i x lt)));
+          ∙ (ap (λ r. list_any (stands rules) (take i olds) || stands rules r) is ∙ sym (list_any_more (stands rules) olds i x lt)));
     }
 
 pub returns-clause-chunk : goal.returns-clause-chunk

@@ -9,7 +9,7 @@ pub put_whole-requires-clause-order : goal.put_whole-requires-clause-order
 put_whole-requires-clause-order g c =
     let old = grouped c.args.self.now in
     let chunks = c.args.chunks.items in
-    ascend-rest 0 (flat old) (flat chunks) (subst (Ascend 0) (flat-append old chunks) c.requires.order)
+    subst (λ ps. Ascend 0 (flat ps)) (sym c.shrink_to_fit.ensures.items) (ascend-rest 0 (flat old) (flat chunks) (subst (Ascend 0) (flat-append old chunks) c.requires.order))
 
 pub push-requires : goal.push-requires
 push-requires g c =

@@ -1,16 +1,17 @@
 use Rattle.std.proofs.Common.{◌++◌, ◌≤◌, map, length, sym, ap, subst, ◌∙◌, arith}
-use Rattle.std.proofs.lemmas.List.{length-append}
-use Rattle.range_set.specs.PrivateChunks.{IsGroup, flat, grouped, move}
+use Rattle.std.proofs.lemmas.List.{append-nil, length-append}
+use Rattle.range_set.specs.PrivateChunks.{IsGroup, flat, grouped, move, spread}
 use Rattle.range_set.specs.declared.group.Group.{Group}
 use Rattle.range_set.proofs.Chunks.{flat-append}
 use Rattle.range_set.proofs.Groups.{AreGroups-push, length_moved, share_grouped}
-use Rattle.range_set.proofs.group_builder.GroupBuilder.share.Goals as goal
+use Rattle.range_set.proofs.group_builder.GroupBuilder.put_shared.Goals as goal
 
 shared_chunks : goal.returns-clause-ranges
 shared_chunks g c =
     let old = c.args.self.now in
-    share_grouped g.T.RangeValue.rules old.done.items c.seal.new.done.items c.push.new.self.items old.start old.start old.growing.chunks.items c.seal.new.growing.chunks.items _
-    c.in_ok-seal.ensures.ranges c.in_ok-seal.ensures.empty c.in_ok-push.ensures.items
+    let done = spread old.done.items in
+    let none = sym (ap (λ ps. done ++ map (move old.start) ps) c.requires.growing ∙ append-nil done) in
+    share_grouped g.T.RangeValue.rules old.done.items old.done.items c.push.new.self.items old.start old.start old.growing.chunks.items old.growing.chunks.items _ none c.requires.growing c.in_ok-push.ensures.items
     ∙ ap (λ (x : Group g.row.T.Denot). grouped old ++ map (move c.args.start) x.chunks.items) c.in_ok-clone.ensures.cases
 
 pub returns-clause-ranges : goal.returns-clause-ranges
@@ -22,9 +23,9 @@ returns-clause-builder g c =
     let e = c.in_ok-clone.ensures.cases in
     let more = map (move c.args.start) c.args.group.now.value.chunks.items in
     record {
-      groups = rw c.in_ok-push.ensures.items (AreGroups-push rules c.seal.new.done.items _ c.in_ok-seal.ensures.groups
+      groups = rw c.in_ok-push.ensures.items (AreGroups-push rules c.args.self.now.done.items _ c.requires.builder.groups
           (subst (IsGroup rules c.args.start) (sym e) c.requires.group) (subst (λ (x : Group g.row.T.Denot). 1 ≤ length (flat x.chunks.items)) (sym e) c.requires.some));
-      growing = c.in_ok-seal.ensures.opened;
+      growing = c.requires.builder.growing;
       len =
           let n = ap (λ ps. length (flat ps)) (shared_chunks g c) in
           let m = ap length (flat-append (grouped c.args.self.now) more) ∙ length-append (flat (grouped c.args.self.now)) (flat more) in
