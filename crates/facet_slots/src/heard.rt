@@ -1,5 +1,5 @@
 // A transaction as a field is shown it.
-ghost use Rattle.std.specs.Prelude.{◌≡◌, ◌++◌, IfOk, eqb, filter};
+ghost use Rattle.std.specs.Prelude.{◌≡◌, IfOk, eqb, filter};
 ghost use Rattle.std.specs.List.{list_any};
 ghost use Rattle.values.specs.declared.shown_effect.ShownEffect.{ShownEffect as Effect};
 ghost use Rattle.facet_slots.specs.Found.{scene_of};
@@ -44,7 +44,7 @@ fn effects_heard(
 }
 
 /// A document with its selection once more. The text is shared. `Err`: out of memory.
-pub fn scene_again(document: &Text, selection: &Selection) -> Result<Scene, AllocError>
+fn scene_again(document: &Text, selection: &Selection) -> Result<Scene, AllocError>
     ensures document { IfOk result (λ scene. scene.document.characters ≡ document.now.characters) }
     ensures selection { IfOk result (λ scene. scene.selection ≡ selection.now) }
 {

@@ -99,9 +99,9 @@ fn mapped_points(
     }
 }
 
-/// The same of 1,000 points in a text of 20,000 characters.
-fn thousand(alloc: Global, most: u32, at: u32) -> Result<Option<bool>, Fail> {
-    let set = points(alloc, 1000, most)?;
+/// The same in a text of 20,000 characters.
+fn mapped_in_text(alloc: Global, count: u32, most: u32, at: u32) -> Result<Option<bool>, Fail> {
+    let set = points(alloc, count, most)?;
     let rest = 20_000u32.wrapping_sub(at);
     let changes = described(
         alloc,
@@ -111,15 +111,18 @@ fn thousand(alloc: Global, most: u32, at: u32) -> Result<Option<bool>, Fail> {
             Section::Keep(rest),
         ],
     )?;
-    Ok(mapped_points(&set, &changes, at, 1000, most))
+    Ok(mapped_points(&set, &changes, at, count, most))
 }
 
 #[test]
 fn chunks_that_no_change_meets_are_shared(rt: HostRuntime) -> Result<(), Fail> {
-    assert!(rt; thousand(rt.alloc(), 0, 15_000)? == Some(true));
-    assert!(rt; thousand(rt.alloc(), 0, 5)? == Some(true));
-    assert!(rt; thousand(rt.alloc(), 32, 165)? == Some(true));
-    assert!(rt; thousand(rt.alloc(), 31, 165)? == None);
+    assert!(rt; mapped_in_text(rt.alloc(), 1000, 0, 15_000)? == Some(true));
+    assert!(rt; mapped_in_text(rt.alloc(), 1000, 0, 5)? == Some(true));
+    assert!(rt; mapped_in_text(rt.alloc(), 1000, 32, 165)? == Some(true));
+    assert!(rt; mapped_in_text(rt.alloc(), 1000, 31, 165)? == None);
+    // 64 points stand in two chunks
+    assert!(rt; mapped_in_text(rt.alloc(), 64, 32, 15)? == Some(true));
+    assert!(rt; mapped_in_text(rt.alloc(), 64, 31, 15)? == None);
     Ok(())
 }
 

@@ -2,6 +2,8 @@
 use Rattle.std.specs.Prelude.{ℕ, Bool, List}
 use Rattle.change_desc.specs.declared.section.Section.{Section}
 use Rattle.values.specs.declared.scene.Scene.{Scene}
+use Rattle.values.specs.declared.shown_effect.ShownEffect.{ShownEffect}
+use Rattle.values.specs.declared.tr_core.TrCore.{TrCore}
 use Rattle.values.specs.declared.tr_notes.TrNotes.{TrNotes}
 use Rattle.values.specs.Views.{TransactionView}
 
@@ -19,3 +21,7 @@ shown changes start end given notes =
       inverted = notes.inverted;
       annotations = notes.annotations;
     }
+
+-- What a view shows: its core and its effects.
+abbrev pub viewed : TrCore → List ShownEffect → TransactionView
+viewed core effects = shown core.changes core.start core.end core.is_given (record { effects = effects; inverted = core.inverted; annotations = core.annotations })

@@ -19,8 +19,8 @@ use transaction::Annotation;
 
 /// What a rule is shown of a transaction (Reference Manual, Transaction). Contracts see documents as their characters. Neither
 /// document has more than 16,777,216 characters, the changes lead from the start document to the new one, each selection is one
-/// in normal form that lies in its document, and the numbers of effects and annotations lie in the ranges of their types. A
-/// view that `with_effects` makes of another one shares all but the effects with it.
+/// in normal form that lies in its document, and the numbers of effects and annotations lie in the ranges of their types.
+/// `with_effects` makes a view that shares everything else with the one that it was made of.
 #[derive(Drop)]
 pub struct TrView {
     core: Rc<TrCore>,
@@ -31,15 +31,15 @@ impl Model for TrView {
     ghost use Rattle.std.specs.Coded.{codes};
     ghost use Rattle.cm_plain.specs.Datum.{coded_datum};
     ghost use Rattle.values.specs.Views.{IsTransaction, TransactionView};
-    ghost use Rattle.values.specs.Transactions.{shown};
+    ghost use Rattle.values.specs.Transactions.{viewed};
 
     ghost Value = { TransactionView };
 
     ghost coded = { Prim.hlevel (codes, coded_datum) };
 
-    ghost view = { λ t. shown t.core.value.changes t.core.value.start t.core.value.end t.core.value.is_given (record { effects = t.effects; inverted = t.core.value.inverted; annotations = t.core.value.annotations }) };
+    ghost view = { λ t. viewed t.core.value t.effects };
 
-    ghost invariant = { λ t. IsTransaction (shown t.core.value.changes t.core.value.start t.core.value.end t.core.value.is_given (record { effects = t.effects; inverted = t.core.value.inverted; annotations = t.core.value.annotations })) };
+    ghost invariant = { λ t. IsTransaction (viewed t.core.value t.effects) };
 }
 
 impl TrView {

@@ -82,14 +82,14 @@ fn with_selection(alloc: Global) -> Result<bool, Fail> {
 
 /// Whether the same transaction with no effects has all else, and the first view its effect still.
 fn with_no_effects(alloc: Global) -> Result<bool, Fail> {
-    let note = Note::Of("time", Made::Int(5));
-    let view = shown(alloc, TYPED, Of(&[Made::Int(7)]), note)?;
+    let view = given(alloc, TYPED, 3, Of(&[Made::Int(7)]), Note::Undoes(8))?;
     let other = view.with_effects(Listed::empty(alloc))?;
     Ok(
-        is_typed(&other, 0)
-            && !other.is_given()
+        is_typed(&other, 3)
+            && other.is_given()
             && other.effects().is_empty()
-            && has_time(&other, 5)
+            && has_kept(&other, 8)
+            && other.annotations().is_empty()
             && has_effect(&view, 7),
     )
 }
