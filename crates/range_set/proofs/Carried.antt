@@ -1,12 +1,14 @@
--- Groups that are shared one after another, each as far on as a place goes.
+-- Groups and chunks that are shared one after another, each as far on as a place goes.
 use Rattle.std.proofs.Common.{◌≡◌, ℕ, ◌+◌, ◌-◌, ◌≤◌, false, List, [], ◌∷◌, ◌++◌, length, map, refl, sym, ap, subst, ◌∙◌, arith, append_assoc}
 use Rattle.std.proofs.lemmas.List.{map-append}
 use Rattle.std.specs.List.{list_any}
 use Rattle.change_desc.specs.Ranges.{meets}
 use Rattle.change_desc.specs.declared.changed_range.ChangedRange.{ChangedRange}
-use Rattle.range_set.specs.PrivateChunks.{AllApart, AreShared, carry, flat, shift, spread}
+use Rattle.range_set.specs.PrivateChunks.{AllApart, AllChunksApart, AreChunksShared, AreShared, carry, carry_chunk, flat, shift, spread}
 use Rattle.range_set.specs.declared.ranged.Ranged.{Ranged}
+use Rattle.range_set.specs.declared.chunk.Placed.{Placed}
 use Rattle.range_set.specs.declared.group.PlacedGroup.{PlacedGroup}
+use Rattle.range_set.proofs.Chunks.{flat-push}
 use Rattle.range_set.proofs.Groups.{flat-spread_push}
 
 module _ {T : Type 0} where
@@ -28,4 +30,24 @@ module _ {T : Type 0} where
             ∙ (append_assoc old before more
             ∙ (ap (λ rs. old ++ rs) (sym (flat-spread_push (map (carry from to) h.taken) (carry from to g)))
             ∙ ap (λ qs. old ++ flat (spread qs)) (sym (map-append (carry from to) h.taken (g ∷ []))))));
+      }
+
+  chunks_apart_more : (from : ℕ) (changed : List ChangedRange) (ps : List (Placed T)) (p : Placed T) → AllChunksApart from changed ps → p.chunk.value.is_turned ≡ false → list_any (meets from (p.start + p.chunk.value.reach)) changed ≡ false
+      → AllChunksApart from changed (ps ++ p ∷ [])
+  chunks_apart_more from changed [] p h t m = ((t, m), tt)
+  chunks_apart_more from changed (q ∷ ps) p h t m = (h.0, chunks_apart_more from changed ps p h.1 t m)
+
+  pub chunks_shared_more : (from to : ℕ) (changed : List ChangedRange) (ps : List (Placed T)) (p : Placed T) (others : List (Placed T)) (old mid new : List (Ranged T)) → AreChunksShared from to changed ps (p ∷ others) old mid
+      → p.chunk.value.is_turned ≡ false → list_any (meets from (p.start + p.chunk.value.reach)) changed ≡ false → new ≡ mid ++ map (shift (p.start - from + to)) p.chunk.value.ranges.items → AreChunksShared from to changed ps others old new
+  chunks_shared_more from to changed ps p others old mid new h t m e =
+      let more = map (shift (p.start - from + to)) p.chunk.value.ranges.items in
+      let before = flat (map (carry_chunk from to) h.taken) in
+      record {
+        taken = h.taken ++ p ∷ [];
+        is = h.is ∙ sym (append_assoc h.taken (p ∷ []) others);
+        apart = chunks_apart_more from changed h.taken p h.apart t m;
+        ranges = e ∙ (ap (λ rs. rs ++ more) h.ranges
+            ∙ (append_assoc old before more
+            ∙ (ap (λ rs. old ++ rs) (sym (flat-push (map (carry_chunk from to) h.taken) (carry_chunk from to p)))
+            ∙ ap (λ qs. old ++ flat qs) (sym (map-append (carry_chunk from to) h.taken (p ∷ []))))));
       }

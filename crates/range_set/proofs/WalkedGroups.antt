@@ -8,7 +8,7 @@ use Rattle.change_desc.specs.declared.changed_range.ChangedRange.{ChangedRange}
 use Rattle.stable_order.specs.StableSort.{stable_sort}
 use Rattle.range_set.specs.Rules.{RangeRules}
 use Rattle.range_set.specs.Order.{before}
-use Rattle.range_set.specs.PrivateChunks.{AllApart, AllCarried, AreChunks, AreGroups, Ascend, IsGroup, carry, first_start, flat, move, shift, spread}
+use Rattle.range_set.specs.PrivateChunks.{AllApart, AllCarried, AllChunksApart, AllChunksCarried, AreChunks, AreGroups, Ascend, IsGroup, carry, carry_chunk, first_start, flat, move, shift, spread}
 use Rattle.range_set.specs.declared.ranged.Ranged.{Ranged}
 use Rattle.range_set.specs.declared.chunk.Placed.{Placed}
 use Rattle.range_set.specs.declared.group.PlacedGroup.{PlacedGroup}
@@ -18,7 +18,7 @@ use Rattle.range_set.proofs.Cost.{allowance, chunk_affected}
 use Rattle.range_set.proofs.Each.{Within}
 use Rattle.range_set.proofs.Groups.{flat-spread, flat_forward}
 use Rattle.range_set.proofs.Under.{IsUnder, under_clear, under_order}
-use Rattle.range_set.proofs.Walked.{IsClearHull, IsWalked, StartsBy, ascend_hull, clear_hull, clear_within, hull_within, start_in, walked_less, within_prefix, within_rest}
+use Rattle.range_set.proofs.Walked.{IsClearHull, IsWalked, StartsBy, ascend_hull, clear_chunk, clear_hull, clear_within, hull_within, start_in, walked_clear, walked_less, within_prefix, within_rest}
 
 or_left : (a b : Bool) → (a || b) ≡ false → a ≡ false
 or_left false b h = refl
@@ -44,14 +44,6 @@ module _ {T : Type 0} where
   starts_more start a [] [] l s = absurd s
   starts_more start a [] (q ∷ later) l s = omega (arith, l, s)
   starts_more start a (p ∷ ps) later l s = omega (arith, l, s)
-
-  -- the chunks of a group from one on, at their places
-  pub next_inner : (start : ℕ) (ps : List (Placed T)) (i : ℕ) (p : Placed T) (later : List (Placed T)) → i < length ps → p ≡ get_or ps i p
-      → map (move start) (drop i ps) ++ later ≡ move start p ∷ (map (move start) (drop (i + 1) ps) ++ later)
-  next_inner start ps i p later l e = ap (λ qs. map (move start) qs ++ later) (rest_at ps i p l e)
-
-  pub no_inner : (start : ℕ) (ps : List (Placed T)) (i : ℕ) (later : List (Placed T)) → length ps ≤ i → map (move start) (drop i ps) ++ later ≡ later
-  no_inner start ps i later l = ap (λ qs. map (move start) qs ++ later) (none_from ps i l)
 
 module _ {T : Type 0} (rules : RangeRules T) (d : Sections) where
   pub allowance-append : (ps qs : List (Placed T)) → allowance rules d (ps ++ qs) ≡ allowance rules d ps + allowance rules d qs
@@ -199,15 +191,55 @@ module _ {T : Type 0} (rules : RangeRules T) (d : Sections) where
         carried_fit from changed gs h.1 (ascend-less from g.start later hull.0 hull.1) (within_rest (old_size d) (map (shift g.start) ranges) later inside) f size,
       )
 
-  -- the next chunk of a group that is opened
-  pub at_inner : (whole : List (Ranged T)) (start : ℕ) (ps : List (Placed T)) (i : ℕ) (p : Placed T) (later : List (Placed T)) (done run : List (Ranged T)) (reached : ℕ) (reps : List ChangedRange) → i < length ps → p ≡ get_or ps i p
-      → IsWalked rules d whole (map (move start) (drop i ps) ++ later) done run reached reps → IsWalked rules d whole (move start p ∷ (map (move start) (drop (i + 1) ps) ++ later)) done run reached reps
-  at_inner whole start ps i p later done run reached reps l e h = subst (λ qs. IsWalked rules d whole qs done run reached reps) (next_inner start ps i p later l e) h
+  -- Chunks that are carried as far as the place from, up to whose ends no change is met, are walked.
+  pub walked_chunks : (whole : List (Ranged T)) (from : ℕ) (ps others : List (Placed T)) (done more : List (Ranged T)) (reached : ℕ) (reps : List ChangedRange)
+      → reached ≤ from → IsWalked rules d whole (ps ++ others) done [] reached reps → Ascend from (flat (ps ++ others)) → ((b : ℕ) → list_any (meets from b) reps ≡ list_any (meets from b) (replaced d)) → AllChunksApart from reps ps
+      → more ≡ done ++ flat (map (carry_chunk from (clear_place d from)) ps) → IsWalked rules d whole others more [] reached reps
+  walked_chunks whole from [] others done more reached reps l w asc f apart e = subst (λ rs. IsWalked rules d whole others rs [] reached reps) (sym (e ∙ append-nil done)) w
+  walked_chunks whole from (p ∷ ps) others done more reached reps l w asc f apart e =
+      let ranges = p.chunk.value.ranges.items in
+      let rest = ps ++ others in
+      let end = p.start + p.chunk.value.reach in
+      let hull = ascend_hull from p.start ranges (flat rest) w.chunks.0.1 w.chunks.0.0.first asc in
+      let met : IsClear from end d = sym (f end) ∙ apart.0.1 in
+      let here : IsClear from p.start d = none-narrow from end from p.start (replaced d) (omega arith) (omega arith) met in
+      let narrow : list_any (meets p.start end) (replaced d) ≡ false = none-narrow from end p.start end (replaced d) hull.0 (omega arith) met in
+      let none : chunk_affected rules d p ≡ false = ap (λ b. b || list_any (meets p.start end) (replaced d)) apart.0.0 ∙ narrow in
+      let clear = clear_chunk rules d whole p rest done [] reached reps w none in
+      let place : clear_place d p.start ≡ p.start - from + clear_place d from = let k = clear_apart d from p.start hull.0 here in omega (arith, k) in
+      let put = map (shift (p.start - from + clear_place d from)) ranges in
+      let next = walked_clear rules d whole p rest done [] (done ++ put) reached reps reps w (λ a b s. refl) clear
+      (ap (λ n. done ++ map (shift n) ranges) (sym place) ∙ sym (ap (λ rs. rs ++ map (shift (clear_place d p.start)) ranges) (append-nil done))) in
+      walked_chunks whole from ps others (done ++ put) more reached reps l (walked_less rules d whole rest (done ++ put) [] reached p.start reps clear.ascend next)
+      (ascend-less from p.start (flat rest) hull.0 hull.1) f apart.1
+      (e ∙ sym (append_assoc done put (flat (map (carry_chunk from (clear_place d from)) ps))))
 
-  pub allowance_inner : (start : ℕ) (ps : List (Placed T)) (i : ℕ) (p : Placed T) (later : List (Placed T)) (b : Bool) → i < length ps → p ≡ get_or ps i p → chunk_affected rules d (move start p) ≡ b
-      → allowance rules d (map (move start) (drop i ps) ++ later) ≡ cond b 128 0 + allowance rules d (map (move start) (drop (i + 1) ps) ++ later)
-  allowance_inner start ps i p later b l e a =
-      ap (allowance rules d) (next_inner start ps i p later l e) ∙ ap (λ x. cond x 128 0 + allowance rules d (map (move start) (drop (i + 1) ps) ++ later)) a
+  pub chunks_fit : (from : ℕ) (changed : List ChangedRange) (ps others : List (Placed T)) → AreChunks rules (ps ++ others) → Ascend from (flat (ps ++ others)) → Within (old_size d) (flat (ps ++ others))
+      → ((b : ℕ) → list_any (meets from b) changed ≡ list_any (meets from b) (replaced d)) → new_size counted d < 2 ^ 32 → AllChunksCarried from (clear_place d from) changed ps
+  chunks_fit from changed [] others h asc w f size = tt
+  chunks_fit from changed (p ∷ ps) others h asc w f size =
+      let ranges = p.chunk.value.ranges.items in
+      let later = flat (ps ++ others) in
+      let end = p.start + p.chunk.value.reach in
+      let hull = ascend_hull from p.start ranges later h.0.1 h.0.0.first asc in
+      let last = hull_within rules d (old_size d) p.start ranges h.0.1 (within_prefix (old_size d) (map (shift p.start) ranges) later w) in
+      let reach = h.0.0.reach in (
+        λ none.
+            let met : IsClear from end d = sym (f end) ∙ none in
+            let far = clear_apart d from end (omega (arith, hull.0)) met in
+            let bound = clear_within d end (omega (arith, last, reach)) (none-narrow from end end end (replaced d) (omega (arith, hull.0)) (omega arith) met) in
+            omega (arith, far, bound, size, hull.0),
+        chunks_fit from changed ps others h.1 (ascend-less from p.start later hull.0 hull.1) (within_rest (old_size d) (map (shift p.start) ranges) later w) f size,
+      )
+
+  -- the chunks before others
+  pub are_before : (ps others : List (Placed T)) → AreChunks rules (ps ++ others) → AreChunks rules ps
+  are_before [] others h = tt
+  are_before (p ∷ ps) others h = (h.0, are_before ps others h.1)
+
+  -- chunks that are passed leave no more to be mapped
+  pub allowance_less : (ps qs : List (Placed T)) → allowance rules d qs ≤ allowance rules d (ps ++ qs)
+  allowance_less ps qs = let k = allowance-append ps qs in omega (arith, k)
 
   -- a group's share of how many ranges are mapped by themselves at most
   pub allowance_group : (g : PlacedGroup T) (others : List (PlacedGroup T)) → allowance rules d (spread (g ∷ others)) ≡ allowance rules d (map (move g.start) g.group.value.chunks.items) + allowance rules d (spread others)

@@ -92,6 +92,27 @@ module _ {T : Type 0} where
     pub apart : AllApart from changed taken
     pub ranges : new ≡ old ++ flat (spread (map (carry from to) taken))
 
+  -- the chunk as far on as the place from goes to the place to
+  abbrev pub carry_chunk : (from to : ℕ) → Placed T → Placed T
+  carry_chunk from to p = record { start = p.start - from + to; chunk = p.chunk }
+
+  -- none of the chunks is turned, and no range meets what is from a place to the end of one of them
+  abbrev pub AllChunksApart : (from : ℕ) → List ChangedRange → List (Placed T) → Type 0
+  AllChunksApart from changed [] = Unit {0}
+  AllChunksApart from changed (p ∷ ps) = ((p.chunk.value.is_turned ≡ false) × (list_any (meets from (p.start + p.chunk.value.reach)) changed ≡ false)) × AllChunksApart from changed ps
+
+  -- the chunks fit their types as far on as the place from goes to the place to, where no range meets what is between
+  abbrev pub AllChunksCarried : (from to : ℕ) → List ChangedRange → List (Placed T) → Type 0
+  AllChunksCarried from to changed [] = Unit {0}
+  AllChunksCarried from to changed (p ∷ ps) = (list_any (meets from (p.start + p.chunk.value.reach)) changed ≡ false → p.start - from + to + p.chunk.value.reach < 2 ^ 32) × AllChunksCarried from to changed ps
+
+  -- the first of some chunks were put after ranges, as far on as the place from goes to the place to, and the others were left
+  pub record AreChunksShared (from to : ℕ) (changed : List ChangedRange) (chunks rest : List (Placed T)) (old new : List (Ranged T)) : Type 0 where
+    pub taken : List (Placed T)
+    pub is : chunks ≡ taken ++ rest
+    pub apart : AllChunksApart from changed taken
+    pub ranges : new ≡ old ++ flat (map (carry_chunk from to) taken)
+
   -- a chunk at a place is the first of those that were left
   pub record IsNextChunk (old : List (Placed T)) (start : ℕ) (chunk : Chunk T) (new : List (Placed T)) : Type 0 where
     pub ranges : flat old ≡ map (shift start) chunk.ranges.items ++ flat new

@@ -1,10 +1,12 @@
 ghost use Rattle.std.specs.Prelude.{IfOk, IsTrue, false, [], ◌++◌, ◌+◌, ◌∷◌, ◌≡◌, ◌≤◌, ◌<◌, ◌^◌, length, map};
 ghost use Rattle.range_set.specs.Order.{AllForward};
-ghost use Rattle.range_set.specs.PrivateChunks.{AreChunks, Ascend, BeginBy, IsBuilder, IsChunk, built, flat, shift};
+ghost use Rattle.change_desc.specs.Meeting.{BeginAfter, EndsAtOrAfter};
+ghost use Rattle.range_set.specs.PrivateChunks.{AllChunksCarried, AreChunks, AreChunksShared, Ascend, BeginBy, IsBuilder, IsChunk, built, flat, move, shift};
 
 use crate::chunk::{Chunk, FEW_RANGES, MAX_RANGES, MAX_SHARED_LEN, Placed, stands_alone};
 use crate::range_value::RangeValue;
 use crate::ranged::Ranged;
+use change_desc::{ChangedRange, first_meets};
 use std::alloc::{AllocError, Global};
 use std::mem;
 use std::rc::Rc;
@@ -112,11 +114,58 @@ impl<T: RangeValue> ChunkBuilder<T> {
         ensures ranges { IfOk result (λ _. built self.new ≡ built self.old ++ map (shift start) chunk.now.value.ranges.items) }
     {
         seal(&mut self.done, self.start, &mut self.growing)?;
+        self.put_shared(start, chunk)
+    }
+
+    /// Puts a chunk after those that are done, where none is growing, at a place of its own, and shares it. `Err`: out of memory.
+    fn put_shared(&mut self, start: u32, chunk: &Rc<Chunk<T>>) -> Result<(), AllocError>
+        requires builder { IsBuilder T.rules self.old }
+        requires growing { self.old.growing.ranges.items ≡ [] }
+        requires chunk { IsChunk T.rules start chunk.now.value }
+        requires some { 1 ≤ length chunk.now.value.ranges.items }
+        ensures builder { IfOk result (λ _. IsBuilder T.rules self.new) }
+        ensures growing { IfOk result (λ _. self.new.growing ≡ self.old.growing) }
+        ensures ranges { IfOk result (λ _. built self.new ≡ built self.old ++ map (shift start) chunk.now.value.ranges.items) }
+    {
         self.done.push(Placed {
             start,
             chunk: chunk.clone()?,
         })?;
         Ok(())
+    }
+
+    /// Puts the first of some chunks, which count from the place `base`, after the ranges, up to one that is turned, or from the place
+    /// `from` to the end of which a range that is replaced is met; each as far on as `from` goes to `to`; and shares them. Gives the
+    /// others. Of the replaced ranges the first doesn't end before `from`. `Err`: out of memory.
+    pub(crate) fn share_carried<'a>(
+        &mut self,
+        chunks: &'a [Placed<T>],
+        base: u32,
+        from: u32,
+        to: u32,
+        changed: &[ChangedRange],
+    ) -> Result<&'a [Placed<T>], AllocError>
+        requires builder { IsBuilder T.rules self.old }
+        requires chunks { AreChunks T.rules (map (move base) chunks.now) }
+        requires ascend { Ascend from (flat (map (move base) chunks.now)) }
+        requires fits { AllChunksCarried from to changed.now (map (move base) chunks.now) }
+        requires order { BeginAfter 0 changed.now }
+        requires first { EndsAtOrAfter from changed.now }
+        ensures builder { IfOk result (λ _. IsBuilder T.rules self.new) }
+        ensures shared { IfOk result (λ rest. AreChunksShared from to changed.now (map (move base) chunks.now) (map (move base) rest.now) (built self.old) (built self.new)) }
+    {
+        seal(&mut self.done, self.start, &mut self.growing)?;
+        let mut rest = chunks;
+        while let Some((placed, others)) = rest.split_first() {
+            let start = placed.start + base;
+            let end = start + placed.chunk.reach;
+            if placed.chunk.is_turned || first_meets(changed, from, end) {
+                return Ok(rest);
+            }
+            self.put_shared(start - from + to, &placed.chunk)?;
+            rest = others;
+        }
+        Ok(rest)
     }
 
     /// The chunks of all ranges. `Err`: out of memory.

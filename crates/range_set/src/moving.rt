@@ -79,9 +79,11 @@ fn map_all<'a, T: RangeValue, L: Ledger>(
         rest = others;
         if is_opened(placed, left, &builder) {
             builder.reserve(placed.group.chunks.len())?;
-            for inner in &placed.group.chunks {
+            let mut chunks = placed.group.chunks.as_slice();
+            while let Some((inner, more)) = chunks.split_first() {
                 let start = inner.start + placed.start;
                 left = ranges_from(left, start);
+                chunks = more;
                 if is_affected(start, &inner.chunk, left) {
                     map_each(
                         start,
@@ -93,8 +95,11 @@ fn map_all<'a, T: RangeValue, L: Ledger>(
                         mapped,
                     )?;
                 } else {
-                    let start = walk.place_after(start, left);
-                    builder.share_chunk(start, &inner.chunk)?;
+                    let to = walk.place_after(start, left);
+                    builder.share_chunk(to, &inner.chunk)?;
+                    chunks = builder
+                        .chunks
+                        .share_carried(more, placed.start, start, to, left)?;
                 }
             }
         } else {

@@ -1,5 +1,5 @@
-use Rattle.std.proofs.Common.{[], ◌≡◌, ℕ, ◌+◌, ◌<◌, ◌≤◌, List, get_or, ◌++◌, drop, map, filter_map, length, true, false, ap, subst, sym, ◌∙◌, arith}
-use Rattle.std.proofs.lemmas.List.{append-nil, length-append, nil_from_length}
+use Rattle.std.proofs.Common.{[], ◌≡◌, ℕ, cond, ◌+◌, ◌<◌, ◌≤◌, List, get_or, ◌++◌, drop, map, filter_map, length, true, false, ap, subst, sym, ◌∙◌, arith, append_assoc}
+use Rattle.std.proofs.lemmas.List.{append-nil, length-append, length-map, nil_from_length}
 use Rattle.std.proofs.lemmas.Result.{IfOk-weaker}
 use Rattle.std.specs.Prelude.{unwrap_or}
 use Rattle.std.specs.List.{list_any}
@@ -13,10 +13,10 @@ use Rattle.change_desc.proofs.RangesMet.{replaced-begin}
 use Rattle.stable_order.specs.StableSort.{stable_sort}
 use Rattle.range_set.specs.Order.{before}
 use Rattle.range_set.specs.Mapping.{map_ranges, moved}
-use Rattle.range_set.specs.PrivateChunks.{AllCarried, AreGroups, Ascend, built, carry, flat, grouped, move, put_down, shift, spread}
+use Rattle.range_set.specs.PrivateChunks.{AllCarried, AllChunksCarried, AreGroups, Ascend, built, carry, carry_chunk, flat, grouped, move, put_down, shift, spread}
 use Rattle.range_set.specs.declared.chunk.Placed.{Placed}
 use Rattle.range_set.specs.declared.group.Group.{Group}
-use Rattle.range_set.proofs.Chunks.{ascend-prefix}
+use Rattle.range_set.proofs.Chunks.{ascend-prefix, flat-append}
 use Rattle.range_set.proofs.Clear.{IsClear, Sections, clear_place, map_pos-clear}
 use Rattle.range_set.proofs.Cost.{allowance, allowed}
 use Rattle.range_set.proofs.Each.{Within, end_within, within}
@@ -24,9 +24,8 @@ use Rattle.range_set.proofs.Groups.{are_spread, chunk_placed, group_placed, grou
 use Rattle.range_set.proofs.RangeOrder.{rises-no_fault}
 use Rattle.range_set.proofs.Under.{IsUnder, rises_ascend, under_end, under_end_order}
 use Rattle.range_set.proofs.Walked.{IsWalked, affected_same, clear_chunk, run_forward, walked_clear, walked_each, walked_init, walked_less, within_prefix}
-use Rattle.range_set.proofs.WalkedGroups.{allowance_group, allowance_inner, allowance_passed, at_inner, carried_fit, clear_group, no_inner, starts_at, walked_carried, walked_group, walked_open}
+use Rattle.range_set.proofs.WalkedGroups.{allowance_group, allowance_less, allowance_passed, are_before, carried_fit, chunks_fit, clear_group, starts_at, walked_carried, walked_chunks, walked_group, walked_open}
 use Rattle.range_set.proofs.moving.map_all.Goals as goal
-use Rattle.range_set.proofs.moving.map_all.Goals.{then-is_affected+in_ok-map_each, else-is_affected+in_ok-share_chunk}
 
 pub loop-placed-init : goal.loop-placed-init
 loop-placed-init g c =
@@ -67,14 +66,15 @@ loop-inner-init g c =
     let kept = c.loop-placed.invariant in
     let groups = subst (AreGroups rules) c.in-Some.ensures.cases.0 kept.groups in
     let walked = subst (λ hs. IsWalked rules d (flat (spread gs)) (spread hs) (put_down c.loop-placed.builder) c.loop-placed.builder.run.items c.loop-placed.walk.walker.reached c.loop-placed.left.now) c.in-Some.ensures.cases.0 kept.walked in
+    let chunks = c.as_slice-chunks.ensures.value ∙ ap (λ (x : Group g.row.T.Denot). x.chunks.items) c.deref-then-is_opened.ensures in
     record {
       builder = c.reserve.ensures.builder;
-      walked = rw (c.reserve.ensures.ranges, ap (λ v. v.items) c.reserve.ensures.run) (walked_open rules d (flat (spread gs)) p others (put_down c.loop-placed.builder) c.loop-placed.builder.run.items c.loop-placed.walk.walker.reached c.loop-placed.left.now c.ranges_from-left.result.now
+      walked = rw (chunks, c.reserve.ensures.ranges, ap (λ v. v.items) c.reserve.ensures.run) (walked_open rules d (flat (spread gs)) p others (put_down c.loop-placed.builder) c.loop-placed.builder.run.items c.loop-placed.walk.walker.reached c.loop-placed.left.now c.ranges_from-left.result.now
           groups.0.1 c.ranges_from-left.ensures.same walked);
       desc = kept.desc;
       clear = kept.clear;
       begin = c.ranges_from-left.ensures.order;
-      cost = let a = kept.cost in let b = ap (λ hs. allowance rules d (spread hs)) c.in-Some.ensures.cases.0 in omega (arith, a, b);
+      cost = let a = kept.cost in let b = ap (λ hs. allowance rules d (spread hs)) c.in-Some.ensures.cases.0 in let e = ap (λ qs. allowance rules d (map (move p.start) qs ++ spread others)) chunks in omega (arith, a, b, e);
     }
 
 pub map_each-requires-clause-inside : goal.map_each-requires-clause-inside
@@ -82,18 +82,14 @@ map_each-requires-clause-inside g c =
     let rules = g.T.RangeValue.rules in
     let d = c.args.changes.now in
     let gs = c.args.groups.now in
-    let ps = c.in-Some.placed.now.group.value.chunks.items in
-    let p = c.inner-item.result in
-    let same = c.deref-inner-items.ensures.value ∙ ap (λ (x : Group g.row.T.Denot). x.chunks.items) c.deref-then-is_opened.ensures in
-    let l : c.loop-inner.inner-index < length ps = subst (λ (xs : List (Placed g.row.T.Denot)). c.loop-inner.inner-index < length xs) same c.loop-inner-test.true in
-    let is : p ≡ get_or ps c.loop-inner.inner-index p = subst (λ (xs : List (Placed g.row.T.Denot)). p ≡ get_or xs c.loop-inner.inner-index p) same c.inner-item.is in
+    let p = c.in-Some-split_first.inner.now in
+    let more = c.in-Some-split_first.more.now in
     let start = c.in-Some.placed.now.start in
-    let j = c.loop-inner.inner-index in
     let later = spread c.in-Some.others.now in
-    let rest = map (move start) (drop (j + 1) ps) ++ later in
+    let rest = map (move start) more ++ later in
     let ranges = map (shift (p.start + start)) p.chunk.value.ranges.items in
     let kept = c.loop-inner.invariant in
-    let here = at_inner rules d (flat (spread gs)) start ps j p later (put_down c.loop-inner.builder) c.loop-inner.builder.run.items c.loop-inner.walk.walker.reached c.loop-inner.left.now l is kept.walked in
+    let here = subst (λ qs. IsWalked rules d (flat (spread gs)) (map (move start) qs ++ spread c.in-Some.others.now) (put_down c.loop-inner.builder) c.loop-inner.builder.run.items c.loop-inner.walk.walker.reached c.loop-inner.left.now) c.in-Some-split_first.ensures.cases.0 kept.walked in
     end_within (old_size c.loop-inner.walk.walker.desc) ranges
     (subst (λ (s : Sections). Within (old_size s) ranges) (sym kept.desc) (within_prefix (old_size d) ranges (flat rest) here.within))
 
@@ -102,185 +98,154 @@ map_each-requires-clause-ascending g c =
     let rules = g.T.RangeValue.rules in
     let d = c.args.changes.now in
     let gs = c.args.groups.now in
-    let ps = c.in-Some.placed.now.group.value.chunks.items in
-    let p = c.inner-item.result in
-    let same = c.deref-inner-items.ensures.value ∙ ap (λ (x : Group g.row.T.Denot). x.chunks.items) c.deref-then-is_opened.ensures in
-    let l : c.loop-inner.inner-index < length ps = subst (λ (xs : List (Placed g.row.T.Denot)). c.loop-inner.inner-index < length xs) same c.loop-inner-test.true in
-    let is : p ≡ get_or ps c.loop-inner.inner-index p = subst (λ (xs : List (Placed g.row.T.Denot)). p ≡ get_or xs c.loop-inner.inner-index p) same c.inner-item.is in
+    let p = c.in-Some-split_first.inner.now in
+    let more = c.in-Some-split_first.more.now in
     let start = c.in-Some.placed.now.start in
-    let j = c.loop-inner.inner-index in
     let later = spread c.in-Some.others.now in
-    let rest = map (move start) (drop (j + 1) ps) ++ later in
+    let rest = map (move start) more ++ later in
     let kept = c.loop-inner.invariant in
-    let here = at_inner rules d (flat (spread gs)) start ps j p later (put_down c.loop-inner.builder) c.loop-inner.builder.run.items c.loop-inner.walk.walker.reached c.loop-inner.left.now l is kept.walked in
+    let here = subst (λ qs. IsWalked rules d (flat (spread gs)) (map (move start) qs ++ spread c.in-Some.others.now) (put_down c.loop-inner.builder) c.loop-inner.builder.run.items c.loop-inner.walk.walker.reached c.loop-inner.left.now) c.in-Some-split_first.ensures.cases.0 kept.walked in
     ascend-prefix c.loop-inner.walk.walker.reached (map (shift (p.start + start)) p.chunk.value.ranges.items) (flat rest) here.ascend
 
 pub map_each-requires-clause-same : goal.map_each-requires-clause-same
 map_each-requires-clause-same g c = λ a b l.
     let d = c.args.changes.now in
     let gs = c.args.groups.now in
-    let ps = c.in-Some.placed.now.group.value.chunks.items in
-    let p = c.inner-item.result in
-    let same = c.deref-inner-items.ensures.value ∙ ap (λ (x : Group g.row.T.Denot). x.chunks.items) c.deref-then-is_opened.ensures in
-    let in_range : c.loop-inner.inner-index < length ps = subst (λ (xs : List (Placed g.row.T.Denot)). c.loop-inner.inner-index < length xs) same c.loop-inner-test.true in
-    let is : p ≡ get_or ps c.loop-inner.inner-index p = subst (λ (xs : List (Placed g.row.T.Denot)). p ≡ get_or xs c.loop-inner.inner-index p) same c.inner-item.is in
+    let p = c.in-Some-split_first.inner.now in
+    let more = c.in-Some-split_first.more.now in
     let kept = c.loop-inner.invariant in
-    let here = at_inner g.T.RangeValue.rules d (flat (spread gs)) c.in-Some.placed.now.start ps c.loop-inner.inner-index p (spread c.in-Some.others.now) (put_down c.loop-inner.builder) c.loop-inner.builder.run.items
-    c.loop-inner.walk.walker.reached c.loop-inner.left.now in_range is kept.walked in
-    c.ranges_from-left-in-loop-inner.ensures.same a b l ∙ (here.same a b l ∙ ap (λ (x : Sections). list_any (meets a b) (replaced x)) (sym kept.desc))
+    let here = subst (λ qs. IsWalked g.T.RangeValue.rules d (flat (spread gs)) (map (move c.in-Some.placed.now.start) qs ++ spread c.in-Some.others.now) (put_down c.loop-inner.builder) c.loop-inner.builder.run.items c.loop-inner.walk.walker.reached c.loop-inner.left.now) c.in-Some-split_first.ensures.cases.0 kept.walked in
+    c.ranges_from-left-in-Some-split_first.ensures.same a b l ∙ (here.same a b l ∙ ap (λ (x : Sections). list_any (meets a b) (replaced x)) (sym kept.desc))
 
 pub returns-in_err-map_each-clause-cost : goal.returns-in_err-map_each-clause-cost
 returns-in_err-map_each-clause-cost g c =
     let rules = g.T.RangeValue.rules in
     let d = c.args.changes.now in
     let gs = c.args.groups.now in
-    let ps = c.in-Some.placed.now.group.value.chunks.items in
-    let p = c.inner-item.result in
-    let same = c.deref-inner-items.ensures.value ∙ ap (λ (x : Group g.row.T.Denot). x.chunks.items) c.deref-then-is_opened.ensures in
-    let l : c.loop-inner.inner-index < length ps = subst (λ (xs : List (Placed g.row.T.Denot)). c.loop-inner.inner-index < length xs) same c.loop-inner-test.true in
-    let is : p ≡ get_or ps c.loop-inner.inner-index p = subst (λ (xs : List (Placed g.row.T.Denot)). p ≡ get_or xs c.loop-inner.inner-index p) same c.inner-item.is in
+    let p = c.in-Some-split_first.inner.now in
+    let more = c.in-Some-split_first.more.now in
     let start = c.in-Some.placed.now.start in
-    let j = c.loop-inner.inner-index in
     let later = spread c.in-Some.others.now in
-    let rest = map (move start) (drop (j + 1) ps) ++ later in
+    let rest = map (move start) more ++ later in
     let done = put_down c.loop-inner.builder in
     let run = c.loop-inner.builder.run.items in
     let reached = c.loop-inner.walk.walker.reached in
     let reps = c.loop-inner.left.now in
     let kept = c.loop-inner.invariant in
-    let here = at_inner rules d (flat (spread gs)) start ps j p later done run reached reps l is kept.walked in
-    let affected = affected_same rules d (flat (spread gs)) (move start p) rest done run reached reps c.ranges_from-left-in-loop-inner.result.now here c.ranges_from-left-in-loop-inner.ensures.same c.is_affected.result c.is_affected.ensures in
+    let here = subst (λ qs. IsWalked rules d (flat (spread gs)) (map (move start) qs ++ spread c.in-Some.others.now) (put_down c.loop-inner.builder) c.loop-inner.builder.run.items c.loop-inner.walk.walker.reached c.loop-inner.left.now) c.in-Some-split_first.ensures.cases.0 kept.walked in
+    let affected = affected_same rules d (flat (spread gs)) (move start p) rest done run reached reps c.ranges_from-left-in-Some-split_first.result.now here c.ranges_from-left-in-Some-split_first.ensures.same c.is_affected.result c.is_affected.ensures in
     let top = allowed rules d 0 (spread gs) (are_spread rules gs c.requires.groups) (rises_ascend rules (flat (spread gs)) (rises-no_fault rules (flat (spread gs)) c.requires.order)) in
     let spent = kept.cost in
     let each = c.map_each.ensures.cost in
     let few = here.chunks.0.0.few in
-    let share = allowance_inner rules d start ps j p later true l is (sym affected ∙ c.if-is_affected.true) in
-    omega (arith, top, spent, each, few, share)
+    let share = ap (λ x. cond x 128 0 + allowance rules d rest) (sym affected ∙ c.if-is_affected.true) in
+    let at = ap (λ qs. allowance rules d (map (move start) qs ++ later)) c.in-Some-split_first.ensures.cases.0 in
+    omega (arith, top, spent, each, few, share, at)
 
-pub place_after-start-requires-clause-inside : goal.place_after-start-requires-clause-inside
-place_after-start-requires-clause-inside g c =
+pub place_after-to-requires-clause-inside : goal.place_after-to-requires-clause-inside
+place_after-to-requires-clause-inside g c =
     let rules = g.T.RangeValue.rules in
     let d = c.args.changes.now in
     let gs = c.args.groups.now in
-    let ps = c.in-Some.placed.now.group.value.chunks.items in
-    let p = c.inner-item.result in
-    let same = c.deref-inner-items.ensures.value ∙ ap (λ (x : Group g.row.T.Denot). x.chunks.items) c.deref-then-is_opened.ensures in
-    let l : c.loop-inner.inner-index < length ps = subst (λ (xs : List (Placed g.row.T.Denot)). c.loop-inner.inner-index < length xs) same c.loop-inner-test.true in
-    let is : p ≡ get_or ps c.loop-inner.inner-index p = subst (λ (xs : List (Placed g.row.T.Denot)). p ≡ get_or xs c.loop-inner.inner-index p) same c.inner-item.is in
+    let p = c.in-Some-split_first.inner.now in
+    let more = c.in-Some-split_first.more.now in
     let start = c.in-Some.placed.now.start in
-    let j = c.loop-inner.inner-index in
     let later = spread c.in-Some.others.now in
-    let rest = map (move start) (drop (j + 1) ps) ++ later in
+    let rest = map (move start) more ++ later in
     let done = put_down c.loop-inner.builder in
     let run = c.loop-inner.builder.run.items in
     let reached = c.loop-inner.walk.walker.reached in
     let reps = c.loop-inner.left.now in
     let kept = c.loop-inner.invariant in
-    let here = at_inner rules d (flat (spread gs)) start ps j p later done run reached reps l is kept.walked in
-    let affected = affected_same rules d (flat (spread gs)) (move start p) rest done run reached reps c.ranges_from-left-in-loop-inner.result.now here c.ranges_from-left-in-loop-inner.ensures.same c.is_affected.result c.is_affected.ensures in
+    let here = subst (λ qs. IsWalked rules d (flat (spread gs)) (map (move start) qs ++ spread c.in-Some.others.now) (put_down c.loop-inner.builder) c.loop-inner.builder.run.items c.loop-inner.walk.walker.reached c.loop-inner.left.now) c.in-Some-split_first.ensures.cases.0 kept.walked in
+    let affected = affected_same rules d (flat (spread gs)) (move start p) rest done run reached reps c.ranges_from-left-in-Some-split_first.result.now here c.ranges_from-left-in-Some-split_first.ensures.same c.is_affected.result c.is_affected.ensures in
     let clear = clear_chunk rules d (flat (spread gs)) (move start p) rest done run reached reps here (sym affected ∙ c.if-is_affected.false) in
     let size = ap old_size kept.desc in
     let inside = clear.inside in
     omega (arith, size, inside)
 
-pub place_after-start-requires-clause-ascending : goal.place_after-start-requires-clause-ascending
-place_after-start-requires-clause-ascending g c =
+pub place_after-to-requires-clause-ascending : goal.place_after-to-requires-clause-ascending
+place_after-to-requires-clause-ascending g c =
     let rules = g.T.RangeValue.rules in
     let d = c.args.changes.now in
     let gs = c.args.groups.now in
-    let ps = c.in-Some.placed.now.group.value.chunks.items in
-    let p = c.inner-item.result in
-    let same = c.deref-inner-items.ensures.value ∙ ap (λ (x : Group g.row.T.Denot). x.chunks.items) c.deref-then-is_opened.ensures in
-    let l : c.loop-inner.inner-index < length ps = subst (λ (xs : List (Placed g.row.T.Denot)). c.loop-inner.inner-index < length xs) same c.loop-inner-test.true in
-    let is : p ≡ get_or ps c.loop-inner.inner-index p = subst (λ (xs : List (Placed g.row.T.Denot)). p ≡ get_or xs c.loop-inner.inner-index p) same c.inner-item.is in
+    let p = c.in-Some-split_first.inner.now in
+    let more = c.in-Some-split_first.more.now in
     let start = c.in-Some.placed.now.start in
-    let j = c.loop-inner.inner-index in
     let later = spread c.in-Some.others.now in
-    let rest = map (move start) (drop (j + 1) ps) ++ later in
+    let rest = map (move start) more ++ later in
     let done = put_down c.loop-inner.builder in
     let run = c.loop-inner.builder.run.items in
     let reached = c.loop-inner.walk.walker.reached in
     let reps = c.loop-inner.left.now in
     let kept = c.loop-inner.invariant in
-    let here = at_inner rules d (flat (spread gs)) start ps j p later done run reached reps l is kept.walked in
-    let affected = affected_same rules d (flat (spread gs)) (move start p) rest done run reached reps c.ranges_from-left-in-loop-inner.result.now here c.ranges_from-left-in-loop-inner.ensures.same c.is_affected.result c.is_affected.ensures in
+    let here = subst (λ qs. IsWalked rules d (flat (spread gs)) (map (move start) qs ++ spread c.in-Some.others.now) (put_down c.loop-inner.builder) c.loop-inner.builder.run.items c.loop-inner.walk.walker.reached c.loop-inner.left.now) c.in-Some-split_first.ensures.cases.0 kept.walked in
+    let affected = affected_same rules d (flat (spread gs)) (move start p) rest done run reached reps c.ranges_from-left-in-Some-split_first.result.now here c.ranges_from-left-in-Some-split_first.ensures.same c.is_affected.result c.is_affected.ensures in
     let clear = clear_chunk rules d (flat (spread gs)) (move start p) rest done run reached reps here (sym affected ∙ c.if-is_affected.false) in
     clear.ascend
 
-pub place_after-start-requires-clause-clear : goal.place_after-start-requires-clause-clear
-place_after-start-requires-clause-clear g c =
+pub place_after-to-requires-clause-clear : goal.place_after-to-requires-clause-clear
+place_after-to-requires-clause-clear g c =
     let rules = g.T.RangeValue.rules in
     let d = c.args.changes.now in
     let gs = c.args.groups.now in
-    let ps = c.in-Some.placed.now.group.value.chunks.items in
-    let p = c.inner-item.result in
-    let same = c.deref-inner-items.ensures.value ∙ ap (λ (x : Group g.row.T.Denot). x.chunks.items) c.deref-then-is_opened.ensures in
-    let l : c.loop-inner.inner-index < length ps = subst (λ (xs : List (Placed g.row.T.Denot)). c.loop-inner.inner-index < length xs) same c.loop-inner-test.true in
-    let is : p ≡ get_or ps c.loop-inner.inner-index p = subst (λ (xs : List (Placed g.row.T.Denot)). p ≡ get_or xs c.loop-inner.inner-index p) same c.inner-item.is in
+    let p = c.in-Some-split_first.inner.now in
+    let more = c.in-Some-split_first.more.now in
     let start = c.in-Some.placed.now.start in
-    let j = c.loop-inner.inner-index in
     let later = spread c.in-Some.others.now in
-    let rest = map (move start) (drop (j + 1) ps) ++ later in
+    let rest = map (move start) more ++ later in
     let done = put_down c.loop-inner.builder in
     let run = c.loop-inner.builder.run.items in
     let reached = c.loop-inner.walk.walker.reached in
     let reps = c.loop-inner.left.now in
     let kept = c.loop-inner.invariant in
-    let here = at_inner rules d (flat (spread gs)) start ps j p later done run reached reps l is kept.walked in
-    let affected = affected_same rules d (flat (spread gs)) (move start p) rest done run reached reps c.ranges_from-left-in-loop-inner.result.now here c.ranges_from-left-in-loop-inner.ensures.same c.is_affected.result c.is_affected.ensures in
+    let here = subst (λ qs. IsWalked rules d (flat (spread gs)) (map (move start) qs ++ spread c.in-Some.others.now) (put_down c.loop-inner.builder) c.loop-inner.builder.run.items c.loop-inner.walk.walker.reached c.loop-inner.left.now) c.in-Some-split_first.ensures.cases.0 kept.walked in
+    let affected = affected_same rules d (flat (spread gs)) (move start p) rest done run reached reps c.ranges_from-left-in-Some-split_first.result.now here c.ranges_from-left-in-Some-split_first.ensures.same c.is_affected.result c.is_affected.ensures in
     let clear = clear_chunk rules d (flat (spread gs)) (move start p) rest done run reached reps here (sym affected ∙ c.if-is_affected.false) in
     subst (λ (x : Sections). IsClear (p.start + start) (p.start + start) x) (sym kept.desc) clear.clear
 
-pub place_after-start-requires-clause-same : goal.place_after-start-requires-clause-same
-place_after-start-requires-clause-same g c = λ a b m.
+pub place_after-to-requires-clause-same : goal.place_after-to-requires-clause-same
+place_after-to-requires-clause-same g c = λ a b m.
     let rules = g.T.RangeValue.rules in
     let d = c.args.changes.now in
     let gs = c.args.groups.now in
-    let ps = c.in-Some.placed.now.group.value.chunks.items in
-    let p = c.inner-item.result in
-    let same = c.deref-inner-items.ensures.value ∙ ap (λ (x : Group g.row.T.Denot). x.chunks.items) c.deref-then-is_opened.ensures in
-    let l : c.loop-inner.inner-index < length ps = subst (λ (xs : List (Placed g.row.T.Denot)). c.loop-inner.inner-index < length xs) same c.loop-inner-test.true in
-    let is : p ≡ get_or ps c.loop-inner.inner-index p = subst (λ (xs : List (Placed g.row.T.Denot)). p ≡ get_or xs c.loop-inner.inner-index p) same c.inner-item.is in
+    let p = c.in-Some-split_first.inner.now in
+    let more = c.in-Some-split_first.more.now in
     let start = c.in-Some.placed.now.start in
-    let j = c.loop-inner.inner-index in
     let later = spread c.in-Some.others.now in
-    let rest = map (move start) (drop (j + 1) ps) ++ later in
+    let rest = map (move start) more ++ later in
     let done = put_down c.loop-inner.builder in
     let run = c.loop-inner.builder.run.items in
     let reached = c.loop-inner.walk.walker.reached in
     let reps = c.loop-inner.left.now in
     let kept = c.loop-inner.invariant in
-    let here = at_inner rules d (flat (spread gs)) start ps j p later done run reached reps l is kept.walked in
-    c.ranges_from-left-in-loop-inner.ensures.same a b m ∙ (here.same a b m ∙ ap (λ (x : Sections). list_any (meets a b) (replaced x)) (sym kept.desc))
+    let here = subst (λ qs. IsWalked rules d (flat (spread gs)) (map (move start) qs ++ spread c.in-Some.others.now) (put_down c.loop-inner.builder) c.loop-inner.builder.run.items c.loop-inner.walk.walker.reached c.loop-inner.left.now) c.in-Some-split_first.ensures.cases.0 kept.walked in
+    c.ranges_from-left-in-Some-split_first.ensures.same a b m ∙ (here.same a b m ∙ ap (λ (x : Sections). list_any (meets a b) (replaced x)) (sym kept.desc))
 
 pub share_chunk-requires-clause-order : goal.share_chunk-requires-clause-order
 share_chunk-requires-clause-order g c =
     let rules = g.T.RangeValue.rules in
     let d = c.args.changes.now in
     let gs = c.args.groups.now in
-    let ps = c.in-Some.placed.now.group.value.chunks.items in
-    let p = c.inner-item.result in
-    let same = c.deref-inner-items.ensures.value ∙ ap (λ (x : Group g.row.T.Denot). x.chunks.items) c.deref-then-is_opened.ensures in
-    let l : c.loop-inner.inner-index < length ps = subst (λ (xs : List (Placed g.row.T.Denot)). c.loop-inner.inner-index < length xs) same c.loop-inner-test.true in
-    let is : p ≡ get_or ps c.loop-inner.inner-index p = subst (λ (xs : List (Placed g.row.T.Denot)). p ≡ get_or xs c.loop-inner.inner-index p) same c.inner-item.is in
+    let p = c.in-Some-split_first.inner.now in
+    let more = c.in-Some-split_first.more.now in
     let start = c.in-Some.placed.now.start in
-    let j = c.loop-inner.inner-index in
     let later = spread c.in-Some.others.now in
-    let rest = map (move start) (drop (j + 1) ps) ++ later in
+    let rest = map (move start) more ++ later in
     let done = put_down c.loop-inner.builder in
     let run = c.loop-inner.builder.run.items in
     let reached = c.loop-inner.walk.walker.reached in
     let reps = c.loop-inner.left.now in
     let kept = c.loop-inner.invariant in
-    let here = at_inner rules d (flat (spread gs)) start ps j p later done run reached reps l is kept.walked in
-    let affected = affected_same rules d (flat (spread gs)) (move start p) rest done run reached reps c.ranges_from-left-in-loop-inner.result.now here c.ranges_from-left-in-loop-inner.ensures.same c.is_affected.result c.is_affected.ensures in
+    let here = subst (λ qs. IsWalked rules d (flat (spread gs)) (map (move start) qs ++ spread c.in-Some.others.now) (put_down c.loop-inner.builder) c.loop-inner.builder.run.items c.loop-inner.walk.walker.reached c.loop-inner.left.now) c.in-Some-split_first.ensures.cases.0 kept.walked in
+    let affected = affected_same rules d (flat (spread gs)) (move start p) rest done run reached reps c.ranges_from-left-in-Some-split_first.result.now here c.ranges_from-left-in-Some-split_first.ensures.same c.is_affected.result c.is_affected.ensures in
     let clear = clear_chunk rules d (flat (spread gs)) (move start p) rest done run reached reps here (sym affected ∙ c.if-is_affected.false) in
     clear.order
 
 pub share_chunk-requires-clause-forward : goal.share_chunk-requires-clause-forward
 share_chunk-requires-clause-forward g c =
     let gs = c.args.groups.now in
-    let rest = map (move c.in-Some.placed.now.start) (drop c.loop-inner.inner-index c.in-Some.placed.now.group.value.chunks.items) ++ spread c.in-Some.others.now in
+    let rest = map (move c.in-Some.placed.now.start) c.loop-inner.chunks.now ++ spread c.in-Some.others.now in
     run_forward g.T.RangeValue.rules c.args.changes.now (flat (spread gs)) (put_down c.loop-inner.builder) c.loop-inner.builder.run.items (flat rest) c.loop-inner.invariant.walked.under
 
 pub share_chunk-requires-clause-chunk : goal.share_chunk-requires-clause-chunk
@@ -288,29 +253,25 @@ share_chunk-requires-clause-chunk g c =
     let rules = g.T.RangeValue.rules in
     let d = c.args.changes.now in
     let gs = c.args.groups.now in
-    let ps = c.in-Some.placed.now.group.value.chunks.items in
-    let p = c.inner-item.result in
-    let same = c.deref-inner-items.ensures.value ∙ ap (λ (x : Group g.row.T.Denot). x.chunks.items) c.deref-then-is_opened.ensures in
-    let l : c.loop-inner.inner-index < length ps = subst (λ (xs : List (Placed g.row.T.Denot)). c.loop-inner.inner-index < length xs) same c.loop-inner-test.true in
-    let is : p ≡ get_or ps c.loop-inner.inner-index p = subst (λ (xs : List (Placed g.row.T.Denot)). p ≡ get_or xs c.loop-inner.inner-index p) same c.inner-item.is in
+    let p = c.in-Some-split_first.inner.now in
+    let more = c.in-Some-split_first.more.now in
     let base = c.in-Some.placed.now.start in
-    let j = c.loop-inner.inner-index in
     let later = spread c.in-Some.others.now in
-    let rest = map (move base) (drop (j + 1) ps) ++ later in
+    let rest = map (move base) more ++ later in
     let done = put_down c.loop-inner.builder in
     let run = c.loop-inner.builder.run.items in
     let reached = c.loop-inner.walk.walker.reached in
     let reps = c.loop-inner.left.now in
     let kept = c.loop-inner.invariant in
-    let here = at_inner rules d (flat (spread gs)) base ps j p later done run reached reps l is kept.walked in
-    let affected = affected_same rules d (flat (spread gs)) (move base p) rest done run reached reps c.ranges_from-left-in-loop-inner.result.now here c.ranges_from-left-in-loop-inner.ensures.same c.is_affected.result c.is_affected.ensures in
+    let here = subst (λ qs. IsWalked rules d (flat (spread gs)) (map (move base) qs ++ spread c.in-Some.others.now) (put_down c.loop-inner.builder) c.loop-inner.builder.run.items c.loop-inner.walk.walker.reached c.loop-inner.left.now) c.in-Some-split_first.ensures.cases.0 kept.walked in
+    let affected = affected_same rules d (flat (spread gs)) (move base p) rest done run reached reps c.ranges_from-left-in-Some-split_first.result.now here c.ranges_from-left-in-Some-split_first.ensures.same c.is_affected.result c.is_affected.ensures in
     let clear = clear_chunk rules d (flat (spread gs)) (move base p) rest done run reached reps here (sym affected ∙ c.if-is_affected.false) in
-    let start : c.place_after-start.result ≡ clear_place d (p.start + base) =
-    c.place_after-start.ensures.value ∙ (ap (λ (s : Sections). place_after s (p.start + base) true) kept.desc ∙ ap (λ o. unwrap_or o 0) (map_pos-clear d (p.start + base) true Simple clear.inside clear.clear)) in
+    let start : c.place_after-to.result ≡ clear_place d (p.start + base) =
+    c.place_after-to.ensures.value ∙ (ap (λ (s : Sections). place_after s (p.start + base) true) kept.desc ∙ ap (λ o. unwrap_or o 0) (map_pos-clear d (p.start + base) true Simple clear.inside clear.clear)) in
     let fits = clear.fits in
     let bound = c.new_len-new_len.ensures in
     let size = c.new_len-new_len.type_inv in
-    chunk_placed rules (p.start + base) c.place_after-start.result p.chunk.value here.chunks.0.0 (omega (arith, start, fits, bound, size))
+    chunk_placed rules (p.start + base) c.place_after-to.result p.chunk.value here.chunks.0.0 (omega (arith, start, fits, bound, size))
 
 pub returns-in_err-share_chunk-clause-cost : goal.returns-in_err-share_chunk-clause-cost
 returns-in_err-share_chunk-clause-cost g c =
@@ -325,62 +286,205 @@ loop-inner-preserved g c =
     let rules = g.T.RangeValue.rules in
     let d = c.args.changes.now in
     let gs = c.args.groups.now in
-    let ps = c.in-Some.placed.now.group.value.chunks.items in
-    let p = c.inner-item.result in
-    let same = c.deref-inner-items.ensures.value ∙ ap (λ (x : Group g.row.T.Denot). x.chunks.items) c.deref-then-is_opened.ensures in
-    let l : c.loop-inner.inner-index < length ps = subst (λ (xs : List (Placed g.row.T.Denot)). c.loop-inner.inner-index < length xs) same c.loop-inner-test.true in
-    let is : p ≡ get_or ps c.loop-inner.inner-index p = subst (λ (xs : List (Placed g.row.T.Denot)). p ≡ get_or xs c.loop-inner.inner-index p) same c.inner-item.is in
+    let whole = flat (spread gs) in
     let base = c.in-Some.placed.now.start in
-    let j = c.loop-inner.inner-index in
     let later = spread c.in-Some.others.now in
-    let rest = map (move base) (drop (j + 1) ps) ++ later in
-    let ranges = map (shift (p.start + base)) p.chunk.value.ranges.items in
+    let p = c.in-Some-split_first.inner.now in
+    let more = c.in-Some-split_first.more.now in
+    let rest = map (move base) more ++ later in
     let done = put_down c.loop-inner.builder in
     let run = c.loop-inner.builder.run.items in
     let reached = c.loop-inner.walk.walker.reached in
     let reps = c.loop-inner.left.now in
-    let after = c.ranges_from-left-in-loop-inner.result.now in
+    let after = c.ranges_from-left-in-Some-split_first.result.now in
     let kept = c.loop-inner.invariant in
-    let here = at_inner rules d (flat (spread gs)) base ps j p later done run reached reps l is kept.walked in
-    let met = c.ranges_from-left-in-loop-inner.ensures.same in
-    let affected = affected_same rules d (flat (spread gs)) (move base p) rest done run reached reps after here met c.is_affected.result c.is_affected.ensures in
+    let here = subst (λ qs. IsWalked rules d whole (map (move base) qs ++ later) done run reached reps) c.in-Some-split_first.ensures.cases.0 kept.walked in
+    let met = c.ranges_from-left-in-Some-split_first.ensures.same in
+    let affected = affected_same rules d whole (move base p) rest done run reached reps after here met c.is_affected.result c.is_affected.ensures in
+    let clear = clear_chunk rules d whole (move base p) rest done run reached reps here (sym affected ∙ c.if-is_affected.false) in
+    let from = p.start + base in
+    let start : c.place_after-to.result ≡ clear_place d from =
+    c.place_after-to.ensures.value ∙ (ap (λ (x : Sections). place_after x from true) kept.desc ∙ ap (λ o. unwrap_or o 0) (map_pos-clear d from true Simple clear.inside clear.clear)) in
+    let put = put_down c.share_chunk.new.self in
+    let next = walked_clear rules d whole (move base p) rest done run put reached reps after here met clear
+    (c.in_ok-share_chunk.ensures.ranges ∙ ap (λ n. done ++ stable_sort (before rules) run ++ map (shift n) p.chunk.value.ranges.items) start) in
+    let same : (b : ℕ) → list_any (meets from b) after ≡ list_any (meets from b) (replaced d) = λ b. met from b (omega arith) ∙ here.same from b (omega arith) in
+    let at = ap (λ qs. allowance rules d (map (move base) qs ++ later)) c.in-Some-split_first.ensures.cases.0 in
+    let shared = c.in_ok-chunks.ensures.shared in
+    let left = map (move base) c.in_ok-chunks.chunks.now in
+    let taken = shared.taken in
+    let walk = c.place_after-to.new.self.walker.reached in
+    let old = flat (grouped c.share_chunk.new.self.groups) in
+    let chunks = built c.share_chunk.new.self.chunks in
+    let new = built c.share_carried.new.self in
+    let carried = flat (map (carry_chunk from (clear_place d from)) taken) in
+    let is : old ++ new ≡ put ++ carried =
+    ap (λ rs. old ++ rs) (shared.ranges ∙ ap (λ n. chunks ++ flat (map (carry_chunk from n) taken)) start) ∙ sym (append_assoc old chunks carried) in
+    let parts : rest ≡ taken ++ (left ++ later) = ap (λ qs. qs ++ later) shared.is ∙ append_assoc taken left later in
+    let spent = kept.cost in
+    let share = ap (λ x. cond x 128 0 + allowance rules d rest) (sym affected ∙ c.if-is_affected.false) in
+    let cut = ap (allowance rules d) parts in
+    let less = allowance_less rules d taken (left ++ later) in
+    record {
+      builder = record { groups = c.in_ok-share_chunk.ensures.builder.groups; chunks = c.in_ok-chunks.ensures.builder };
+      walked = subst (λ rs. IsWalked rules d whole (left ++ later) (old ++ new) rs walk after) (sym c.in_ok-share_chunk.ensures.none)
+          (walked_chunks rules d whole from taken (left ++ later) put (old ++ new) walk after c.place_after-to.ensures.reached
+          (subst (λ qs. IsWalked rules d whole qs put [] walk after) parts (walked_less rules d whole rest put [] walk from after c.place_after-to.ensures.reached next))
+          (subst (λ qs. Ascend from (flat qs)) parts next.ascend) same shared.apart is);
+      desc = c.place_after-to.ensures.desc ∙ kept.desc;
+      clear = c.place_after-to.ensures.walk;
+      begin = c.ranges_from-left-in-Some-split_first.ensures.order;
+      cost = omega (arith, spent, at, share, cut, less);
+    }
+
+pub loop-inner-preserved-in-Continue-branch-3 : goal.loop-inner-preserved-in-Continue-branch-3
+loop-inner-preserved-in-Continue-branch-3 g c =
+    let rules = g.T.RangeValue.rules in
+    let d = c.args.changes.now in
+    let gs = c.args.groups.now in
+    let whole = flat (spread gs) in
+    let base = c.in-Some.placed.now.start in
+    let later = spread c.in-Some.others.now in
+    let p = c.in-Some-split_first.inner.now in
+    let more = c.in-Some-split_first.more.now in
+    let rest = map (move base) more ++ later in
+    let done = put_down c.loop-inner.builder in
+    let run = c.loop-inner.builder.run.items in
+    let reached = c.loop-inner.walk.walker.reached in
+    let reps = c.loop-inner.left.now in
+    let after = c.ranges_from-left-in-Some-split_first.result.now in
+    let kept = c.loop-inner.invariant in
+    let here = subst (λ qs. IsWalked rules d whole (map (move base) qs ++ later) done run reached reps) c.in-Some-split_first.ensures.cases.0 kept.walked in
+    let met = c.ranges_from-left-in-Some-split_first.ensures.same in
+    let affected = affected_same rules d whole (move base p) rest done run reached reps after here met c.is_affected.result c.is_affected.ensures in
+    let at = ap (λ qs. allowance rules d (map (move base) qs ++ later)) c.in-Some-split_first.ensures.cases.0 in
+    let ranges = map (shift (p.start + base)) p.chunk.value.ranges.items in
     let spent = kept.cost in
     let few = here.chunks.0.0.few in
-    let begin = c.ranges_from-left-in-loop-inner.ensures.order in
-    elim c.if-is_affected.branch [
-      | then-is_affected+in_ok-map_each w ↦
-          let share = allowance_inner rules d base ps j p later true l is (sym affected ∙ w.if-is_affected.true) in
-          let each = w.map_each.ensures.cost in
-          let moved_all = w.in_ok-map_each.ensures.run ∙ ap (λ (s : Sections). run ++ filter_map (moved rules s) ranges) kept.desc in
-          record {
-            builder = rw w.builder-is (record { groups = kept.builder.groups; chunks = kept.builder.chunks });
-            walked = rw (w.builder-is, w.walk-is)
-                (walked_each rules d (flat (spread gs)) (move base p) rest done run w.map_each.new.run.items reached w.map_each.new.walk.walker.reached reps after here met moved_all w.in_ok-map_each.ensures.walk);
-            desc = rw w.walk-is (w.in_ok-map_each.ensures.desc ∙ kept.desc);
-            clear = rw w.walk-is w.in_ok-map_each.ensures.clear;
-            begin = begin;
-            cost = rw w.mapped-is (omega (arith, spent, each, few, share));
-          }
-      | else-is_affected+in_ok-share_chunk w ↦
-          let share = allowance_inner rules d base ps j p later false l is (sym affected ∙ w.if-is_affected.false) in
-          let clear = clear_chunk rules d (flat (spread gs)) (move base p) rest done run reached reps here (sym affected ∙ w.if-is_affected.false) in
-          let start : w.place_after-start.result ≡ clear_place d (p.start + base) =
-          w.place_after-start.ensures.value ∙ (ap (λ (s : Sections). place_after s (p.start + base) true) kept.desc ∙ ap (λ o. unwrap_or o 0) (map_pos-clear d (p.start + base) true Simple clear.inside clear.clear)) in
-          let more = w.in_ok-share_chunk.ensures.ranges ∙ ap (λ n. done ++ stable_sort (before rules) run ++ map (shift n) p.chunk.value.ranges.items) start in
-          record {
-            builder = rw w.builder-is w.in_ok-share_chunk.ensures.builder;
-            walked = rw (w.builder-is, w.walk-is, w.in_ok-share_chunk.ensures.none)
-                (walked_less rules d (flat (spread gs)) rest (put_down w.share_chunk.new.self) [] w.place_after-start.new.self.walker.reached (p.start + base) after w.place_after-start.ensures.reached
-                (walked_clear rules d (flat (spread gs)) (move base p) rest done run (put_down w.share_chunk.new.self) reached reps after here met clear more));
-            desc = rw w.walk-is (w.place_after-start.ensures.desc ∙ kept.desc);
-            clear = rw w.walk-is w.place_after-start.ensures.walk;
-            begin = begin;
-            cost = rw w.mapped-is (omega (arith, spent, share));
-          }
-    ]
+    let each = c.map_each.ensures.cost in
+    let share = ap (λ x. cond x 128 0 + allowance rules d rest) (sym affected ∙ c.if-is_affected.true) in
+    let moved_all = c.in_ok-map_each.ensures.run ∙ ap (λ (s : Sections). run ++ filter_map (moved rules s) ranges) kept.desc in
+    record {
+      builder = record { groups = kept.builder.groups; chunks = kept.builder.chunks };
+      walked = walked_each rules d whole (move base p) rest done run c.map_each.new.run.items reached c.map_each.new.walk.walker.reached reps after here met moved_all c.in_ok-map_each.ensures.walk;
+      desc = c.in_ok-map_each.ensures.desc ∙ kept.desc;
+      clear = c.in_ok-map_each.ensures.clear;
+      begin = c.ranges_from-left-in-Some-split_first.ensures.order;
+      cost = omega (arith, spent, each, few, share, at);
+    }
 
-pub place_after-start-requires-else-is_opened-clause-inside : goal.place_after-start-requires-else-is_opened-clause-inside
-place_after-start-requires-else-is_opened-clause-inside g c =
+pub loop-inner-smaller : goal.loop-inner-smaller
+loop-inner-smaller g c =
+    let base = c.in-Some.placed.now.start in
+    let more = c.in-Some-split_first.more.now in
+    let left = c.in_ok-chunks.chunks.now in
+    let shared = c.in_ok-chunks.ensures.shared in
+    let n = ap length c.in-Some-split_first.ensures.cases.0 in
+    let m = ap length shared.is ∙ length-append shared.taken (map (move base) left) in
+    let k = length-map more (move base) in
+    let l = length-map left (move base) in
+    omega (arith, n, m, k, l)
+
+pub share_carried-requires-clause-chunks : goal.share_carried-requires-clause-chunks
+share_carried-requires-clause-chunks g c =
+    let rules = g.T.RangeValue.rules in
+    let d = c.args.changes.now in
+    let gs = c.args.groups.now in
+    let whole = flat (spread gs) in
+    let base = c.in-Some.placed.now.start in
+    let later = spread c.in-Some.others.now in
+    let p = c.in-Some-split_first.inner.now in
+    let more = c.in-Some-split_first.more.now in
+    let rest = map (move base) more ++ later in
+    let done = put_down c.loop-inner.builder in
+    let run = c.loop-inner.builder.run.items in
+    let reached = c.loop-inner.walk.walker.reached in
+    let reps = c.loop-inner.left.now in
+    let after = c.ranges_from-left-in-Some-split_first.result.now in
+    let kept = c.loop-inner.invariant in
+    let here = subst (λ qs. IsWalked rules d whole (map (move base) qs ++ later) done run reached reps) c.in-Some-split_first.ensures.cases.0 kept.walked in
+    let met = c.ranges_from-left-in-Some-split_first.ensures.same in
+    let affected = affected_same rules d whole (move base p) rest done run reached reps after here met c.is_affected.result c.is_affected.ensures in
+    let clear = clear_chunk rules d whole (move base p) rest done run reached reps here (sym affected ∙ c.if-is_affected.false) in
+    let from = p.start + base in
+    let start : c.place_after-to.result ≡ clear_place d from =
+    c.place_after-to.ensures.value ∙ (ap (λ (x : Sections). place_after x from true) kept.desc ∙ ap (λ o. unwrap_or o 0) (map_pos-clear d from true Simple clear.inside clear.clear)) in
+    let put = put_down c.share_chunk.new.self in
+    let next = walked_clear rules d whole (move base p) rest done run put reached reps after here met clear
+    (c.in_ok-share_chunk.ensures.ranges ∙ ap (λ n. done ++ stable_sort (before rules) run ++ map (shift n) p.chunk.value.ranges.items) start) in
+    are_before rules d (map (move base) more) later next.chunks
+
+pub share_carried-requires-clause-ascend : goal.share_carried-requires-clause-ascend
+share_carried-requires-clause-ascend g c =
+    let rules = g.T.RangeValue.rules in
+    let d = c.args.changes.now in
+    let gs = c.args.groups.now in
+    let whole = flat (spread gs) in
+    let base = c.in-Some.placed.now.start in
+    let later = spread c.in-Some.others.now in
+    let p = c.in-Some-split_first.inner.now in
+    let more = c.in-Some-split_first.more.now in
+    let rest = map (move base) more ++ later in
+    let done = put_down c.loop-inner.builder in
+    let run = c.loop-inner.builder.run.items in
+    let reached = c.loop-inner.walk.walker.reached in
+    let reps = c.loop-inner.left.now in
+    let after = c.ranges_from-left-in-Some-split_first.result.now in
+    let kept = c.loop-inner.invariant in
+    let here = subst (λ qs. IsWalked rules d whole (map (move base) qs ++ later) done run reached reps) c.in-Some-split_first.ensures.cases.0 kept.walked in
+    let met = c.ranges_from-left-in-Some-split_first.ensures.same in
+    let affected = affected_same rules d whole (move base p) rest done run reached reps after here met c.is_affected.result c.is_affected.ensures in
+    let clear = clear_chunk rules d whole (move base p) rest done run reached reps here (sym affected ∙ c.if-is_affected.false) in
+    let from = p.start + base in
+    let start : c.place_after-to.result ≡ clear_place d from =
+    c.place_after-to.ensures.value ∙ (ap (λ (x : Sections). place_after x from true) kept.desc ∙ ap (λ o. unwrap_or o 0) (map_pos-clear d from true Simple clear.inside clear.clear)) in
+    let put = put_down c.share_chunk.new.self in
+    let next = walked_clear rules d whole (move base p) rest done run put reached reps after here met clear
+    (c.in_ok-share_chunk.ensures.ranges ∙ ap (λ n. done ++ stable_sort (before rules) run ++ map (shift n) p.chunk.value.ranges.items) start) in
+    ascend-prefix from (flat (map (move base) more)) (flat later) (subst (Ascend from) (flat-append (map (move base) more) later) next.ascend)
+
+pub share_carried-requires-clause-fits : goal.share_carried-requires-clause-fits
+share_carried-requires-clause-fits g c =
+    let rules = g.T.RangeValue.rules in
+    let d = c.args.changes.now in
+    let gs = c.args.groups.now in
+    let whole = flat (spread gs) in
+    let base = c.in-Some.placed.now.start in
+    let later = spread c.in-Some.others.now in
+    let p = c.in-Some-split_first.inner.now in
+    let more = c.in-Some-split_first.more.now in
+    let rest = map (move base) more ++ later in
+    let done = put_down c.loop-inner.builder in
+    let run = c.loop-inner.builder.run.items in
+    let reached = c.loop-inner.walk.walker.reached in
+    let reps = c.loop-inner.left.now in
+    let after = c.ranges_from-left-in-Some-split_first.result.now in
+    let kept = c.loop-inner.invariant in
+    let here = subst (λ qs. IsWalked rules d whole (map (move base) qs ++ later) done run reached reps) c.in-Some-split_first.ensures.cases.0 kept.walked in
+    let met = c.ranges_from-left-in-Some-split_first.ensures.same in
+    let affected = affected_same rules d whole (move base p) rest done run reached reps after here met c.is_affected.result c.is_affected.ensures in
+    let clear = clear_chunk rules d whole (move base p) rest done run reached reps here (sym affected ∙ c.if-is_affected.false) in
+    let from = p.start + base in
+    let start : c.place_after-to.result ≡ clear_place d from =
+    c.place_after-to.ensures.value ∙ (ap (λ (x : Sections). place_after x from true) kept.desc ∙ ap (λ o. unwrap_or o 0) (map_pos-clear d from true Simple clear.inside clear.clear)) in
+    let put = put_down c.share_chunk.new.self in
+    let next = walked_clear rules d whole (move base p) rest done run put reached reps after here met clear
+    (c.in_ok-share_chunk.ensures.ranges ∙ ap (λ n. done ++ stable_sort (before rules) run ++ map (shift n) p.chunk.value.ranges.items) start) in
+    let same : (b : ℕ) → list_any (meets from b) after ≡ list_any (meets from b) (replaced d) = λ b. met from b (omega arith) ∙ here.same from b (omega arith) in
+    let bound = c.new_len-new_len.ensures in
+    let size = c.new_len-new_len.type_inv in
+    subst (λ n. AllChunksCarried from n after (map (move base) more)) (sym start) (chunks_fit rules d from after (map (move base) more) later next.chunks next.ascend next.within same (omega (arith, bound, size)))
+
+pub returns-in_err-chunks-clause-cost : goal.returns-in_err-chunks-clause-cost
+returns-in_err-chunks-clause-cost g c =
+    let rules = g.T.RangeValue.rules in
+    let gs = c.args.groups.now in
+    let top = allowed rules c.args.changes.now 0 (spread gs) (are_spread rules gs c.requires.groups) (rises_ascend rules (flat (spread gs)) (rises-no_fault rules (flat (spread gs)) c.requires.order)) in
+    let spent = c.loop-inner.invariant.cost in
+    omega (arith, top, spent)
+
+pub place_after-start-requires-clause-inside : goal.place_after-start-requires-clause-inside
+place_after-start-requires-clause-inside g c =
     let rules = g.T.RangeValue.rules in
     let d = c.args.changes.now in
     let gs = c.args.groups.now in
@@ -397,8 +501,8 @@ place_after-start-requires-else-is_opened-clause-inside g c =
     let inside = clear.hull.inside in
     omega (arith, size, inside)
 
-pub place_after-start-requires-else-is_opened-clause-ascending : goal.place_after-start-requires-else-is_opened-clause-ascending
-place_after-start-requires-else-is_opened-clause-ascending g c =
+pub place_after-start-requires-clause-ascending : goal.place_after-start-requires-clause-ascending
+place_after-start-requires-clause-ascending g c =
     let rules = g.T.RangeValue.rules in
     let d = c.args.changes.now in
     let gs = c.args.groups.now in
@@ -413,8 +517,8 @@ place_after-start-requires-else-is_opened-clause-ascending g c =
     let clear = clear_group rules d whole p others done run c.loop-placed.walk.walker.reached c.loop-placed.left.now c.ranges_from-left.result.now groups c.ranges_from-left.ensures.same walked (c.is_opened.ensures c.if-is_opened.false) in
     clear.ascend
 
-pub place_after-start-requires-else-is_opened-clause-clear : goal.place_after-start-requires-else-is_opened-clause-clear
-place_after-start-requires-else-is_opened-clause-clear g c =
+pub place_after-start-requires-clause-clear : goal.place_after-start-requires-clause-clear
+place_after-start-requires-clause-clear g c =
     let rules = g.T.RangeValue.rules in
     let d = c.args.changes.now in
     let gs = c.args.groups.now in
@@ -429,8 +533,8 @@ place_after-start-requires-else-is_opened-clause-clear g c =
     let clear = clear_group rules d whole p others done run c.loop-placed.walk.walker.reached c.loop-placed.left.now c.ranges_from-left.result.now groups c.ranges_from-left.ensures.same walked (c.is_opened.ensures c.if-is_opened.false) in
     subst (λ (x : Sections). IsClear p.start p.start x) (sym kept.desc) clear.hull.clear
 
-pub place_after-start-requires-else-is_opened-clause-same : goal.place_after-start-requires-else-is_opened-clause-same
-place_after-start-requires-else-is_opened-clause-same g c = λ a b m.
+pub place_after-start-requires-clause-same : goal.place_after-start-requires-clause-same
+place_after-start-requires-clause-same g c = λ a b m.
     let rules = g.T.RangeValue.rules in
     let d = c.args.changes.now in
     let gs = c.args.groups.now in
@@ -477,12 +581,12 @@ share_group-requires-clause-group g c =
     let groups = subst (AreGroups rules) c.in-Some.ensures.cases.0 kept.groups in
     let walked = subst (λ hs. IsWalked rules d (flat (spread gs)) (spread hs) (put_down c.loop-placed.builder) c.loop-placed.builder.run.items c.loop-placed.walk.walker.reached c.loop-placed.left.now) c.in-Some.ensures.cases.0 kept.walked in
     let clear = clear_group rules d whole p others done run c.loop-placed.walk.walker.reached c.loop-placed.left.now c.ranges_from-left.result.now groups c.ranges_from-left.ensures.same walked (c.is_opened.ensures c.if-is_opened.false) in
-    let start : c.place_after-start-else-is_opened.result ≡ clear_place d p.start =
-    c.place_after-start-else-is_opened.ensures.value ∙ (ap (λ (x : Sections). place_after x p.start true) kept.desc ∙ ap (λ o. unwrap_or o 0) (map_pos-clear d p.start true Simple clear.hull.inside clear.hull.clear)) in
+    let start : c.place_after-start.result ≡ clear_place d p.start =
+    c.place_after-start.ensures.value ∙ (ap (λ (x : Sections). place_after x p.start true) kept.desc ∙ ap (λ o. unwrap_or o 0) (map_pos-clear d p.start true Simple clear.hull.inside clear.hull.clear)) in
     let fits = clear.hull.fits in
     let bound = c.new_len-new_len.ensures in
     let size = c.new_len-new_len.type_inv in
-    group_placed rules p.start c.place_after-start-else-is_opened.result p.group.value groups.0.0 (omega (arith, start, fits, bound, size))
+    group_placed rules p.start c.place_after-start.result p.group.value groups.0.0 (omega (arith, start, fits, bound, size))
 
 pub share_group-requires-clause-some : goal.share_group-requires-clause-some
 share_group-requires-clause-some g c =
@@ -514,29 +618,8 @@ returns-in_err-share_group-clause-cost g c =
     let spent = c.loop-placed.invariant.cost in
     omega (arith, top, spent)
 
-pub loop-placed-preserved-in-loop-inner : goal.loop-placed-preserved-in-loop-inner
-loop-placed-preserved-in-loop-inner g c =
-    let rules = g.T.RangeValue.rules in
-    let d = c.args.changes.now in
-    let p = c.in-Some.placed.now in
-    let others = c.in-Some.others.now in
-    let ps = p.group.value.chunks.items in
-    let same = c.deref-inner-items.ensures.value ∙ ap (λ (x : Group g.row.T.Denot). x.chunks.items) c.deref-then-is_opened.ensures in
-    let end : length ps ≤ c.loop-inner.inner-index = subst (λ (xs : List (Placed g.row.T.Denot)). length xs ≤ c.loop-inner.inner-index) same c.loop-inner-test.false in
-    let rest = no_inner p.start ps c.loop-inner.inner-index (spread others) end in
-    let inner = c.loop-inner.invariant in
-    record {
-      builder = inner.builder;
-      groups = (subst (AreGroups rules) c.in-Some.ensures.cases.0 c.loop-placed.invariant.groups).1;
-      walked = subst (λ qs. IsWalked rules d (flat (spread c.args.groups.now)) qs (put_down c.loop-inner.builder) c.loop-inner.builder.run.items c.loop-inner.walk.walker.reached c.loop-inner.left.now) rest inner.walked;
-      desc = inner.desc;
-      clear = inner.clear;
-      begin = inner.begin;
-      cost = let a = inner.cost in let b = ap (allowance rules d) rest in omega (arith, a, b);
-    }
-
-pub share_carried-requires-clause-ascend : goal.share_carried-requires-clause-ascend
-share_carried-requires-clause-ascend g c =
+pub share_carried-requires-else-is_opened-clause-ascend : goal.share_carried-requires-else-is_opened-clause-ascend
+share_carried-requires-else-is_opened-clause-ascend g c =
     let rules = g.T.RangeValue.rules in
     let d = c.args.changes.now in
     let gs = c.args.groups.now in
@@ -553,15 +636,15 @@ share_carried-requires-clause-ascend g c =
     let groups = subst (AreGroups rules) c.in-Some.ensures.cases.0 kept.groups in
     let walked = subst (λ hs. IsWalked rules d whole (spread hs) done run reached reps) c.in-Some.ensures.cases.0 kept.walked in
     let clear = clear_group rules d whole p others done run reached reps after groups met walked (c.is_opened.ensures c.if-is_opened.false) in
-    let start : c.place_after-start-else-is_opened.result ≡ clear_place d p.start =
-    c.place_after-start-else-is_opened.ensures.value ∙ (ap (λ (x : Sections). place_after x p.start true) kept.desc ∙ ap (λ o. unwrap_or o 0) (map_pos-clear d p.start true Simple clear.hull.inside clear.hull.clear)) in
+    let start : c.place_after-start.result ≡ clear_place d p.start =
+    c.place_after-start.ensures.value ∙ (ap (λ (x : Sections). place_after x p.start true) kept.desc ∙ ap (λ o. unwrap_or o 0) (map_pos-clear d p.start true Simple clear.hull.inside clear.hull.clear)) in
     let put = put_down c.share_group.new.self in
     let more = c.in_ok-share_group.ensures.ranges ∙ ap (λ n. done ++ stable_sort (before rules) run ++ map (shift n) (flat p.group.value.chunks.items)) start in
     let next = walked_group rules d whole p others done run put reached reps after groups met walked clear more in
     next.ascend
 
-pub share_carried-requires-clause-fits : goal.share_carried-requires-clause-fits
-share_carried-requires-clause-fits g c =
+pub share_carried-requires-else-is_opened-clause-fits : goal.share_carried-requires-else-is_opened-clause-fits
+share_carried-requires-else-is_opened-clause-fits g c =
     let rules = g.T.RangeValue.rules in
     let d = c.args.changes.now in
     let gs = c.args.groups.now in
@@ -578,8 +661,8 @@ share_carried-requires-clause-fits g c =
     let groups = subst (AreGroups rules) c.in-Some.ensures.cases.0 kept.groups in
     let walked = subst (λ hs. IsWalked rules d whole (spread hs) done run reached reps) c.in-Some.ensures.cases.0 kept.walked in
     let clear = clear_group rules d whole p others done run reached reps after groups met walked (c.is_opened.ensures c.if-is_opened.false) in
-    let start : c.place_after-start-else-is_opened.result ≡ clear_place d p.start =
-    c.place_after-start-else-is_opened.ensures.value ∙ (ap (λ (x : Sections). place_after x p.start true) kept.desc ∙ ap (λ o. unwrap_or o 0) (map_pos-clear d p.start true Simple clear.hull.inside clear.hull.clear)) in
+    let start : c.place_after-start.result ≡ clear_place d p.start =
+    c.place_after-start.ensures.value ∙ (ap (λ (x : Sections). place_after x p.start true) kept.desc ∙ ap (λ o. unwrap_or o 0) (map_pos-clear d p.start true Simple clear.hull.inside clear.hull.clear)) in
     let put = put_down c.share_group.new.self in
     let more = c.in_ok-share_group.ensures.ranges ∙ ap (λ n. done ++ stable_sort (before rules) run ++ map (shift n) (flat p.group.value.chunks.items)) start in
     let next = walked_group rules d whole p others done run put reached reps after groups met walked clear more in
@@ -588,8 +671,8 @@ share_carried-requires-clause-fits g c =
     let size = c.new_len-new_len.type_inv in
     subst (λ n. AllCarried p.start n after others) (sym start) (carried_fit rules d p.start after others groups.1 next.ascend next.within same (omega (arith, bound, size)))
 
-pub share_carried-requires-clause-room : goal.share_carried-requires-clause-room
-share_carried-requires-clause-room g c =
+pub share_carried-requires-else-is_opened-clause-room : goal.share_carried-requires-else-is_opened-clause-room
+share_carried-requires-else-is_opened-clause-room g c =
     let rules = g.T.RangeValue.rules in
     let d = c.args.changes.now in
     let gs = c.args.groups.now in
@@ -606,8 +689,8 @@ share_carried-requires-clause-room g c =
     let groups = subst (AreGroups rules) c.in-Some.ensures.cases.0 kept.groups in
     let walked = subst (λ hs. IsWalked rules d whole (spread hs) done run reached reps) c.in-Some.ensures.cases.0 kept.walked in
     let clear = clear_group rules d whole p others done run reached reps after groups met walked (c.is_opened.ensures c.if-is_opened.false) in
-    let start : c.place_after-start-else-is_opened.result ≡ clear_place d p.start =
-    c.place_after-start-else-is_opened.ensures.value ∙ (ap (λ (x : Sections). place_after x p.start true) kept.desc ∙ ap (λ o. unwrap_or o 0) (map_pos-clear d p.start true Simple clear.hull.inside clear.hull.clear)) in
+    let start : c.place_after-start.result ≡ clear_place d p.start =
+    c.place_after-start.ensures.value ∙ (ap (λ (x : Sections). place_after x p.start true) kept.desc ∙ ap (λ o. unwrap_or o 0) (map_pos-clear d p.start true Simple clear.hull.inside clear.hull.clear)) in
     let put = put_down c.share_group.new.self in
     let more = c.in_ok-share_group.ensures.ranges ∙ ap (λ n. done ++ stable_sort (before rules) run ++ map (shift n) (flat p.group.value.chunks.items)) start in
     let next = walked_group rules d whole p others done run put reached reps after groups met walked clear more in
@@ -642,8 +725,8 @@ loop-placed-preserved g c =
     let groups = subst (AreGroups rules) c.in-Some.ensures.cases.0 kept.groups in
     let walked = subst (λ hs. IsWalked rules d whole (spread hs) done run reached reps) c.in-Some.ensures.cases.0 kept.walked in
     let clear = clear_group rules d whole p others done run reached reps after groups met walked (c.is_opened.ensures c.if-is_opened.false) in
-    let start : c.place_after-start-else-is_opened.result ≡ clear_place d p.start =
-    c.place_after-start-else-is_opened.ensures.value ∙ (ap (λ (x : Sections). place_after x p.start true) kept.desc ∙ ap (λ o. unwrap_or o 0) (map_pos-clear d p.start true Simple clear.hull.inside clear.hull.clear)) in
+    let start : c.place_after-start.result ≡ clear_place d p.start =
+    c.place_after-start.ensures.value ∙ (ap (λ (x : Sections). place_after x p.start true) kept.desc ∙ ap (λ o. unwrap_or o 0) (map_pos-clear d p.start true Simple clear.hull.inside clear.hull.clear)) in
     let put = put_down c.share_group.new.self in
     let more = c.in_ok-share_group.ensures.ranges ∙ ap (λ n. done ++ stable_sort (before rules) run ++ map (shift n) (flat p.group.value.chunks.items)) start in
     let next = walked_group rules d whole p others done run put reached reps after groups met walked clear more in
@@ -651,9 +734,9 @@ loop-placed-preserved g c =
     let shared = c.in_ok-rest.ensures.shared in
     let rest = c.in_ok-rest.rest.now in
     let taken = shared.taken in
-    let walk = c.place_after-start-else-is_opened.new.self.walker.reached in
+    let walk = c.place_after-start.new.self.walker.reached in
     let old = flat (grouped c.share_group.new.self.groups) in
-    let new = flat (grouped c.share_carried.new.self) in
+    let new = flat (grouped c.share_carried-else-is_opened.new.self) in
     let chunks = built c.share_group.new.self.chunks in
     let ended = c.in_ok-share_group.ensures.ended in
     let carried = flat (spread (map (carry p.start (clear_place d p.start)) taken)) in
@@ -672,11 +755,11 @@ loop-placed-preserved g c =
       builder = record { groups = c.in_ok-rest.ensures.builder; chunks = c.in_ok-share_group.ensures.builder.chunks };
       groups = groups_right rules taken rest (subst (AreGroups rules) shared.is groups.1);
       walked = subst (λ rs. IsWalked rules d whole (spread rest) (new ++ chunks) rs walk after) (sym c.in_ok-share_group.ensures.none)
-          (walked_carried rules d whole p.start taken rest put (new ++ chunks) walk after (subst (AreGroups rules) shared.is groups.1) c.place_after-start-else-is_opened.ensures.reached
-          (subst (λ hs. IsWalked rules d whole (spread hs) put [] walk after) shared.is (walked_less rules d whole (spread others) put [] walk p.start after c.place_after-start-else-is_opened.ensures.reached next))
+          (walked_carried rules d whole p.start taken rest put (new ++ chunks) walk after (subst (AreGroups rules) shared.is groups.1) c.place_after-start.ensures.reached
+          (subst (λ hs. IsWalked rules d whole (spread hs) put [] walk after) shared.is (walked_less rules d whole (spread others) put [] walk p.start after c.place_after-start.ensures.reached next))
           (subst (λ hs. Ascend p.start (flat (spread hs))) shared.is next.ascend) same shared.apart is);
-      desc = c.place_after-start-else-is_opened.ensures.desc ∙ kept.desc;
-      clear = c.place_after-start-else-is_opened.ensures.walk;
+      desc = c.place_after-start.ensures.desc ∙ kept.desc;
+      clear = c.place_after-start.ensures.walk;
       begin = c.ranges_from-left.ensures.order;
       cost = omega (arith, cost, at, share, parts, passed);
     }

@@ -22,7 +22,7 @@ invariant-loop-placed g l =
 abbrev pub invariant-loop-inner : goal.invariant-loop-inner
 invariant-loop-inner g l =
     let rules = g.T.RangeValue.rules in
-    let rest = map (move l.placed.start) (drop l.inner-index l.placed.group.value.chunks.items) ++ spread l.rest in
+    let rest = map (move l.placed.start) l.chunks ++ spread l.rest in
     record {
       builder : IsMappedBuilder rules l.builder;
       walked : IsWalked rules l.changes (flat (spread l.groups)) rest (put_down l.builder) l.builder.run.items l.walk.walker.reached l.left;
@@ -34,3 +34,6 @@ invariant-loop-inner g l =
 
 abbrev pub decreases-loop-placed : goal.decreases-loop-placed
 decreases-loop-placed g l = length l.rest
+
+abbrev pub decreases-loop-inner : goal.decreases-loop-inner
+decreases-loop-inner g l = length l.chunks

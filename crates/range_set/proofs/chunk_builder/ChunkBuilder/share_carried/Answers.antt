@@ -1,0 +1,35 @@
+use Rattle.std.proofs.Common.{◌≡◌, ◌+◌, ◌-◌, ◌∷◌, map, ap, sym, subst, ◌∙◌, arith}
+use Rattle.std.specs.List.{list_any}
+use Rattle.change_desc.specs.Ranges.{meets}
+use Rattle.range_set.specs.PrivateChunks.{AllChunksCarried, AreChunks, AreChunksShared, Ascend, built, flat, move}
+use Rattle.range_set.specs.declared.chunk.Chunk.{Chunk}
+use Rattle.range_set.proofs.Carried.{chunks_shared_more}
+use Rattle.range_set.proofs.Chunks.{ascend-less}
+use Rattle.range_set.proofs.Groups.{begins}
+use Rattle.range_set.proofs.Walked.{ascend_hull}
+use Rattle.range_set.proofs.chunk_builder.ChunkBuilder.share_carried.Goals as goal
+
+pub loop-placed-preserved : goal.loop-placed-preserved
+loop-placed-preserved g c =
+    let rules = g.T.RangeValue.rules in
+    let base = c.args.base in
+    let from = c.args.from in
+    let to = c.args.to in
+    let p = move base c.in-Some.placed.now in
+    let others = map (move base) c.in-Some.others.now in
+    let at = c.loop-placed.invariant in
+    let is = ap (map (move base)) c.in-Some.ensures.cases.0 in
+    let chunks = subst (AreChunks rules) is at.chunks in
+    let ascend = subst (λ ps. Ascend from (flat ps)) is at.ascend in
+    let hull = ascend_hull from p.start p.chunk.value.ranges.items (flat others) chunks.0.1 chunks.0.0.first ascend in
+    let turned = sym (ap (λ (x : Chunk g.row.T.Denot). x.is_turned) c.deref-in-Some.ensures) ∙ c.if-deref.false in
+    let met = ap (λ (x : Chunk g.row.T.Denot). list_any (meets from (p.start + x.reach)) c.args.changed.now) (sym c.deref.ensures) ∙ (sym c.first_meets.ensures ∙ c.if-first_meets.false) in
+    record {
+      builder = c.in_ok-put_shared.ensures.builder;
+      growing = ap (λ x. x.ranges.items) c.in_ok-put_shared.ensures.growing ∙ at.growing;
+      chunks = chunks.1;
+      ascend = ascend-less from p.start (flat others) hull.0 hull.1;
+      fits = (subst (AllChunksCarried from to c.args.changed.now) is at.fits).1;
+      shared = chunks_shared_more from to c.args.changed.now (map (move base) c.args.chunks.now) p others (built c.args.self.now) (built c.loop-placed.self) _
+          (subst (λ ps. AreChunksShared from to c.args.changed.now (map (move base) c.args.chunks.now) ps (built c.args.self.now) (built c.loop-placed.self)) is at.shared) turned met c.in_ok-put_shared.ensures.ranges;
+    }

@@ -1,0 +1,16 @@
+use Rattle.std.proofs.Common.{◌≡◌, [], length, map}
+use Rattle.range_set.specs.PrivateChunks.{AllChunksCarried, AreChunks, AreChunksShared, Ascend, IsBuilder, built, flat, move}
+use Rattle.range_set.proofs.chunk_builder.ChunkBuilder.share_carried.Given as goal
+
+abbrev pub invariant-loop-placed : goal.invariant-loop-placed
+invariant-loop-placed g l = record {
+  builder : IsBuilder g.T.RangeValue.rules l.self;
+  growing : l.self.growing.ranges.items ≡ [];
+  chunks : AreChunks g.T.RangeValue.rules (map (move l.base) l.rest);
+  ascend : Ascend l.from (flat (map (move l.base) l.rest));
+  fits : AllChunksCarried l.from l.to l.changed (map (move l.base) l.rest);
+  shared : AreChunksShared l.from l.to l.changed (map (move l.base) l.chunks) (map (move l.base) l.rest) (built l.fn.self) (built l.self);
+}
+
+abbrev pub decreases-loop-placed : goal.decreases-loop-placed
+decreases-loop-placed g l = length l.rest
