@@ -1,5 +1,5 @@
 -- Groups of which some are opened, and their chunks walked one by one.
-use Rattle.std.proofs.Common.{◌≡◌, ℕ, zero, suc, ◌+◌, ◌-◌, ◌^◌, ◌<◌, ◌≤◌, ◌||◌, true, false, Bool, cond, List, [], ◌∷◌, ◌++◌, length, get_or, drop, map, refl, sym, ap, subst, ◌∙◌, arith, append_assoc}
+use Rattle.std.proofs.Common.{◌≡◌, ℕ, zero, suc, ◌+◌, ◌-◌, ◌^◌, ◌<◌, ◌≤◌, ◌||◌, true, false, Bool, List, [], ◌∷◌, ◌++◌, length, drop, map, refl, sym, ap, subst, ◌∙◌, arith, append_assoc}
 use Rattle.std.proofs.lemmas.List.{append-nil, length-append}
 use Rattle.std.specs.List.{list_any}
 use Rattle.change_desc.specs.Sections.{counted, new_size, old_size}
@@ -8,11 +8,11 @@ use Rattle.change_desc.specs.declared.changed_range.ChangedRange.{ChangedRange}
 use Rattle.stable_order.specs.StableSort.{stable_sort}
 use Rattle.range_set.specs.Rules.{RangeRules}
 use Rattle.range_set.specs.Order.{before}
-use Rattle.range_set.specs.PrivateChunks.{AllApart, AllCarried, AllChunksApart, AllChunksCarried, AreChunks, AreGroups, Ascend, IsGroup, carry, carry_chunk, first_start, flat, move, shift, spread}
+use Rattle.range_set.specs.PrivateChunks.{AllApart, FitCarried, AllChunksApart, FitCarriedChunks, AreChunks, AreGroups, Ascend, IsGroup, carry, carry_chunk, first_start, flat, move, shift, spread}
 use Rattle.range_set.specs.declared.ranged.Ranged.{Ranged}
 use Rattle.range_set.specs.declared.chunk.Placed.{Placed}
 use Rattle.range_set.specs.declared.group.PlacedGroup.{PlacedGroup}
-use Rattle.range_set.proofs.Chunks.{ascend-less, length_shifted, rest_at}
+use Rattle.range_set.proofs.Chunks.{ascend-less, length_shifted}
 use Rattle.range_set.proofs.Clear.{IsClear, Sections, clear_apart, clear_place, none-narrow}
 use Rattle.range_set.proofs.Cost.{allowance, chunk_affected}
 use Rattle.range_set.proofs.Each.{Within}
@@ -173,7 +173,7 @@ module _ {T : Type 0} (rules : RangeRules T) (d : Sections) where
       (e ∙ (ap (λ rs. done ++ rs) (flat-spread (carry from (clear_place d from) g) (map (carry from (clear_place d from)) gs)) ∙ sym (append_assoc done put (flat (spread (map (carry from (clear_place d from)) gs))))))
 
   pub carried_fit : (from : ℕ) (changed : List ChangedRange) (gs : List (PlacedGroup T)) → AreGroups rules gs → Ascend from (flat (spread gs)) → Within (old_size d) (flat (spread gs))
-      → ((b : ℕ) → list_any (meets from b) changed ≡ list_any (meets from b) (replaced d)) → new_size counted d < 2 ^ 32 → AllCarried from (clear_place d from) changed gs
+      → ((b : ℕ) → list_any (meets from b) changed ≡ list_any (meets from b) (replaced d)) → new_size counted d < 2 ^ 32 → FitCarried from (clear_place d from) changed gs
   carried_fit from changed [] h asc w f size = tt
   carried_fit from changed (g ∷ gs) h asc w f size =
       let ranges = flat g.group.value.chunks.items in
@@ -215,7 +215,7 @@ module _ {T : Type 0} (rules : RangeRules T) (d : Sections) where
       (e ∙ sym (append_assoc done put (flat (map (carry_chunk from (clear_place d from)) ps))))
 
   pub chunks_fit : (from : ℕ) (changed : List ChangedRange) (ps others : List (Placed T)) → AreChunks rules (ps ++ others) → Ascend from (flat (ps ++ others)) → Within (old_size d) (flat (ps ++ others))
-      → ((b : ℕ) → list_any (meets from b) changed ≡ list_any (meets from b) (replaced d)) → new_size counted d < 2 ^ 32 → AllChunksCarried from (clear_place d from) changed ps
+      → ((b : ℕ) → list_any (meets from b) changed ≡ list_any (meets from b) (replaced d)) → new_size counted d < 2 ^ 32 → FitCarriedChunks from (clear_place d from) changed ps
   chunks_fit from changed [] others h asc w f size = tt
   chunks_fit from changed (p ∷ ps) others h asc w f size =
       let ranges = p.chunk.value.ranges.items in

@@ -1,4 +1,5 @@
--- Groups of chunks as one list of ranges. Private: contracts of sets see that list alone.
+-- Groups of chunks as one list of ranges, and groups and chunks that are shared one after another, moved as far as one place.
+-- Private: contracts of sets see that list alone.
 use Rattle.std.specs.Prelude.{◌≡◌, ◌⊎◌, ℕ, false, ◌+◌, ◌-◌, ◌^◌, ◌<◌, ◌≤◌, max, List, None, [], ◌∷◌, ◌++◌, length, map}
 use Rattle.std.specs.List.{list_any}
 use Rattle.change_desc.specs.Ranges.{meets}
@@ -81,9 +82,9 @@ module _ {T : Type 0} where
   AllApart from changed (g ∷ gs) = ((g.group.value.is_turned ≡ false) × (list_any (meets from (g.start + g.group.value.reach)) changed ≡ false)) × AllApart from changed gs
 
   -- the groups fit their types as far on as the place from goes to the place to, where no range meets what is between
-  abbrev pub AllCarried : (from to : ℕ) → List ChangedRange → List (PlacedGroup T) → Type 0
-  AllCarried from to changed [] = Unit {0}
-  AllCarried from to changed (g ∷ gs) = (list_any (meets from (g.start + g.group.value.reach)) changed ≡ false → g.start - from + to + g.group.value.reach < 2 ^ 32) × AllCarried from to changed gs
+  abbrev pub FitCarried : (from to : ℕ) → List ChangedRange → List (PlacedGroup T) → Type 0
+  FitCarried from to changed [] = Unit {0}
+  FitCarried from to changed (g ∷ gs) = (list_any (meets from (g.start + g.group.value.reach)) changed ≡ false → g.start - from + to + g.group.value.reach < 2 ^ 32) × FitCarried from to changed gs
 
   -- the first of some groups were put after ranges, as far on as the place from goes to the place to, and the others were left
   pub record AreShared (from to : ℕ) (changed : List ChangedRange) (groups rest : List (PlacedGroup T)) (old new : List (Ranged T)) : Type 0 where
@@ -102,9 +103,9 @@ module _ {T : Type 0} where
   AllChunksApart from changed (p ∷ ps) = ((p.chunk.value.is_turned ≡ false) × (list_any (meets from (p.start + p.chunk.value.reach)) changed ≡ false)) × AllChunksApart from changed ps
 
   -- the chunks fit their types as far on as the place from goes to the place to, where no range meets what is between
-  abbrev pub AllChunksCarried : (from to : ℕ) → List ChangedRange → List (Placed T) → Type 0
-  AllChunksCarried from to changed [] = Unit {0}
-  AllChunksCarried from to changed (p ∷ ps) = (list_any (meets from (p.start + p.chunk.value.reach)) changed ≡ false → p.start - from + to + p.chunk.value.reach < 2 ^ 32) × AllChunksCarried from to changed ps
+  abbrev pub FitCarriedChunks : (from to : ℕ) → List ChangedRange → List (Placed T) → Type 0
+  FitCarriedChunks from to changed [] = Unit {0}
+  FitCarriedChunks from to changed (p ∷ ps) = (list_any (meets from (p.start + p.chunk.value.reach)) changed ≡ false → p.start - from + to + p.chunk.value.reach < 2 ^ 32) × FitCarriedChunks from to changed ps
 
   -- the first of some chunks were put after ranges, as far on as the place from goes to the place to, and the others were left
   pub record AreChunksShared (from to : ℕ) (changed : List ChangedRange) (chunks rest : List (Placed T)) (old new : List (Ranged T)) : Type 0 where

@@ -1,7 +1,7 @@
 ghost use Rattle.std.specs.Prelude.{IfOk, IsTrue, false, [], ◌++◌, ◌+◌, ◌∷◌, ◌≡◌, ◌≤◌, ◌<◌, ◌^◌, length, map};
 ghost use Rattle.range_set.specs.Order.{AllForward};
 ghost use Rattle.change_desc.specs.Meeting.{BeginAfter, EndsAtOrAfter};
-ghost use Rattle.range_set.specs.PrivateChunks.{AllChunksCarried, AreChunks, AreChunksShared, Ascend, BeginBy, IsBuilder, IsChunk, built, flat, move, shift};
+ghost use Rattle.range_set.specs.PrivateChunks.{FitCarriedChunks, AreChunks, AreChunksShared, Ascend, BeginBy, IsBuilder, IsChunk, built, flat, move, shift};
 
 use crate::chunk::{Chunk, FEW_RANGES, MAX_RANGES, MAX_SHARED_LEN, Placed, stands_alone};
 use crate::range_value::RangeValue;
@@ -134,9 +134,10 @@ impl<T: RangeValue> ChunkBuilder<T> {
         Ok(())
     }
 
-    /// Puts the first of some chunks, which count from the place `base`, after the ranges, up to one that is turned, or from the place
-    /// `from` to the end of which a range that is replaced is met; each as far on as `from` goes to `to`; and shares them. Gives the
-    /// others. Of the replaced ranges the first doesn't end before `from`. `Err`: out of memory.
+    /// Shares the first of some chunks, which count from the place `base`, after the ranges, each moved as far as the place `from` is
+    /// where it goes to `to`, and gives the others: from the first on that ends at or after the start of a replaced range, or in which
+    /// an empty range has an end side less than its start side. `changed` are the replaced ranges from the first on that doesn't end
+    /// before `from`. `Err`: out of memory.
     pub(crate) fn share_carried<'a>(
         &mut self,
         chunks: &'a [Placed<T>],
@@ -148,7 +149,7 @@ impl<T: RangeValue> ChunkBuilder<T> {
         requires builder { IsBuilder T.rules self.old }
         requires chunks { AreChunks T.rules (map (move base) chunks.now) }
         requires ascend { Ascend from (flat (map (move base) chunks.now)) }
-        requires fits { AllChunksCarried from to changed.now (map (move base) chunks.now) }
+        requires fits { FitCarriedChunks from to changed.now (map (move base) chunks.now) }
         requires order { BeginAfter 0 changed.now }
         requires first { EndsAtOrAfter from changed.now }
         ensures builder { IfOk result (λ _. IsBuilder T.rules self.new) }

@@ -1,6 +1,6 @@
 ghost use Rattle.std.specs.Prelude.{IfOk, IsTrue, false, [], ◌++◌, ◌∷◌, ◌+◌, ◌≡◌, ◌≤◌, ◌<◌, ◌^◌, length, map};
 ghost use Rattle.change_desc.specs.Meeting.{BeginAfter, EndsAtOrAfter};
-ghost use Rattle.range_set.specs.PrivateChunks.{AllCarried, AreChunks, AreGroups, AreGroupsOf, AreShared, Ascend, BeginBy, IsChunk, IsGroup, IsGroupBuilder, flat, grouped, move, spread};
+ghost use Rattle.range_set.specs.PrivateChunks.{FitCarried, AreChunks, AreGroups, AreGroupsOf, AreShared, Ascend, BeginBy, IsChunk, IsGroup, IsGroupBuilder, flat, grouped, move, spread};
 
 use crate::chunk::Placed;
 use crate::group::{Group, MAX_CHUNKS, PlacedGroup, few_of, full_among, full_for};
@@ -174,9 +174,9 @@ impl<T: RangeValue> GroupBuilder<T> {
         Ok(())
     }
 
-    /// Puts the first groups after the ranges, up to one that is turned, or from the place `from` to the end of which a range that is
-    /// replaced is met; each as far on as `from` goes to `to`; and shares them. Gives the others. Of the replaced ranges the first
-    /// doesn't end before `from`. `Err`: out of memory.
+    /// Shares the first groups after the ranges, each moved as far as the place `from` is where it goes to `to`, and gives the others:
+    /// from the first on that ends at or after the start of a replaced range, or in which an empty range has an end side less than
+    /// its start side. `changed` are the replaced ranges from the first on that doesn't end before `from`. `Err`: out of memory.
     pub(crate) fn share_carried<'a>(
         &mut self,
         groups: &'a [PlacedGroup<T>],
@@ -187,7 +187,7 @@ impl<T: RangeValue> GroupBuilder<T> {
         requires builder { IsGroupBuilder T.rules self.old }
         requires groups { AreGroups T.rules groups.now }
         requires ascend { Ascend from (flat (spread groups.now)) }
-        requires fits { AllCarried from to changed.now groups.now }
+        requires fits { FitCarried from to changed.now groups.now }
         requires order { BeginAfter 0 changed.now }
         requires first { EndsAtOrAfter from changed.now }
         requires room { length (flat (grouped self.old)) + length (flat (spread groups.now)) < 2 ^ 64 }

@@ -74,7 +74,8 @@ impl<T: RangeValue> MappedBuilder<T> {
         self.chunks.share(start, chunk)
     }
 
-    /// Sorts the run and puts a group after it, at a place of its own, and shares it. `Err`: out of memory.
+    /// Sorts the run and puts a group after it, at a place of its own, and shares it. No chunks are left outside groups. `Err`: out of
+    /// memory.
     pub(crate) fn share_group(&mut self, start: u32, group: &Rc<Group<T>>) -> Result<(), AllocError>
         requires builder { IsMappedBuilder T.rules self.old }
         requires order { Ascend 0 (put_down self.old ++ stable_sort (before T.rules) self.old.run.items) }
@@ -99,7 +100,7 @@ impl<T: RangeValue> MappedBuilder<T> {
         requires room { length (put_down self.old) < 2 ^ 64 }
         ensures builder { IfOk result (λ _. IsMappedBuilder T.rules self.new) }
         ensures ranges { IfOk result (λ _. flat (grouped self.new.groups) ≡ put_down self.old) }
-        ensures none { IfOk result (λ _. built self.new.chunks ≡ []) }
+        ensures ended { IfOk result (λ _. built self.new.chunks ≡ []) }
         ensures run { IfOk result (λ _. self.new.run ≡ self.old.run) }
     {
         if self.chunks.is_empty() {

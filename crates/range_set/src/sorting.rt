@@ -46,7 +46,7 @@ fn put_run<T: RangeValue>(
     put_all(ranges, builder)
 }
 
-/// Sorts ranges stably. Those that are in order, as most runs are, are only looked at. `Err`: out of memory.
+/// Sorts ranges stably. Those that are in order, as most runs are, are left as they are, after one look. `Err`: out of memory.
 fn sort<T: RangeValue>(ranges: &mut Vec<Ranged<T>>) -> Result<(), AllocError>
     ensures { IfOk result (λ _. ranges.new.items ≡ stable_sort (before T.rules) ranges.old.items) }
 {

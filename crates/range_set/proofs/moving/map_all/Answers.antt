@@ -1,4 +1,4 @@
-use Rattle.std.proofs.Common.{[], ◌≡◌, ℕ, cond, ◌+◌, ◌<◌, ◌≤◌, List, get_or, ◌++◌, drop, map, filter_map, length, true, false, ap, subst, sym, ◌∙◌, arith, append_assoc}
+use Rattle.std.proofs.Common.{[], ◌≡◌, ℕ, cond, ◌+◌, ◌++◌, map, filter_map, length, true, ap, subst, sym, ◌∙◌, arith, append_assoc}
 use Rattle.std.proofs.lemmas.List.{append-nil, length-append, length-map, nil_from_length}
 use Rattle.std.proofs.lemmas.Result.{IfOk-weaker}
 use Rattle.std.specs.Prelude.{unwrap_or}
@@ -13,8 +13,7 @@ use Rattle.change_desc.proofs.RangesMet.{replaced-begin}
 use Rattle.stable_order.specs.StableSort.{stable_sort}
 use Rattle.range_set.specs.Order.{before}
 use Rattle.range_set.specs.Mapping.{map_ranges, moved}
-use Rattle.range_set.specs.PrivateChunks.{AllCarried, AllChunksCarried, AreGroups, Ascend, built, carry, carry_chunk, flat, grouped, move, put_down, shift, spread}
-use Rattle.range_set.specs.declared.chunk.Placed.{Placed}
+use Rattle.range_set.specs.PrivateChunks.{FitCarried, FitCarriedChunks, AreGroups, Ascend, built, carry, carry_chunk, flat, grouped, move, put_down, shift, spread}
 use Rattle.range_set.specs.declared.group.Group.{Group}
 use Rattle.range_set.proofs.Chunks.{ascend-prefix, flat-append}
 use Rattle.range_set.proofs.Clear.{IsClear, Sections, clear_place, map_pos-clear}
@@ -473,7 +472,7 @@ share_carried-requires-clause-fits g c =
     let same : (b : ℕ) → list_any (meets from b) after ≡ list_any (meets from b) (replaced d) = λ b. met from b (omega arith) ∙ here.same from b (omega arith) in
     let bound = c.new_len-new_len.ensures in
     let size = c.new_len-new_len.type_inv in
-    subst (λ n. AllChunksCarried from n after (map (move base) more)) (sym start) (chunks_fit rules d from after (map (move base) more) later next.chunks next.ascend next.within same (omega (arith, bound, size)))
+    subst (λ n. FitCarriedChunks from n after (map (move base) more)) (sym start) (chunks_fit rules d from after (map (move base) more) later next.chunks next.ascend next.within same (omega (arith, bound, size)))
 
 pub returns-in_err-chunks-clause-cost : goal.returns-in_err-chunks-clause-cost
 returns-in_err-chunks-clause-cost g c =
@@ -669,7 +668,7 @@ share_carried-requires-else-is_opened-clause-fits g c =
     let same : (b : ℕ) → list_any (meets p.start b) after ≡ list_any (meets p.start b) (replaced d) = λ b. met p.start b (omega arith) ∙ walked.same p.start b (starts_at rules d p others p.start groups.0.0 groups.0.1 (omega arith)) in
     let bound = c.new_len-new_len.ensures in
     let size = c.new_len-new_len.type_inv in
-    subst (λ n. AllCarried p.start n after others) (sym start) (carried_fit rules d p.start after others groups.1 next.ascend next.within same (omega (arith, bound, size)))
+    subst (λ n. FitCarried p.start n after others) (sym start) (carried_fit rules d p.start after others groups.1 next.ascend next.within same (omega (arith, bound, size)))
 
 pub share_carried-requires-else-is_opened-clause-room : goal.share_carried-requires-else-is_opened-clause-room
 share_carried-requires-else-is_opened-clause-room g c =

@@ -1,4 +1,4 @@
-use Rattle.std.proofs.Common.{◌≡◌, ◌+◌, ◌≤◌, ◌++◌, drop, length, map}
+use Rattle.std.proofs.Common.{◌≡◌, ◌+◌, ◌≤◌, ◌++◌, length, map}
 use Rattle.change_desc.specs.Meeting.{BeginAfter}
 use Rattle.range_set.specs.PrivateChunks.{AreGroups, IsMappedBuilder, flat, move, put_down, spread}
 use Rattle.range_set.specs.PrivateMoving.{IsClearWalk}

@@ -1,11 +1,10 @@
-use Rattle.std.proofs.Common.{◌≡◌, ◌+◌, ◌-◌, ◌∷◌, map, ap, sym, subst, ◌∙◌, arith}
+use Rattle.std.proofs.Common.{◌+◌, map, ap, sym, subst, ◌∙◌}
 use Rattle.std.specs.List.{list_any}
 use Rattle.change_desc.specs.Ranges.{meets}
-use Rattle.range_set.specs.PrivateChunks.{AllChunksCarried, AreChunks, AreChunksShared, Ascend, built, flat, move}
+use Rattle.range_set.specs.PrivateChunks.{FitCarriedChunks, AreChunks, AreChunksShared, Ascend, built, flat, move}
 use Rattle.range_set.specs.declared.chunk.Chunk.{Chunk}
 use Rattle.range_set.proofs.Carried.{chunks_shared_more}
 use Rattle.range_set.proofs.Chunks.{ascend-less}
-use Rattle.range_set.proofs.Groups.{begins}
 use Rattle.range_set.proofs.Walked.{ascend_hull}
 use Rattle.range_set.proofs.chunk_builder.ChunkBuilder.share_carried.Goals as goal
 
@@ -29,7 +28,7 @@ loop-placed-preserved g c =
       growing = ap (λ x. x.ranges.items) c.in_ok-put_shared.ensures.growing ∙ at.growing;
       chunks = chunks.1;
       ascend = ascend-less from p.start (flat others) hull.0 hull.1;
-      fits = (subst (AllChunksCarried from to c.args.changed.now) is at.fits).1;
+      fits = (subst (FitCarriedChunks from to c.args.changed.now) is at.fits).1;
       shared = chunks_shared_more from to c.args.changed.now (map (move base) c.args.chunks.now) p others (built c.args.self.now) (built c.loop-placed.self) _
           (subst (λ ps. AreChunksShared from to c.args.changed.now (map (move base) c.args.chunks.now) ps (built c.args.self.now) (built c.loop-placed.self)) is at.shared) turned met c.in_ok-put_shared.ensures.ranges;
     }

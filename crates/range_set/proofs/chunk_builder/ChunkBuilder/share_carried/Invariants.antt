@@ -1,5 +1,5 @@
 use Rattle.std.proofs.Common.{◌≡◌, [], length, map}
-use Rattle.range_set.specs.PrivateChunks.{AllChunksCarried, AreChunks, AreChunksShared, Ascend, IsBuilder, built, flat, move}
+use Rattle.range_set.specs.PrivateChunks.{FitCarriedChunks, AreChunks, AreChunksShared, Ascend, IsBuilder, built, flat, move}
 use Rattle.range_set.proofs.chunk_builder.ChunkBuilder.share_carried.Given as goal
 
 abbrev pub invariant-loop-placed : goal.invariant-loop-placed
@@ -8,7 +8,7 @@ invariant-loop-placed g l = record {
   growing : l.self.growing.ranges.items ≡ [];
   chunks : AreChunks g.T.RangeValue.rules (map (move l.base) l.rest);
   ascend : Ascend l.from (flat (map (move l.base) l.rest));
-  fits : AllChunksCarried l.from l.to l.changed (map (move l.base) l.rest);
+  fits : FitCarriedChunks l.from l.to l.changed (map (move l.base) l.rest);
   shared : AreChunksShared l.from l.to l.changed (map (move l.base) l.chunks) (map (move l.base) l.rest) (built l.fn.self) (built l.self);
 }
 

@@ -1,10 +1,9 @@
-use Rattle.std.proofs.Common.{◌≡◌, ◌+◌, ◌-◌, ◌<◌, ◌^◌, ◌++◌, ◌∷◌, length, map, ap, sym, subst, ◌∙◌, arith}
+use Rattle.std.proofs.Common.{◌≡◌, ◌+◌, ◌-◌, ◌<◌, ◌^◌, ◌++◌, length, map, ap, sym, subst, ◌∙◌, arith}
 use Rattle.std.proofs.lemmas.List.{length-append}
 use Rattle.change_desc.specs.Ranges.{meets}
 use Rattle.std.specs.List.{list_any}
-use Rattle.range_set.specs.PrivateChunks.{AllCarried, AreGroups, AreShared, Ascend, flat, grouped, move, shift, spread}
+use Rattle.range_set.specs.PrivateChunks.{FitCarried, AreGroups, AreShared, Ascend, flat, grouped, move, shift, spread}
 use Rattle.range_set.specs.declared.group.Group.{Group}
-use Rattle.range_set.specs.declared.group.PlacedGroup.{PlacedGroup}
 use Rattle.range_set.proofs.Carried.{shared_more}
 use Rattle.range_set.proofs.Chunks.{ascend-less, flat-append, length_shifted}
 use Rattle.range_set.proofs.Groups.{begins, flat-moved, flat-spread}
@@ -57,7 +56,7 @@ loop-placed-preserved g c =
       growing = ap (λ x. x.chunks.items) c.in_ok-put_shared.ensures.growing ∙ at.growing;
       groups = groups.1;
       ascend = ascend-less from p.start (flat (spread others)) hull.0 hull.1;
-      fits = (subst (AllCarried from to c.args.changed.now) is at.fits).1;
+      fits = (subst (FitCarried from to c.args.changed.now) is at.fits).1;
       room = omega (arith, room, n, m, k, l);
       shared = shared_more from to c.args.changed.now c.args.groups.now p others (flat (grouped c.args.self.now)) (flat here) _
           (subst (λ gs. AreShared from to c.args.changed.now c.args.groups.now gs (flat (grouped c.args.self.now)) (flat here)) is at.shared) turned met put;

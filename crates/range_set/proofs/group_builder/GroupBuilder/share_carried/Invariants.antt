@@ -1,5 +1,5 @@
 use Rattle.std.proofs.Common.{◌≡◌, [], ◌+◌, ◌<◌, ◌^◌, length}
-use Rattle.range_set.specs.PrivateChunks.{AllCarried, AreGroups, AreShared, Ascend, IsGroupBuilder, flat, grouped, spread}
+use Rattle.range_set.specs.PrivateChunks.{FitCarried, AreGroups, AreShared, Ascend, IsGroupBuilder, flat, grouped, spread}
 use Rattle.range_set.proofs.group_builder.GroupBuilder.share_carried.Given as goal
 
 abbrev pub invariant-loop-placed : goal.invariant-loop-placed
@@ -8,7 +8,7 @@ invariant-loop-placed g l = record {
   growing : l.self.growing.chunks.items ≡ [];
   groups : AreGroups g.T.RangeValue.rules l.rest;
   ascend : Ascend l.from (flat (spread l.rest));
-  fits : AllCarried l.from l.to l.changed l.rest;
+  fits : FitCarried l.from l.to l.changed l.rest;
   room : length (flat (grouped l.self)) + length (flat (spread l.rest)) < 2 ^ 64;
   shared : AreShared l.from l.to l.changed l.groups l.rest (flat (grouped l.fn.self)) (flat (grouped l.self));
 }

@@ -50,7 +50,7 @@ returns-clause-ranges g c =
     let ended = c.in_ok-end_groups.ensures.ranges ∙ sorted in
     IfOk-weaker c.share.result (λ _. grouped c.share.new.self ≡ grouped c.end_groups.new.self.groups ++ map (move c.args.start) chunks)
     (λ _. flat (grouped c.share.new.self) ++ built c.end_groups.new.self.chunks ≡ put_down old ++ run ++ more)
-    (λ _ e. ap (λ rs. flat (grouped c.share.new.self) ++ rs) c.in_ok-end_groups.ensures.none
+    (λ _ e. ap (λ rs. flat (grouped c.share.new.self) ++ rs) c.in_ok-end_groups.ensures.ended
     ∙ (append-nil (flat (grouped c.share.new.self))
     ∙ (ap flat e
     ∙ (flat-append (grouped c.end_groups.new.self.groups) (map (move c.args.start) chunks)
