@@ -1,4 +1,5 @@
 pub mod Colors
 pub mod Widgets
+pub mod Replacements
 pub mod Sides
 pub mod Places

@@ -1,22 +1,23 @@
-ghost use Rattle.std.specs.Prelude.{◌≡◌, ◌↔◌, IfOk, IfErr, IsOk, IsTrue, Some};
-ghost use Rattle.decoration.specs.declared.deco_error.DecoError.TheVariants as errors;
-ghost use Rattle.decoration.specs.Widgets.{IsSide};
+ghost use Rattle.std.specs.Prelude.{◌≡◌, ◌↔◌, IfOk, IfErr, IsTrue, Some};
+ghost use Rattle.decoration.specs.Widgets.{IsSide, IsWidgetFault};
 ghost use Rattle.decoration.specs.Sides.{deco_rules, start_side, end_side, mode_of, is_point};
 ghost use Rattle.decoration.specs.Places.{kind_of};
 
-use crate::deco_error::DecoError;
 use crate::inclusive::Inclusive;
 use crate::kind::Kind;
 use crate::mark::Mark;
 use crate::replacement::Replacement;
 use crate::style::Style;
 use crate::widget::Widget;
+use crate::widget_error::WidgetError;
 use change_desc::MapMode;
 use cm_plain::Str;
-use range_set::RangeValue;
+use range_set::{RangeValue, Ranged};
 use std::alloc::{AllocError, Global};
+use std::mem::size_of;
 
-/// A decoration of a document (Reference Manual: Decoration).
+/// A decoration of a document (Reference Manual: Decoration). What a widget or a replacement shows stands on the heap, so
+/// that a decoration is small: range sets keep many in a row, and move them.
 #[derive(Debug, Drop)]
 pub enum Deco {
     Mark(Mark),
@@ -24,6 +25,12 @@ pub enum Deco {
     Replace(Replacement),
     Line(Style),
 }
+
+/// A decoration has 16 bytes.
+const _: () = prove!(size_of::<Deco>() == 16);
+
+/// At its range it has 24.
+const _: () = prove!(size_of::<Ranged<Deco>>() == 24);
 
 impl Deco {
     /// A mark, which styles the characters of its range.
@@ -34,27 +41,29 @@ impl Deco {
     }
 
     /// A widget, which shows a text at a place. `Err`: `BadSide` exactly where the side is less than -10000 or more
-    /// than 10000.
-    pub fn widget(text: Str, style: Style, side: i32) -> Result<Deco, DecoError>
-        ensures accepted { IsOk result ↔ IsSide side }
+    /// than 10000; else `NoMemory`.
+    pub fn widget(alloc: Global, text: Str, style: Style, side: i32) -> Result<Deco, WidgetError>
+        ensures accepted { IfOk result (λ deco. IsSide side) }
         ensures widget { IfOk result (λ deco. deco ≡ Deco.Widget (record { text = text; style = style; side = side })) }
-        ensures refused { IfErr result (λ error. error ≡ errors.BadSide side) }
+        ensures refused { IfErr result (IsWidgetFault side) }
     {
-        match Widget::of(text, style, side) {
+        match Widget::of(alloc, text, style, side) {
             Ok(widget) => Ok(Deco::Widget(widget)),
             Err(error) => Err(error),
         }
     }
 
-    /// A replacement, which shows a text in place of the characters of its range.
-    pub fn replace(text: Str, style: Style, inclusive: Inclusive) -> Deco
-        ensures { result ≡ Deco.Replace (record { text = text; style = style; inclusive = inclusive }) }
+    /// A replacement, which shows a text in place of the characters of its range. `Err`: out of memory.
+    pub fn replace(
+        alloc: Global,
+        text: Str,
+        style: Style,
+        inclusive: Inclusive,
+    ) -> Result<Deco, AllocError>
+        ensures { IfOk result (λ deco. deco ≡ Deco.Replace (record { text = text; style = style; inclusive = inclusive })) }
     {
-        Deco::Replace(Replacement {
-            text,
-            style,
-            inclusive,
-        })
+        let replacement = Replacement::of(alloc, text, style, inclusive)?;
+        Ok(Deco::Replace(replacement))
     }
 
     /// A line decoration, which styles a line from its start.
@@ -84,7 +93,7 @@ impl RangeValue for Deco {
         match self {
             Deco::Mark(mark) => mark.inclusive.start_side(),
             Deco::Widget(widget) => widget.end_side(),
-            Deco::Replace(replacement) => replacement.inclusive.start_side(),
+            Deco::Replace(replacement) => replacement.inclusive().start_side(),
             Deco::Line(_) => -30000,
         }
     }
@@ -93,7 +102,7 @@ impl RangeValue for Deco {
         match self {
             Deco::Mark(mark) => mark.inclusive.end_side(),
             Deco::Widget(widget) => widget.end_side(),
-            Deco::Replace(replacement) => replacement.inclusive.end_side(),
+            Deco::Replace(replacement) => replacement.inclusive().end_side(),
             Deco::Line(_) => -30000,
         }
     }

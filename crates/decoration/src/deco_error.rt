@@ -1,6 +1,6 @@
 use thiserror::Error;
 
-/// Why a decoration can't be made or placed. Places are in characters.
+/// Why a decoration can't be placed. Places are in characters.
 #[derive(Clone, Copy, Debug, PartialEq, Eq, Drop, Error)]
 pub enum DecoError {
     /// The range ends before it starts; one range alone has index 0.
@@ -15,9 +15,6 @@ pub enum DecoError {
     /// A replacement of no characters.
     #[error("a replacement is empty")]
     BadReplace,
-    /// A widget's side is less than -10000 or more than 10000.
-    #[error("the side {side} isn't between -10000 and 10000")]
-    BadSide { side: i32 },
     /// No line starts at the place.
     #[error("no line starts at {pos}")]
     NotLineStart { pos: u32 },

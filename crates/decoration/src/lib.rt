@@ -16,6 +16,7 @@ mod placing;
 mod replacement;
 mod style;
 mod widget;
+mod widget_error;
 
 pub use color::Color;
 pub use deco::Deco;
@@ -28,3 +29,4 @@ pub use placing::{place, place_line};
 pub use replacement::Replacement;
 pub use style::Style;
 pub use widget::{MAX_SIDE, Widget};
+pub use widget_error::WidgetError;

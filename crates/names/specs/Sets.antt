@@ -40,7 +40,6 @@ deco_refusal index (deco_errors.Reversed i) = Reversed index
 deco_refusal index deco_errors.EmptyMark = EmptyMark
 deco_refusal index deco_errors.NotEmpty = NotEmpty
 deco_refusal index deco_errors.BadReplace = BadReplace
-deco_refusal index (deco_errors.BadSide side) = BadSide side
 deco_refusal index (deco_errors.NotLineStart place) = NotLineStart place
 
 -- a widget's side lies from -10000 to 10000

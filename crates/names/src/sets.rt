@@ -29,7 +29,6 @@ fn deco_refusal(index: usize, error: DecoError) -> DeclarationRefusal
         DecoError::EmptyMark => DeclarationRefusal::EmptyMark,
         DecoError::NotEmpty => DeclarationRefusal::NotEmpty,
         DecoError::BadReplace => DeclarationRefusal::BadReplace,
-        DecoError::BadSide { side } => DeclarationRefusal::BadSide { side },
         DecoError::NotLineStart { pos } => DeclarationRefusal::NotLineStart { pos },
     }
 }
@@ -57,36 +56,36 @@ fn own_fault(index: usize, written: &WrittenDeco) -> Option<DeclarationRefusal>
 }
 
 /// The widget that is written. Its side is one that a widget may have, so the only error is out of memory.
-fn widget(written: &WrittenDeco) -> Result<Deco, AllocError>
+fn widget(alloc: Global, written: &WrittenDeco) -> Result<Deco, AllocError>
     ensures { IfOk result (λ deco. deco ≡ deco_of written.now Kind.Widget) }
 {
     let text = written.text.try_copy()?;
-    match Deco::widget(text, written.style, written.side) {
+    match Deco::widget(alloc, text, written.style, written.side) {
         Ok(deco) => Ok(deco),
         Err(_) => Err(AllocError),
     }
 }
 
 /// The decoration that is written.
-fn deco(written: &WrittenDeco) -> Result<Deco, AllocError>
+fn deco(alloc: Global, written: &WrittenDeco) -> Result<Deco, AllocError>
     ensures { IfOk result (λ deco. deco ≡ deco_of written.now written.now.kind) }
 {
     match written.kind {
         Kind::Mark => Ok(Deco::mark(written.style, written.inclusive)),
-        Kind::Widget => widget(written),
+        Kind::Widget => widget(alloc, written),
         Kind::Replace => {
             let text = written.text.try_copy()?;
-            Ok(Deco::replace(text, written.style, written.inclusive))
+            Deco::replace(alloc, text, written.style, written.inclusive)
         }
         Kind::Line => Ok(Deco::line(written.style)),
     }
 }
 
 /// The decoration at its range.
-fn range(written: &WrittenDeco) -> Result<Ranged<Deco>, AllocError>
+fn range(alloc: Global, written: &WrittenDeco) -> Result<Ranged<Deco>, AllocError>
     ensures { IfOk result (λ range. range ≡ range_of written.now) }
 {
-    let value = deco(written)?;
+    let value = deco(alloc, written)?;
     Ok(Ranged {
         from: written.from,
         to: written.to,
@@ -106,7 +105,7 @@ fn sound_prefix(alloc: Global, written: &[WrittenDeco]) -> Result<Prefix, AllocE
                 fault: Some(fault),
             });
         }
-        ranges.push(range(next)?)?;
+        ranges.push(range(alloc, next)?)?;
     }
     Ok(Prefix {
         ranges,

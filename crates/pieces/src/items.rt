@@ -74,13 +74,13 @@ fn push_item(
             })?;
         }
         Deco::Replace(replacement) if range.from < range.to => {
-            let text = text_of(alloc, replacement.text.chars())?;
+            let text = text_of(alloc, replacement.text().chars())?;
             items.push(Item {
                 place: range.from,
                 to: range.to,
                 side: None,
                 text,
-                style: replacement.style,
+                style: replacement.style(),
             })?;
         }
         _ => {}

@@ -2,7 +2,7 @@ use crate::numbered::described;
 use change_desc::{Desc, MapMode, Section};
 use cm_plain::Str;
 use decoration::{
-    Color, Deco, DecoError, DecoSet, Inclusive, Kind, Layers, Style, place, place_line,
+    Color, Deco, DecoError, DecoSet, Inclusive, Kind, Layers, Style, WidgetError, place, place_line,
 };
 use line_tree::Text;
 use range_set::{RangeSet, RangeValue};
@@ -74,23 +74,21 @@ fn each_kind_has_its_ranges(rt: HostRuntime) -> Result<(), Fail> {
     Ok(())
 }
 
-/// The side of a widget's ends, and whether its copy is the same; none where the side is refused.
-fn widget_side(alloc: Global, side: i32) -> Result<Option<(i32, i32, bool)>, Fail> {
-    let Ok(widget) = Deco::widget(Str::empty(alloc), Style::plain(), side) else {
-        return Ok(None);
-    };
+/// The sides of a widget's ends, and whether its copy is the same.
+fn widget_side(alloc: Global, side: i32) -> Result<(i32, i32, bool), Fail> {
+    let widget = Deco::widget(alloc, Str::empty(alloc), Style::plain(), side)?;
     let copy = widget.try_copy(alloc)?;
-    Ok(Some((
+    Ok((
         widget.start_side(),
         widget.end_side(),
         copy.same(&widget) && widget.is_point(),
-    )))
+    ))
 }
 
 /// The side for which a widget is refused.
 fn refused_side(alloc: Global, side: i32) -> Option<i32> {
-    match Deco::widget(Str::empty(alloc), Style::plain(), side) {
-        Err(DecoError::BadSide { side }) => Some(side),
+    match Deco::widget(alloc, Str::empty(alloc), Style::plain(), side) {
+        Err(WidgetError::BadSide { side }) => Some(side),
         _ => None,
     }
 }
@@ -99,7 +97,7 @@ fn refused_side(alloc: Global, side: i32) -> Option<i32> {
 fn a_widget_has_a_side(rt: HostRuntime) -> Result<(), Fail> {
     let cases = [(0, -1), (1, 1), (-3, -4), (10000, 10000), (-10000, -10001)];
     for (side, end) in cases {
-        assert!(rt; widget_side(rt.alloc(), side)? == Some((end, end, true)));
+        assert!(rt; widget_side(rt.alloc(), side)? == (end, end, true));
     }
     for side in [10001, -10001] {
         assert!(rt; refused_side(rt.alloc(), side) == Some(side));
@@ -158,16 +156,35 @@ fn layers_are_compared_and_copied(rt: HostRuntime) -> Result<(), Fail> {
     Ok(())
 }
 
-/// Whether a replacement with a text is the same as its copy.
-fn replacement_is_copied(alloc: Global) -> Result<bool, Fail> {
+/// A replacement by one character that takes in text at its start alone.
+fn replacement(alloc: Global) -> Result<Deco, Fail> {
     let text = Str::of(alloc, &['x'])?;
-    let deco = Deco::replace(text, Style::plain(), NEITHER);
-    let copy = deco.try_copy(alloc)?;
-    Ok(copy.same(&deco))
+    let inclusive = Inclusive {
+        start: true,
+        end: false,
+    };
+    Ok(Deco::replace(alloc, text, Style::plain(), inclusive)?)
+}
+
+/// How many characters a replacement shows, and which of its ends take in text; none where it isn't a replacement.
+fn what_is_shown(deco: &Deco) -> Option<(usize, bool, bool)> {
+    match deco {
+        Deco::Replace(replacement) => {
+            let inclusive = replacement.inclusive();
+            Some((replacement.text().len(), inclusive.start, inclusive.end))
+        }
+        _ => None,
+    }
 }
 
 #[test]
 fn a_replacement_is_copied(rt: HostRuntime) -> Result<(), Fail> {
-    assert!(rt; replacement_is_copied(rt.alloc())?);
+    let deco = replacement(rt.alloc())?;
+    let copy = deco.try_copy(rt.alloc())?;
+    assert!(rt; copy.same(&deco));
+    for each in [&deco, &copy] {
+        assert!(rt; what_is_shown(each) == Some((1, true, false)));
+        assert!(rt; (each.start_side(), each.end_side()) == (-20000, -20000));
+    }
     Ok(())
 }

@@ -67,8 +67,8 @@ fn deco(alloc: Global, kind: Kind, text: &str, style: Style) -> Result<Deco, Fai
     let text = Str::of_text(alloc, text)?;
     match kind {
         Kind::Mark => Ok(Deco::mark(style, NEITHER)),
-        Kind::Widget(side) => Ok(Deco::widget(text, style, side).ok().ok_or("a side")?),
-        Kind::Replace => Ok(Deco::replace(text, style, NEITHER)),
+        Kind::Widget(side) => Ok(Deco::widget(alloc, text, style, side)?),
+        Kind::Replace => Ok(Deco::replace(alloc, text, style, NEITHER)?),
         Kind::Line => Ok(Deco::line(style)),
     }
 }
