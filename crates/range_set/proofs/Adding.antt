@@ -1,5 +1,5 @@
 -- Groups whose ranges begin before added ones or after them, and an update without a filter.
-use Rattle.std.proofs.Common.{◌≡◌, ℕ, zero, suc, ◌+◌, ◌-◌, ◌<◌, ◌≤◌, Bool, true, false, ◌||◌, ◌&&◌, List, [], ◌∷◌, ◌++◌, length, get_or, take, drop, map, filter, Some, None, refl, sym, ap, subst, ◌∙◌, append_assoc, arith}
+use Rattle.std.proofs.Common.{◌≡◌, ℕ, suc, ◌+◌, ◌-◌, ◌<◌, ◌≤◌, Bool, true, false, ◌||◌, ◌&&◌, List, [], ◌∷◌, ◌++◌, length, map, filter, Some, None, refl, sym, ap, subst, ◌∙◌, append_assoc, arith}
 use Rattle.std.proofs.lemmas.Bool.Decides.{nat_tests}
 use Rattle.std.proofs.lemmas.List.{append-nil, length-append}
 use Rattle.std.specs.Prelude.{nat_lt, ◌==◌, slice_get}
@@ -10,13 +10,14 @@ use Rattle.range_set.specs.Order.{before, first_fault}
 use Rattle.range_set.specs.Ranking.{before-order}
 use Rattle.range_set.specs.Updating.{updated}
 use Rattle.range_set.specs.PrivateChunks.{AreGroups, Ascend, BeginBy, first_start, flat, shift, spread}
-use Rattle.range_set.specs.PrivateUpdates.{BeginPast, BeginUnder, last_start}
+use Rattle.range_set.specs.PrivateUpdates.{AreOpened, AreSharedBefore, BeginPast, BeginUnder}
 use Rattle.range_set.specs.declared.ranged.Ranged.{Ranged}
+use Rattle.range_set.specs.declared.chunk.Placed.{Placed}
 use Rattle.range_set.specs.declared.group.PlacedGroup.{PlacedGroup}
-use Rattle.range_set.proofs.Chunks.{ascend-prefix, ascend-rest, begin_by-next}
-use Rattle.range_set.proofs.Groups.{are_spread, flat-spread, flat_forward, spread_take}
+use Rattle.range_set.proofs.Chunks.{ascend-prefix, begin_by-next, flat-append}
+use Rattle.range_set.proofs.Groups.{are_spread, flat-spread, flat_forward}
 use Rattle.range_set.proofs.RangeOrder.{forward-append, forward-no_fault, no_fault_from, rises-no_fault}
-use Rattle.range_set.proofs.Parts.{HaveParts}
+use Rattle.range_set.proofs.Parts.{HaveParts, have_parts}
 use Rattle.range_set.proofs.Under.{any_both, rises_across, rises_ascend, rises_left, rises_right}
 use Rattle.range_set.proofs.Updates.{BeforeEach, Below, EachBefore, below_append, none_after, sort-swapped}
 
@@ -27,55 +28,29 @@ is_before : (a b : ℕ) (c : Bool) → a < b → (nat_lt a b || (a == b && c)) �
 is_before a b c l = grind (arith, nat_tests)
 
 module _ {T : Type 0} where
-  under_append : (place : ℕ) (xs ys : List (Ranged T)) → BeginUnder place xs → BeginUnder place ys → BeginUnder place (xs ++ ys)
+  -- the start of the last range
+  abbrev pub last_start : List (Ranged T) → ℕ
+  last_start [] = 0
+  last_start (r ∷ []) = r.from
+  last_start (r ∷ q ∷ rs) = last_start (q ∷ rs)
+
+  pub under_append : (place : ℕ) (xs ys : List (Ranged T)) → BeginUnder place xs → BeginUnder place ys → BeginUnder place (xs ++ ys)
   under_append place [] ys h k = k
   under_append place (x ∷ xs) ys h k = (h.0, under_append place xs ys h.1 k)
 
-  under_left : (place : ℕ) (xs ys : List (Ranged T)) → BeginUnder place (xs ++ ys) → BeginUnder place xs
-  under_left place [] ys h = tt
-  under_left place (x ∷ xs) ys h = (h.0, under_left place xs ys h.1)
-
-  under_right : (place : ℕ) (xs ys : List (Ranged T)) → BeginUnder place (xs ++ ys) → BeginUnder place ys
-  under_right place [] ys h = h
-  under_right place (x ∷ xs) ys h = under_right place xs ys h.1
-
-  under_less : (n place : ℕ) (rs : List (Ranged T)) → BeginBy n rs → n < place → BeginUnder place rs
+  pub under_less : (n place : ℕ) (rs : List (Ranged T)) → BeginBy n rs → n < place → BeginUnder place rs
   under_less n place [] h l = tt
   under_less n place (r ∷ rs) h l = (omega (arith, h.0, l), under_less n place rs h.1 l)
-
-  past_right : (place : ℕ) (xs ys : List (Ranged T)) → BeginPast place (xs ++ ys) → BeginPast place ys
-  past_right place [] ys h = h
-  past_right place (x ∷ xs) ys h = past_right place xs ys h.1
 
   past_from : (n place : ℕ) (rs : List (Ranged T)) → place < n → Ascend n rs → BeginPast place rs
   past_from n place [] l h = tt
   past_from n place (r ∷ rs) l h = (omega (arith, l, h.0), past_from r.from place rs (omega (arith, l, h.0)) h.1)
 
-  past_hull : (n start place : ℕ) (rs later : List (Ranged T)) → 1 ≤ length rs → place < start → Ascend n (map (shift start) rs ++ later) → BeginPast place (map (shift start) rs ++ later)
+  pub past_hull : (n start place : ℕ) (rs later : List (Ranged T)) → 1 ≤ length rs → place < start → Ascend n (map (shift start) rs ++ later) → BeginPast place (map (shift start) rs ++ later)
   past_hull n start place [] later some l h = absurd (omega arith)
   past_hull n start place (r ∷ rs) later some l h =
       let k : place < r.from + start = omega (arith, l) in
       (k, past_from (r.from + start) place (map (shift start) rs ++ later) k h.1)
-
-  pub under_taken : (place m n : ℕ) (gs : List (PlacedGroup T)) → m ≤ n → BeginUnder place (flat (spread (take n gs))) → BeginUnder place (flat (spread (take m gs)))
-  under_taken place zero n gs l h = tt
-  under_taken place (suc m) zero gs l h = absurd (omega arith)
-  under_taken place (suc m) (suc n) [] l h = tt
-  under_taken place (suc m) (suc n) (g ∷ gs) l h =
-      let here = map (shift g.start) (flat g.group.value.chunks.items) in
-      let parts = subst (BeginUnder place) (flat-spread g (take n gs)) h in
-      subst (BeginUnder place) (sym (flat-spread g (take m gs)))
-      (under_append place here (flat (spread (take m gs))) (under_left place here (flat (spread (take n gs))) parts)
-      (under_taken place m n gs (omega (arith, l)) (under_right place here (flat (spread (take n gs))) parts)))
-
-  pub past_dropped : (place m n : ℕ) (gs : List (PlacedGroup T)) → m ≤ n → BeginPast place (flat (spread (drop m gs))) → BeginPast place (flat (spread (drop n gs)))
-  past_dropped place zero zero gs l h = h
-  past_dropped place zero (suc n) [] l h = tt
-  past_dropped place zero (suc n) (g ∷ gs) l h =
-      past_dropped place zero n gs (omega arith) (past_right place (map (shift g.start) (flat g.group.value.chunks.items)) (flat (spread gs)) (subst (BeginPast place) (flat-spread g gs) h))
-  past_dropped place (suc m) zero gs l h = absurd (omega arith)
-  past_dropped place (suc m) (suc n) [] l h = tt
-  past_dropped place (suc m) (suc n) (g ∷ gs) l h = past_dropped place m n gs (omega (arith, l)) h
 
   pub first_of : (rs : List (Ranged T)) (r : Ranged T) → slice_get rs 0 ≡ Some r → first_start rs ≡ r.from
   first_of [] r h = cc
@@ -87,18 +62,6 @@ module _ {T : Type 0} where
   last_of (q ∷ p ∷ rs) r h =
       let n : length (q ∷ p ∷ rs) - 1 ≡ suc (length (p ∷ rs) - 1) = omega arith in
       last_of (p ∷ rs) r (ap (slice_get (q ∷ p ∷ rs)) (sym n) ∙ h)
-
-  -- each group begins before a place
-  abbrev pub StartUnder : ℕ → List (PlacedGroup T) → Type 0
-  StartUnder place [] = Unit {0}
-  StartUnder place (g ∷ gs) = (g.start < place) × StartUnder place gs
-
-  start_append : (place : ℕ) (gs : List (PlacedGroup T)) (g : PlacedGroup T) → StartUnder place gs → g.start < place → StartUnder place (gs ++ g ∷ [])
-  start_append place [] g h l = (l, tt)
-  start_append place (q ∷ gs) g h l = (h.0, start_append place gs g h.1 l)
-
-  pub start-push : (place : ℕ) (gs : List (PlacedGroup T)) (i : ℕ) (g : PlacedGroup T) → i < length gs → g ≡ get_or gs i g → g.start < place → StartUnder place (take i gs) → StartUnder place (take (i + 1) gs)
-  start-push place gs i g l e k h = subst (StartUnder place) (sym (spread_take gs i g l e)) (start_append place (take i gs) g h k)
 
   filter_all : (xs : List (Ranged T)) → filter (λ _. true) xs ≡ xs
   filter_all [] = refl
@@ -118,7 +81,7 @@ module _ {T : Type 0} where
 
 module _ {T : Type 0} (rules : RangeRules T) where
   -- ranges that stand before a group begin no later than it
-  begin_by_group : (n : ℕ) (xs : List (Ranged T)) (g : PlacedGroup T) (gs : List (PlacedGroup T)) → 1 ≤ length (flat g.group.value.chunks.items) → first_start (flat g.group.value.chunks.items) ≡ 0
+  pub begin_by_group : (n : ℕ) (xs : List (Ranged T)) (g : PlacedGroup T) (gs : List (PlacedGroup T)) → 1 ≤ length (flat g.group.value.chunks.items) → first_start (flat g.group.value.chunks.items) ≡ 0
       → Ascend n (xs ++ flat (spread (g ∷ gs))) → BeginBy g.start xs
   begin_by_group n xs g gs some f asc = at (flat g.group.value.chunks.items) some f (subst (λ rs. Ascend n (xs ++ rs)) (flat-spread g gs) asc)
     where
@@ -127,31 +90,6 @@ module _ {T : Type 0} (rules : RangeRules T) where
       at (r ∷ rs) some f a =
           let e : r.from + g.start ≡ g.start = omega (arith, f) in
           subst (λ k. BeginBy k xs) e (begin_by-next n xs (shift g.start r) (map (shift g.start) rs ++ flat (spread gs)) a)
-
-  -- all but the last of groups that begin before a place have ranges that do
-  pub begin_under : (place n : ℕ) (gs : List (PlacedGroup T)) (i : ℕ) → i ≤ length gs → AreGroups rules gs → Ascend n (flat (spread gs)) → StartUnder place (take i gs) → BeginUnder place (flat (spread (take (i - 1) gs)))
-  begin_under place n gs zero l h a s = tt
-  begin_under place n [] (suc i) l h a s = absurd (omega arith)
-  begin_under place n (g ∷ gs) (suc zero) l h a s = tt
-  begin_under place n (g ∷ []) (suc (suc i)) l h a s = absurd (omega arith)
-  begin_under place n (g ∷ q ∷ gs) (suc (suc i)) l h a s =
-      let here = map (shift g.start) (flat g.group.value.chunks.items) in
-      let all = subst (Ascend n) (flat-spread g (q ∷ gs)) a in
-      let e : suc i - 1 ≡ i = omega arith in
-      let rest = subst (λ k. BeginUnder place (flat (spread (take k (q ∷ gs))))) e (begin_under place n (q ∷ gs) (suc i) (omega arith) h.1 (ascend-rest n here (flat (spread (q ∷ gs))) all) s.1) in
-      let f : suc (suc i) - 1 ≡ suc i = omega arith in
-      subst (λ k. BeginUnder place (flat (spread (take k (g ∷ q ∷ gs))))) (sym f)
-      (subst (BeginUnder place) (sym (flat-spread g (take i (q ∷ gs))))
-      (under_append place here (flat (spread (take i (q ∷ gs)))) (under_less q.start place here (begin_by_group n here q gs h.1.0.1 h.1.0.0.first all) s.1.0) rest))
-
-  pub begun : (place n : ℕ) (gs : List (PlacedGroup T)) (i : ℕ) (g : PlacedGroup T) → i < length gs → g ≡ get_or gs i g → AreGroups rules gs → Ascend n (flat (spread gs)) → place < g.start → BeginPast place (flat (spread (drop i gs)))
-  begun place n [] i g l e h a k = absurd (omega arith)
-  begun place n (q ∷ gs) zero g l e h a k =
-      let start : place < q.start = subst (λ (x : PlacedGroup T). place < x.start) e k in
-      let ranges = flat q.group.value.chunks.items in
-      subst (BeginPast place) (sym (flat-spread q gs)) (past_hull n q.start place ranges (flat (spread gs)) h.0.1 start (subst (Ascend n) (flat-spread q gs) a))
-  begun place n (q ∷ gs) (suc i) g l e h a k =
-      begun place n gs i g (omega arith) e h.1 (ascend-rest n (map (shift q.start) (flat q.group.value.chunks.items)) (flat (spread gs)) (subst (Ascend n) (flat-spread q gs) a)) k
 
   -- added ranges don't belong before one that ends before they begin
   none_under : (r : Ranged T) (n : ℕ) (add : List (Ranged T)) → r.from < n → Ascend n add → NoneBelow (before rules) r add
@@ -200,13 +138,13 @@ module _ {T : Type 0} (rules : RangeRules T) where
   length_updated ms add = length-stable_sort (before rules) (filter (λ _. true) ms ++ add) ∙ (ap (λ zs. length (zs ++ add)) (filter_all ms) ∙ length-append ms add)
 
   -- what such an update gives of three parts of groups
-  pub record AddParts (gs xs ys zs : List (PlacedGroup T)) (add : List (Ranged T)) : Type 0 where
+  record AddParts (gs xs ys zs : List (PlacedGroup T)) (add : List (Ranged T)) : Type 0 where
     pub goes : updated rules (λ _. true) (flat (spread gs)) add ≡ flat (spread xs) ++ (updated rules (λ _. true) (flat (spread ys)) add ++ flat (spread zs))
     pub order : Ascend 0 (flat (spread xs) ++ updated rules (λ _. true) (flat (spread ys)) add)
     pub none : first_fault rules (flat (spread xs) ++ (updated rules (λ _. true) (flat (spread ys)) add ++ flat (spread zs))) ≡ None
     pub count : length (updated rules (λ _. true) (flat (spread ys)) add) ≡ length (flat (spread ys)) + length add
 
-  pub add_parts : (gs xs ys zs : List (PlacedGroup T)) (add : List (Ranged T)) → HaveParts rules gs xs ys zs → first_fault rules add ≡ None → first_fault rules (updated rules (λ _. true) (flat (spread ys)) add) ≡ None
+  add_parts : (gs xs ys zs : List (PlacedGroup T)) (add : List (Ranged T)) → HaveParts rules gs xs ys zs → first_fault rules add ≡ None → first_fault rules (updated rules (λ _. true) (flat (spread ys)) add) ≡ None
       → BeginUnder (first_start add) (flat (spread xs)) → BeginPast (last_start add) (flat (spread zs)) → AddParts gs xs ys zs add
   add_parts gs xs ys zs add h k n u p =
       let x = flat (spread xs) in
@@ -224,6 +162,42 @@ module _ {T : Type 0} (rules : RangeRules T) where
         order = ascend-prefix 0 (x ++ m) z (rises_ascend rules ((x ++ m) ++ z) (subst (Rises less) (sym (append_assoc x m z)) rises));
         none = no_fault_from rules 0 None (x ++ (m ++ z)) rises tt (forward-append x (m ++ z) first (forward-append m z (forward-no_fault rules 0 None m n) last));
         count = length_updated y add;
+      }
+
+  -- groups of which the first are shared, and those after them opened, stand in order
+  pub opened_order : (before after : ℕ) (gs rest left : List (PlacedGroup T)) (old new chunks : List (Placed T)) → AreSharedBefore before gs rest old new → AreOpened rules after rest chunks left
+      → AreGroups rules gs → first_fault rules (flat (spread gs)) ≡ None → first_fault rules (flat chunks) ≡ None
+  opened_order before after gs rest left old new chunks s o h n = ap (first_fault rules) o.ranges ∙ (have_parts rules gs s.taken o.taken left (s.is ∙ ap (λ hs. s.taken ++ hs) o.is) h n).order
+
+  -- what an update gives that changes the chunks of groups after shared ones and before those that are left
+  pub record IsAdded (gs left : List (PlacedGroup T)) (shared made : List (Placed T)) (add : List (Ranged T)) : Type 0 where
+    pub goes : updated rules (λ _. true) (flat (spread gs)) add ≡ flat ((shared ++ made) ++ spread left)
+    pub order : Ascend 0 (flat (shared ++ made))
+    pub none : first_fault rules (flat ((shared ++ made) ++ spread left)) ≡ None
+    pub room : length (flat shared) + length (flat made) + length (flat (spread left)) ≡ length (flat (spread gs)) + length add
+
+  pub add_opened : (gs rest left : List (PlacedGroup T)) (shared chunks made : List (Placed T)) (add : List (Ranged T)) (first last : Ranged T)
+      → AreSharedBefore first.from gs rest [] shared → AreOpened rules last.from rest chunks left → AreGroups rules gs → first_fault rules (flat (spread gs)) ≡ None
+      → first_fault rules add ≡ None → slice_get add 0 ≡ Some first → slice_get add (length add - 1) ≡ Some last
+      → flat made ≡ updated rules (λ _. true) (flat chunks) add → first_fault rules (flat made) ≡ None → IsAdded gs left shared made add
+  add_opened gs rest left shared chunks made add first last s o h n k f l e m =
+      let x = flat (spread s.taken) in
+      let y = flat (spread o.taken) in
+      let z = flat (spread left) in
+      let middle = updated rules (λ _. true) y add in
+      let parts = have_parts rules gs s.taken o.taken left (s.is ∙ ap (λ hs. s.taken ++ hs) o.is) h n in
+      let is : flat made ≡ middle = e ∙ ap (λ rs. updated rules (λ _. true) rs add) o.ranges in
+      let added = add_parts gs s.taken o.taken left add parts k (ap (first_fault rules) (sym is) ∙ m)
+      (subst (λ place. BeginUnder place x) (sym (first_of add first f)) s.before)
+      (subst (λ place. BeginPast place z) (sym (last_of add last l)) o.after) in
+      let kept : flat shared ≡ x = ap flat s.chunks in
+      let both : flat (shared ++ made) ≡ x ++ middle = flat-append shared made ∙ (ap (λ rs. rs ++ flat made) kept ∙ ap (λ rs. x ++ rs) is) in
+      let all : flat ((shared ++ made) ++ spread left) ≡ x ++ (middle ++ z) = flat-append (shared ++ made) (spread left) ∙ (ap (λ rs. rs ++ z) both ∙ append_assoc x middle z) in
+      record {
+        goes = added.goes ∙ sym all;
+        order = subst (Ascend 0) (sym both) added.order;
+        none = ap (first_fault rules) all ∙ added.none;
+        room = let a = ap length kept in let b = ap length is ∙ added.count in let c = parts.room in omega (arith, a, b, c);
       }
 
   -- a list in order to which nothing is added

@@ -104,7 +104,8 @@ lost-clear_from o n (Replace k t ∷ s) p mode l h =
     let c : (k < p) × ClearFrom (o + k) (n + t) (p - k) (p - k) s = clear-replace o n k t p p s (omega arith) h in
     lost-replace_on counted mode k t s p (omega arith) (λ e. inl c.0) ∙ lost-clear_from (o + k) (n + t) s (p - k) mode (omega arith) c.1
 
-clear_start : (o n : ℕ) (s : Sections) → ClearFrom o n 0 0 s → clear_place s 0 ≡ 0
+-- the start, where it is clear, stays
+pub clear_start : (o n : ℕ) (s : Sections) → ClearFrom o n 0 0 s → clear_place s 0 ≡ 0
 clear_start o n [] h = refl
 clear_start o n (Keep zero ∷ s) h =
     let e : 0 - 0 ≡ 0 = omega arith in

@@ -7,7 +7,10 @@ use Rattle.range_set.specs.Rules.{RangeRules}
 use Rattle.range_set.specs.Order.{AllForward}
 use Rattle.range_set.specs.Mapping.{is_turned}
 use Rattle.range_set.specs.Points.{stands}
-use Rattle.range_set.specs.PrivateChunks.{AreChunks, AreGroups, AreLeft, Ascend, BeginBy, EndBy, IsChunk, IsGroup, IsNextChunk, first_start, flat, greatest_end, move, shift, spread}
+use Rattle.range_set.specs.PrivateChunks.{AreChunks, AreGroups, Ascend, BeginBy, EndBy, IsChunk, IsGroup, IsNextChunk, first_start, flat, greatest_end, move, shift, spread}
+use Rattle.range_set.specs.PrivatePages.{PlacesFirst}
+use Rattle.std.specs.declared.alloc.Global.{Global}
+use Rattle.std.specs.declared.rc.Rc.{Rc}
 use Rattle.range_set.specs.declared.ranged.Ranged.{Ranged}
 use Rattle.range_set.specs.declared.chunk.Placed.{Placed}
 use Rattle.range_set.specs.declared.chunk.Chunk.{Chunk}
@@ -57,18 +60,15 @@ module _ {T : Type 0} where
   pub flat-spread_append : (gs hs : List (PlacedGroup T)) → flat (spread (gs ++ hs)) ≡ flat (spread gs) ++ flat (spread hs)
   flat-spread_append gs hs = ap flat (spread-append gs hs) ∙ flat-append (spread gs) (spread hs)
 
-  pub spread_take : (gs : List (PlacedGroup T)) (i : ℕ) (g : PlacedGroup T) → i < length gs → g ≡ get_or gs i g → take (i + 1) gs ≡ take i gs ++ g ∷ []
-  spread_take gs i g l e = take_more gs i g l ∙ ap (λ x. take i gs ++ x ∷ []) (sym e)
-
   pub greatest-append : (xs ys : List (Ranged T)) → greatest_end (xs ++ ys) ≡ max (greatest_end xs) (greatest_end ys)
   greatest-append [] ys = omega arith
   greatest-append (x ∷ xs) ys = let e = greatest-append xs ys in omega (arith, e)
 
-  first-append : (xs ys : List (Ranged T)) → (xs ≡ [] → first_start ys ≡ 0) → first_start xs ≡ 0 → first_start (xs ++ ys) ≡ 0
+  pub first-append : (xs ys : List (Ranged T)) → (xs ≡ [] → first_start ys ≡ 0) → first_start xs ≡ 0 → first_start (xs ++ ys) ≡ 0
   first-append [] ys h k = h refl
   first-append (x ∷ xs) ys h k = k
 
-  first_shifted : (start : ℕ) (rs : List (Ranged T)) → 1 ≤ length rs → first_start (map (shift start) rs) ≡ first_start rs + start
+  pub first_shifted : (start : ℕ) (rs : List (Ranged T)) → 1 ≤ length rs → first_start (map (shift start) rs) ≡ first_start rs + start
   first_shifted start [] some = absurd (omega arith)
   first_shifted start (r ∷ rs) some = refl
 
@@ -272,28 +272,24 @@ module _ {T : Type 0} (rules : RangeRules T) where
   nothing (p ∷ ps) h = absurd (omega (arith, h))
 
   -- a group is opened, where no chunk is left of the one before it, or passed over
-  pub left_open : (base : ℕ) (chunks : List (Placed T)) (groups : List (PlacedGroup T)) (g : PlacedGroup T) (gs : List (PlacedGroup T)) → length chunks ≡ 0 → groups ≡ g ∷ gs → AreLeft rules base chunks groups
-      → (map (move base) chunks ++ spread groups ≡ spread (g ∷ gs)) × (AreGroups rules (g ∷ gs) × AreLeft rules g.start g.group.value.chunks.items gs)
-  left_open base chunks groups g gs none some h =
-      let all = subst (AreGroups rules) some h.others in (
-        ap (λ ps. map (move base) ps ++ spread groups) (nothing chunks none) ∙ ap spread some,
-        (all, record { opened = are_opened g.start g.group.value all.0.0; others = all.1 }),
-      )
-
-  pub left_passed : (base : ℕ) (chunks : List (Placed T)) (gs : List (PlacedGroup T)) → length chunks ≡ 0 → AreGroups rules gs → (spread gs ≡ map (move base) chunks ++ spread gs) × AreLeft rules base chunks gs
-  left_passed base chunks gs none h = (
-    sym (ap (λ ps. map (move base) ps ++ spread gs) (nothing chunks none)),
-    record { opened = subst (λ ps. AreChunks rules (map (move base) ps)) (sym (nothing chunks none)) tt; others = h },
+  pub left_open : (base : ℕ) (chunks : List (Placed T)) (groups : List (PlacedGroup T)) (start : ℕ) (group : Rc (Group T) Global) (others : List (PlacedGroup T)) → length chunks ≡ 0 → PlacesFirst rules groups start group others
+      → (map (move base) chunks ++ spread groups ≡ map (move start) group.value.chunks.items ++ spread others) × AreChunks rules (map (move start) group.value.chunks.items)
+  left_open base chunks groups start group others none h = (
+    ap (λ ps. map (move base) ps ++ spread groups) (nothing chunks none) ∙ ap spread h.is,
+    are_opened start group.value h.first,
   )
 
-  pub left_next : (base : ℕ) (chunks : List (Placed T)) (groups : List (PlacedGroup T)) (p : Placed T) (ps : List (Placed T)) → chunks ≡ p ∷ ps → AreLeft rules base chunks groups
-      → (map (move base) chunks ++ spread groups ≡ move base p ∷ (map (move base) ps ++ spread groups)) × (IsChunk rules (p.start + base) p.chunk.value × AreLeft rules base ps groups)
+  pub left_passed : (base : ℕ) (chunks : List (Placed T)) (groups : List (PlacedGroup T)) → length chunks ≡ 0 → map (move base) chunks ++ spread groups ≡ spread groups
+  left_passed base chunks groups none = ap (λ ps. map (move base) ps ++ spread groups) (nothing chunks none)
+
+  pub left_next : (base : ℕ) (chunks : List (Placed T)) (groups : List (PlacedGroup T)) (p : Placed T) (ps : List (Placed T)) → chunks ≡ p ∷ ps → AreChunks rules (map (move base) chunks)
+      → (map (move base) chunks ++ spread groups ≡ move base p ∷ (map (move base) ps ++ spread groups)) × (IsChunk rules (p.start + base) p.chunk.value × AreChunks rules (map (move base) ps))
   left_next base chunks groups p ps some h =
-      let all = subst (λ qs. AreChunks rules (map (move base) qs)) some h.opened in
-      (ap (λ qs. map (move base) qs ++ spread groups) some, (all.0.0, record { opened = all.1; others = h.others }))
+      let all = subst (λ qs. AreChunks rules (map (move base) qs)) some h in
+      (ap (λ qs. map (move base) qs ++ spread groups) some, (all.0.0, all.1))
 
   -- the first of chunks that are left
-  pub next_chunk : (base : ℕ) (chunks : List (Placed T)) (groups : List (PlacedGroup T)) (p : Placed T) (ps : List (Placed T)) → chunks ≡ p ∷ ps → AreLeft rules base chunks groups
+  pub next_chunk : (base : ℕ) (chunks : List (Placed T)) (groups : List (PlacedGroup T)) (p : Placed T) (ps : List (Placed T)) → chunks ≡ p ∷ ps → AreChunks rules (map (move base) chunks)
       → IsNextChunk (map (move base) chunks ++ spread groups) (base + p.start) p.chunk.value (map (move base) ps ++ spread groups)
   next_chunk base chunks groups p ps some h =
       let next = left_next base chunks groups p ps some h in

@@ -3,9 +3,12 @@ pub mod Clear
 pub mod Chunks
 pub mod Whole
 pub mod Groups
+pub mod Pages
+pub mod Builders
 pub mod WholeGroups
 pub mod Carried
 pub mod Passing
+pub mod Cursor
 pub mod Each
 pub mod Under
 pub mod Updates
@@ -15,7 +18,10 @@ pub mod Cost
 pub mod Walked
 pub mod Parts
 pub mod WalkedGroups
+pub mod CarriedPages
 pub mod Still
 pub mod Sets
 pub mod Same
 pub mod Adding
+pub mod SharedBefore
+pub mod Opened

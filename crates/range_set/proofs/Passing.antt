@@ -6,10 +6,14 @@ use Rattle.std.specs.Prelude.{nat_le}
 use Rattle.std.specs.List.{list_any}
 use Rattle.range_set.specs.Rules.{RangeRules}
 use Rattle.range_set.specs.Points.{points_of, stands}
-use Rattle.range_set.specs.PrivateChunks.{AreGroups, Ascend, EndBy, IsChunk, flat, shift, spread}
+use Rattle.range_set.specs.PrivateChunks.{ArePassed, Ascend, EndBy, IsChunk, flat, shift, spread}
+use Rattle.range_set.specs.PrivatePages.{PlacesFirst}
 use Rattle.range_set.specs.Updating.{overlaps}
+use Rattle.std.specs.declared.alloc.Global.{Global}
+use Rattle.std.specs.declared.rc.Rc.{Rc}
 use Rattle.range_set.specs.declared.ranged.Ranged.{Ranged}
 use Rattle.range_set.specs.declared.chunk.Placed.{Placed}
+use Rattle.range_set.specs.declared.group.Group.{Group}
 use Rattle.range_set.specs.declared.group.PlacedGroup.{PlacedGroup}
 use Rattle.range_set.proofs.Chunks.{ascend-rest, end_by_greatest}
 use Rattle.range_set.proofs.Groups.{flat-spread, group_ends}
@@ -44,11 +48,11 @@ module _ {T : Type 0} where
   none_from from to r rest l h = none_past from to r.from (r ∷ rest) l (omega arith, h.1)
 
 -- chunks without a range that stands for what it covers
-or_first_false : (a b : Bool) → (a || b) ≡ false → a ≡ false
+pub or_first_false : (a b : Bool) → (a || b) ≡ false → a ≡ false
 or_first_false true b h = h
 or_first_false false b h = refl
 
-or_second_false : (a b : Bool) → (a || b) ≡ false → b ≡ false
+pub or_second_false : (a b : Bool) → (a || b) ≡ false → b ≡ false
 or_second_false true b h = cc
 or_second_false false b h = h
 
@@ -65,12 +69,6 @@ module _ {T : Type 0} (rules : RangeRules T) where
   take_point r rest h = rw h refl
 
 module _ {T : Type 0} where
-  -- what passing over chunks whose hull ends before a place leaves: those that overlap a span from there on, and their order
-  pub record ArePassed (place : ℕ) (old new : List (Placed T)) : Type 0 where
-    pub kept : (to : ℕ) → filter (overlaps place to) (flat new) ≡ filter (overlaps place to) (flat old)
-    pub order : (n : ℕ) → Ascend n (flat old) → Ascend n (flat new)
-    pub fewer : length (flat new) ≤ length (flat old)
-
   pub passed_none : (place : ℕ) (ps : List (Placed T)) → ArePassed place ps ps
   passed_none place ps = record {
     kept = λ to. refl;
@@ -78,7 +76,7 @@ module _ {T : Type 0} where
     fewer = omega arith;
   }
 
-  passed_hull : (place start reach : ℕ) (old here later : List (Placed T)) (rs : List (Ranged T)) → flat here ≡ map (shift start) rs ++ flat later → EndBy reach rs → start + reach < place → ArePassed place old here → ArePassed place old later
+  pub passed_hull : (place start reach : ℕ) (old here later : List (Placed T)) (rs : List (Ranged T)) → flat here ≡ map (shift start) rs ++ flat later → EndBy reach rs → start + reach < place → ArePassed place old here → ArePassed place old later
   passed_hull place start reach old here later rs is ends l h = record {
     kept = λ to. sym (none_overlap place to start reach rs (flat later) ends l) ∙ (ap (filter (overlaps place to)) (sym is) ∙ h.kept to);
     order = λ n k. ascend-rest n (map (shift start) rs) (flat later) (subst (Ascend n) is (h.order n k));
@@ -91,10 +89,18 @@ module _ {T : Type 0} where
       let e = c.reach in
       passed_hull place p.start p.chunk.value.reach old (p ∷ later) later p.chunk.value.ranges.items refl (end_by_greatest p.chunk.value.ranges.items p.chunk.value.reach (omega (arith, e))) l h
 
-  pub passed_group : (rules : RangeRules T) (place : ℕ) (old : List (Placed T)) (g : PlacedGroup T) (gs : List (PlacedGroup T)) → AreGroups rules (g ∷ gs) → g.start + g.group.value.reach < place
-      → ArePassed place old (spread (g ∷ gs)) → ArePassed place old (spread gs)
-  passed_group rules place old g gs c l h =
-      passed_hull place g.start g.group.value.reach old (spread (g ∷ gs)) (spread gs) (flat g.group.value.chunks.items) (flat-spread g gs) (group_ends rules g.start g.group.value c.0.0) l h
+  pub passed_group : (rules : RangeRules T) (place : ℕ) (old : List (Placed T)) (groups : List (PlacedGroup T)) (start : ℕ) (group : Rc (Group T) Global) (others : List (PlacedGroup T)) → PlacesFirst rules groups start group others
+      → start + group.value.reach < place → ArePassed place old (spread groups) → ArePassed place old (spread others)
+  passed_group rules place old groups start group others c l h =
+      let g : PlacedGroup T = record { start = start; group = group } in
+      passed_hull place start group.value.reach old (spread groups) (spread others) (flat group.value.chunks.items) (ap (λ gs. flat (spread gs)) c.is ∙ flat-spread g others) (group_ends rules start group.value c.first) l h
+
+  pub passed_both : (place : ℕ) (old here later : List (Placed T)) → ArePassed place old here → ArePassed place here later → ArePassed place old later
+  passed_both place old here later h k = record {
+    kept = λ to. k.kept to ∙ h.kept to;
+    order = λ n a. k.order n (h.order n a);
+    fewer = let m = h.fewer in let n = k.fewer in omega (arith, m, n);
+  }
 
 module _ {T : Type 0} (rules : RangeRules T) where
   -- what passing over chunks without a range that stands for what it covers leaves
@@ -117,5 +123,14 @@ module _ {T : Type 0} (rules : RangeRules T) where
   pub no_point_chunk : (old : List (Placed T)) (p : Placed T) (later : List (Placed T)) → IsChunk rules p.start p.chunk.value → p.chunk.value.has_point ≡ false → HaveNoPoint old (p ∷ later) → HaveNoPoint old later
   no_point_chunk old p later c e h = no_point_hull p.start old (p ∷ later) later p.chunk.value.ranges.items refl (sym c.points ∙ e) h
 
-  pub no_point_group : (old : List (Placed T)) (g : PlacedGroup T) (gs : List (PlacedGroup T)) → AreGroups rules (g ∷ gs) → g.group.value.has_point ≡ false → HaveNoPoint old (spread (g ∷ gs)) → HaveNoPoint old (spread gs)
-  no_point_group old g gs c e h = no_point_hull g.start old (spread (g ∷ gs)) (spread gs) (flat g.group.value.chunks.items) (flat-spread g gs) (sym c.0.0.points ∙ e) h
+  pub no_point_group : (old : List (Placed T)) (groups : List (PlacedGroup T)) (start : ℕ) (group : Rc (Group T) Global) (others : List (PlacedGroup T)) → PlacesFirst rules groups start group others
+      → group.value.has_point ≡ false → HaveNoPoint old (spread groups) → HaveNoPoint old (spread others)
+  no_point_group old groups start group others c e h =
+      let g : PlacedGroup T = record { start = start; group = group } in
+      no_point_hull start old (spread groups) (spread others) (flat group.value.chunks.items) (ap (λ gs. flat (spread gs)) c.is ∙ flat-spread g others) (sym c.first.points ∙ e) h
+
+  pub no_point_both : (old here later : List (Placed T)) → HaveNoPoint old here → HaveNoPoint here later → HaveNoPoint old later
+  no_point_both old here later h k = record {
+    kept = k.kept ∙ h.kept;
+    fewer = let m = h.fewer in let n = k.fewer in omega (arith, m, n);
+  }

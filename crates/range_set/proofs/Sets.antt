@@ -1,5 +1,5 @@
 -- Sets of chunks as a whole: their ends, and where a mapped set lies.
-use Rattle.std.proofs.Common.{◌≡◌, ℕ, zero, suc, ◌+◌, ◌-◌, ◌<◌, ◌≤◌, Bool, true, false, ◌&&◌, ◌||◌, cond, List, [], ◌∷◌, ◌++◌, length, get_or, take, map, filter_map, Option, Some, None, refl, sym, ap, subst, ◌∙◌, arith}
+use Rattle.std.proofs.Common.{◌≡◌, ℕ, zero, suc, ◌+◌, ◌-◌, ◌^◌, ◌<◌, ◌≤◌, Bool, true, false, ◌&&◌, ◌||◌, cond, List, [], ◌∷◌, ◌++◌, length, get_or, take, map, filter_map, Option, Some, None, refl, sym, ap, subst, ◌∙◌, arith}
 use Rattle.std.proofs.lemmas.Option.{get_or_from_slice_get, slice_get-map}
 use Rattle.std.proofs.lemmas.List.{append-nil, length-append, length-map}
 use Rattle.std.specs.List.{cons_option}
@@ -13,14 +13,17 @@ use Rattle.stable_order.specs.StableSort.{insert_by, stable_sort}
 use Rattle.range_set.specs.Rules.{RangeRules}
 use Rattle.range_set.specs.Order.{AllForward, before}
 use Rattle.range_set.specs.Mapping.{Ends, EndWithin, ends_unless_turned, map_ranges, moved, new_ends, place_of, point_ends, span_ends}
-use Rattle.range_set.specs.PrivateChunks.{AreChunks, AreGroups, EndBy, Fit, flat, shift, spread}
+use Rattle.range_set.specs.PrivateChunks.{AreChunks, AreGroups, EndBy, Fit, flat, greatest_end, shift, spread}
+use Rattle.range_set.specs.PrivatePages.{ArePages, further, laid}
 use Rattle.range_set.specs.declared.ranged.Ranged.{Ranged}
 use Rattle.range_set.specs.declared.chunk.Placed.{Placed}
 use Rattle.range_set.specs.declared.group.PlacedGroup.{PlacedGroup}
-use Rattle.range_set.proofs.Chunks.{fit_flat, length_shifted, not_less}
+use Rattle.range_set.specs.declared.page.PlacedPage.{PlacedPage}
+use Rattle.range_set.proofs.Chunks.{end_by_greatest, fit_flat, length_shifted, not_less}
 use Rattle.range_set.proofs.Clear.{Sections}
 use Rattle.range_set.proofs.Each.{Within, end_within}
-use Rattle.range_set.proofs.Groups.{flat-spread, flat-spread_push, flat_forward, group-at, group_ends, shifted_twice, spread_take}
+use Rattle.range_set.proofs.Groups.{are_spread, flat-spread, flat-spread_append, flat_forward, group-at, shifted_twice}
+use Rattle.range_set.proofs.Pages.{flat-laid, flat-laid_push, hull_at_group, laid_take, page-at, page_opened}
 use Rattle.range_set.proofs.Walked.{hull_within, within_prefix, within_rest}
 
 -- ends that lie in a text, if there are any
@@ -94,25 +97,27 @@ module _ {T : Type 0} (rules : RangeRules T) where
   within_both len [] ys h k = k
   within_both len (x ∷ xs) ys h k = (h.0, within_both len xs ys h.1 k)
 
-  pub within_push : (len : ℕ) (gs : List (PlacedGroup T)) (i : ℕ) (g : PlacedGroup T) → i < length gs → g ≡ get_or gs i g → AreGroups rules gs → g.start + g.group.value.reach ≤ len
-      → Within len (flat (spread (take i gs))) → Within len (flat (spread (take (i + 1) gs)))
-  within_push len gs i g l e h k w =
-      let group = (group-at rules gs i g l e h).0 in
-      subst (λ hs. Within len (flat (spread hs))) (sym (spread_take gs i g l e))
-      (subst (Within len) (sym (flat-spread_push (take i gs) g))
-      (within_both len (flat (spread (take i gs))) _ w
-      (hull_in len g.start g.group.value.reach (flat g.group.value.chunks.items) (flat_forward rules g.group.value.chunks.items group.chunks) (group_ends rules g.start g.group.value group) k)))
+  pub within_push : (len : ℕ) (ps : List (PlacedPage T)) (i : ℕ) (p : PlacedPage T) → i < length ps → p ≡ get_or ps i p → ArePages rules ps → p.start + p.page.value.reach ≤ len
+      → Within len (flat (spread (laid (take i ps)))) → Within len (flat (spread (laid (take (i + 1) ps))))
+  within_push len ps i p l e h k w =
+      let page = (page-at rules ps i p l e h).0 in
+      let gs = p.page.value.groups.items in
+      let r = page.reach in
+      subst (λ qs. Within len (flat (spread (laid qs)))) (sym (laid_take ps i p l e))
+      (subst (Within len) (sym (flat-laid_push (take i ps) p))
+      (within_both len (flat (spread (laid (take i ps)))) _ w
+      (hull_in len p.start p.page.value.reach (flat (spread gs)) (flat_forward rules (spread gs) (are_spread rules gs page.groups)) (end_by_greatest (flat (spread gs)) p.page.value.reach (omega (arith, r))) k)))
 
-  pub hull_of : (len : ℕ) (gs : List (PlacedGroup T)) (i : ℕ) (g : PlacedGroup T) → i < length gs → g ≡ get_or gs i g → AreGroups rules gs → Within len (flat (spread gs)) → g.start + g.group.value.reach ≤ len
-  hull_of len [] i g l e h w = absurd (omega arith)
-  hull_of len (q ∷ gs) zero g l e h w =
-      let ranges = flat q.group.value.chunks.items in
-      let parts = subst (Within len) (flat-spread q gs) w in
-      let k = hull_within rules [] len q.start ranges h.0.1 (within_prefix len (map (shift q.start) ranges) (flat (spread gs)) parts) in
+  pub hull_of : (len : ℕ) (ps : List (PlacedPage T)) (i : ℕ) (p : PlacedPage T) → i < length ps → p ≡ get_or ps i p → ArePages rules ps → Within len (flat (spread (laid ps))) → p.start + p.page.value.reach ≤ len
+  hull_of len [] i p l e h w = absurd (omega arith)
+  hull_of len (q ∷ ps) zero p l e h w =
+      let ranges = flat (spread q.page.value.groups.items) in
+      let parts = subst (Within len) (flat-laid q ps) w in
+      let k = hull_within rules [] len q.start ranges h.0.1 (within_prefix len (map (shift q.start) ranges) (flat (spread (laid ps))) parts) in
       let r = h.0.0.reach in
-      subst (λ (x : PlacedGroup T). x.start + x.group.value.reach ≤ len) (sym e) (omega (arith, k, r))
-  hull_of len (q ∷ gs) (suc i) g l e h w =
-      hull_of len gs i g (omega arith) e h.1 (within_rest len (map (shift q.start) (flat q.group.value.chunks.items)) (flat (spread gs)) (subst (Within len) (flat-spread q gs) w))
+      subst (λ (x : PlacedPage T). x.start + x.page.value.reach ≤ len) (sym e) (omega (arith, k, r))
+  hull_of len (q ∷ ps) (suc i) p l e h w =
+      hull_of len ps i p (omega arith) e h.1 (within_rest len (map (shift q.start) (flat (spread q.page.value.groups.items))) (flat (spread (laid ps))) (subst (Within len) (flat-laid q ps) w))
 
 -- the last range of some chunks
 pub last_place : {X : Type 0} (xs : List X) (x : X) → slice_get xs (length xs - 1) ≡ Some x → (length xs - 1 < length xs) × (x ≡ get_or xs (length xs - 1) x)
@@ -156,7 +161,7 @@ module _ {T : Type 0} (rules : RangeRules T) where
       ∙ last_flat (q' ∷ ps) p r h.1 (ap (slice_get (q ∷ q' ∷ ps)) (sym n) ∙ e) f
 
   -- the last range of some groups
-  pub last_spread : (gs : List (PlacedGroup T)) (g : PlacedGroup T) (o : Option (Ranged T)) → AreGroups rules gs → slice_get gs (length gs - 1) ≡ Some g
+  last_spread : (gs : List (PlacedGroup T)) (g : PlacedGroup T) (o : Option (Ranged T)) → AreGroups rules gs → slice_get gs (length gs - 1) ≡ Some g
       → o ≡ slice_get (map (shift g.start) (flat g.group.value.chunks.items)) (length (flat g.group.value.chunks.items) - 1) → o ≡ slice_get (flat (spread gs)) (length (flat (spread gs)) - 1)
   last_spread [] g o h e f = cc
   last_spread (q ∷ []) g o h e f =
@@ -176,6 +181,65 @@ module _ {T : Type 0} (rules : RangeRules T) where
       last_spread (q' ∷ gs) g o h.1 (ap (slice_get (q ∷ q' ∷ gs)) (sym n) ∙ e) f
       ∙ (sym (last_append (map (shift q.start) (flat q.group.value.chunks.items)) (flat (spread (q' ∷ gs))) some)
       ∙ ap (λ xs. slice_get xs (length xs - 1)) (sym (flat-spread q (q' ∷ gs))))
+
+  -- the last range of some pages
+  last_laid : (ps : List (PlacedPage T)) (p : PlacedPage T) (o : Option (Ranged T)) → ArePages rules ps → slice_get ps (length ps - 1) ≡ Some p
+      → (let rs = flat (spread (map (further p.start) p.page.value.groups.items)) in o ≡ slice_get rs (length rs - 1)) → o ≡ slice_get (flat (spread (laid ps))) (length (flat (spread (laid ps))) - 1)
+  last_laid [] p o h e f = cc
+  last_laid (q ∷ []) p o h e f =
+      let same : q ≡ p = cc in
+      f ∙ (ap (λ gs. slice_get (flat (spread gs)) (length (flat (spread gs)) - 1)) (sym (append-nil (map (further p.start) p.page.value.groups.items)))
+      ∙ ap (λ (x : PlacedPage T). slice_get (flat (spread (laid (x ∷ [])))) (length (flat (spread (laid (x ∷ [])))) - 1)) (sym same))
+  last_laid (q ∷ q' ∷ ps) p o h e f =
+      let n : length (q ∷ q' ∷ ps) - 1 ≡ suc (length (q' ∷ ps) - 1) = omega arith in
+      let here = map (further q.start) q.page.value.groups.items in
+      let some : 1 ≤ length (flat (spread (laid (q' ∷ ps)))) =
+      let ranges = flat (spread q'.page.value.groups.items) in
+      let a = ap length (flat-laid q' ps) ∙ length-append (map (shift q'.start) ranges) (flat (spread (laid ps))) in
+      let b = length_shifted rules q'.start ranges in
+      let c = h.1.0.1 in
+      omega (arith, a, b, c) in
+      last_laid (q' ∷ ps) p o h.1 (ap (slice_get (q ∷ q' ∷ ps)) (sym n) ∙ e) f
+      ∙ (sym (last_append (flat (spread here)) (flat (spread (laid (q' ∷ ps)))) some)
+      ∙ ap (λ xs. slice_get xs (length xs - 1)) (sym (flat-spread_append here (laid (q' ∷ ps)))))
+
+  -- it is the last one of the last group of the last page
+  pub last_paged : (ps : List (PlacedPage T)) (p : PlacedPage T) (g : PlacedGroup T) (o : Option (Ranged T)) → ArePages rules ps → slice_get ps (length ps - 1) ≡ Some p
+      → slice_get p.page.value.groups.items (length p.page.value.groups.items - 1) ≡ Some g
+      → o ≡ slice_get (map (shift (p.start + g.start)) (flat g.group.value.chunks.items)) (length (flat g.group.value.chunks.items) - 1) → o ≡ slice_get (flat (spread (laid ps))) (length (flat (spread (laid ps))) - 1)
+  last_paged ps p g o h e k f =
+      let place = last_place ps p e in
+      let page = (page-at rules ps (length ps - 1) p place.0 place.1 h).0 in
+      let gs = p.page.value.groups.items in
+      let m : p.start + g.start ≡ g.start + p.start = omega arith in
+      let at : slice_get (map (further p.start) gs) (length (map (further p.start) gs) - 1) ≡ Some (further p.start g) =
+      ap (λ n. slice_get (map (further p.start) gs) (n - 1)) (length-map gs (further p.start)) ∙ (slice_get-map (further p.start) gs (length gs - 1) ∙ ap (option_map (further p.start)) k) in
+      last_laid ps p o h e (last_spread (map (further p.start) gs) (further p.start g) o (page_opened rules p.start p.page.value page) at
+      (f ∙ ap (λ n. slice_get (map (shift n) (flat g.group.value.chunks.items)) (length (flat g.group.value.chunks.items) - 1)) m))
+
+  -- the last group of the last page counts from a place in the document
+  pub last_group : (ps : List (PlacedPage T)) (p : PlacedPage T) (g : PlacedGroup T) → ArePages rules ps → slice_get ps (length ps - 1) ≡ Some p → slice_get p.page.value.groups.items (length p.page.value.groups.items - 1) ≡ Some g
+      → AreChunks rules g.group.value.chunks.items × (p.start + g.start + greatest_end (flat g.group.value.chunks.items) < 2 ^ 32)
+  last_group ps p g h e k =
+      let place = last_place ps p e in
+      let page = (page-at rules ps (length ps - 1) p place.0 place.1 h).0 in
+      let gs = p.page.value.groups.items in
+      let at = last_place gs g k in
+      let group = (group-at rules gs (length gs - 1) g at.0 at.1 page.groups).0 in
+      let hull = hull_at_group rules gs (length gs - 1) g at.0 at.1 page.groups in
+      let a = group.reach in
+      let b = page.reach in
+      let c = page.fits in
+      (group.chunks, omega (arith, hull, a, b, c))
+
+  pub has_last_group : (ps : List (PlacedPage T)) (p : PlacedPage T) → ArePages rules ps → slice_get ps (length ps - 1) ≡ Some p → slice_get p.page.value.groups.items (length p.page.value.groups.items - 1) ≡ None → ⊥
+  has_last_group ps p h e k =
+      let place = last_place ps p e in
+      has_last p.page.value.groups.items (some p.page.value.groups.items (page-at rules ps (length ps - 1) p place.0 place.1 h).1) k
+    where
+      some : (gs : List (PlacedGroup T)) → 1 ≤ length (flat (spread gs)) → 1 ≤ length gs
+      some [] l = absurd (omega (arith, l))
+      some (g ∷ gs) l = omega arith
 
   -- the last range of chunks that count from a place
   pub last_moved : (base : ℕ) (ps : List (Placed T)) (p : Placed T) (r : Ranged T) → AreChunks rules ps → slice_get ps (length ps - 1) ≡ Some p

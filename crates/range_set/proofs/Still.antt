@@ -12,13 +12,15 @@ use Rattle.range_set.specs.Rules.{RangeRules}
 use Rattle.range_set.specs.Order.{AllForward, before, first_fault}
 use Rattle.range_set.specs.Ranking.{before-order}
 use Rattle.range_set.specs.Mapping.{Changes, is_turned, map_ranges, moved}
-use Rattle.range_set.specs.PrivateChunks.{AreGroups, flat, shift, spread}
+use Rattle.range_set.specs.PrivateChunks.{flat, shift, spread}
+use Rattle.range_set.specs.PrivatePages.{ArePages, laid}
 use Rattle.range_set.specs.declared.ranged.Ranged.{Ranged}
-use Rattle.range_set.specs.declared.group.PlacedGroup.{PlacedGroup}
+use Rattle.range_set.specs.declared.page.PlacedPage.{PlacedPage}
 use Rattle.range_set.proofs.Chunks.{not_less}
 use Rattle.range_set.proofs.Clear.{clear_place}
 use Rattle.range_set.proofs.Each.{Within}
-use Rattle.range_set.proofs.Groups.{flat-spread_push, group-at, spread_take, turned_any}
+use Rattle.range_set.proofs.Groups.{turned_any}
+use Rattle.range_set.proofs.Pages.{flat-laid_push, laid_take, page-at}
 use Rattle.range_set.proofs.RangeOrder.{forward-no_fault, rises-no_fault}
 use Rattle.range_set.proofs.Walked.{clear_range}
 
@@ -66,13 +68,13 @@ module _ {T : Type 0} (rules : RangeRules T) where
     map_still rs h n t w =
         ap (stable_sort (before rules)) (moved_still rs h (forward-no_fault rules 0 None rs n) t w) ∙ stable_sort-risen (before rules) (before-order rules) rs (rises-no_fault rules rs n)
 
-  -- one more group in which nothing is turned
-  pub turned_push : (gs : List (PlacedGroup T)) (i : ℕ) (g : PlacedGroup T) → i < length gs → g ≡ get_or gs i g → AreGroups rules gs → g.group.value.is_turned ≡ false → list_any (is_turned rules) (flat (spread (take i gs))) ≡ false
-      → list_any (is_turned rules) (flat (spread (take (i + 1) gs))) ≡ false
-  turned_push gs i g l e h none before_it =
-      let here = (group-at rules gs i g l e h).0 in
-      let ranges = flat g.group.value.chunks.items in
-      let more = ap (λ hs. flat (spread hs)) (spread_take gs i g l e) ∙ flat-spread_push (take i gs) g in
+  -- one more page in which nothing is turned
+  pub turned_push : (ps : List (PlacedPage T)) (i : ℕ) (p : PlacedPage T) → i < length ps → p ≡ get_or ps i p → ArePages rules ps → p.page.value.is_turned ≡ false → list_any (is_turned rules) (flat (spread (laid (take i ps)))) ≡ false
+      → list_any (is_turned rules) (flat (spread (laid (take (i + 1) ps)))) ≡ false
+  turned_push ps i p l e h none before_it =
+      let here = (page-at rules ps i p l e h).0 in
+      let ranges = flat (spread p.page.value.groups.items) in
+      let more = ap (λ qs. flat (spread (laid qs))) (laid_take ps i p l e) ∙ flat-laid_push (take i ps) p in
       ap (list_any (is_turned rules)) more
-      ∙ (list_any-append (is_turned rules) (flat (spread (take i gs))) (map (shift g.start) ranges)
-      ∙ (ap (λ b. b || list_any (is_turned rules) (map (shift g.start) ranges)) before_it ∙ (turned_any rules g.start ranges ∙ (sym here.turned ∙ none))))
+      ∙ (list_any-append (is_turned rules) (flat (spread (laid (take i ps)))) (map (shift p.start) ranges)
+      ∙ (ap (λ b. b || list_any (is_turned rules) (map (shift p.start) ranges)) before_it ∙ (turned_any rules p.start ranges ∙ (sym here.turned ∙ none))))

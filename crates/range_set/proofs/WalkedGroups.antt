@@ -13,7 +13,7 @@ use Rattle.range_set.specs.declared.ranged.Ranged.{Ranged}
 use Rattle.range_set.specs.declared.chunk.Placed.{Placed}
 use Rattle.range_set.specs.declared.group.PlacedGroup.{PlacedGroup}
 use Rattle.range_set.proofs.Chunks.{ascend-less, length_shifted}
-use Rattle.range_set.proofs.Clear.{IsClear, Sections, clear_apart, clear_place, none-narrow}
+use Rattle.range_set.proofs.Clear.{IsClear, Sections, clear_apart, clear_place, clear_start, none-narrow}
 use Rattle.range_set.proofs.Cost.{allowance, chunk_affected}
 use Rattle.range_set.proofs.Each.{Within}
 use Rattle.range_set.proofs.Groups.{flat-spread, flat_forward}
@@ -190,6 +190,23 @@ module _ {T : Type 0} (rules : RangeRules T) (d : Sections) where
             omega (arith, far, bound, size, hull.0),
         carried_fit from changed gs h.1 (ascend-less from g.start later hull.0 hull.1) (within_rest (old_size d) (map (shift g.start) ranges) later inside) f size,
       )
+
+  -- Groups that end before the first replaced range stay in place.
+  carried_still : (gs : List (PlacedGroup T)) (reps : List ChangedRange) → reps ≡ replaced d → AllApart 0 reps gs → map (carry 0 (clear_place d 0)) gs ≡ map (carry 0 0) gs
+  carried_still [] reps e apart = refl
+  carried_still (g ∷ gs) reps e apart =
+      let end = g.start + g.group.value.reach in
+      let met : IsClear 0 end d = sym (ap (list_any (meets 0 end)) e) ∙ apart.0.1 in
+      ap (λ n. map (carry 0 n) (g ∷ gs)) (clear_start 0 0 d (none-narrow 0 end 0 0 (replaced d) (omega arith) (omega arith) met))
+
+  pub walked_still : (whole : List (Ranged T)) (gs others : List (PlacedGroup T)) (more : List (Ranged T)) (reps : List ChangedRange) → AreGroups rules (gs ++ others)
+      → IsWalked rules d whole (spread (gs ++ others)) [] [] 0 reps → reps ≡ replaced d → AllApart 0 reps gs → more ≡ flat (spread (map (carry 0 0) gs)) → IsWalked rules d whole (spread others) more [] 0 reps
+  walked_still whole gs others more reps h w e apart is =
+      walked_carried whole 0 gs others [] more 0 reps h (omega arith) w w.ascend (λ b. ap (list_any (meets 0 b)) e) apart (is ∙ sym (ap (λ hs. flat (spread hs)) (carried_still gs reps e apart)))
+
+  pub still_fit : (reps : List ChangedRange) (gs : List (PlacedGroup T)) → AreGroups rules gs → FitCarried 0 0 reps gs
+  still_fit reps [] h = tt
+  still_fit reps (g ∷ gs) h = (λ none. omega (arith, h.0.0.fits), still_fit reps gs h.1)
 
   -- Chunks that are carried as far as the place from, up to whose ends no change is met, are walked.
   pub walked_chunks : (whole : List (Ranged T)) (from : ℕ) (ps others : List (Placed T)) (done more : List (Ranged T)) (reached : ℕ) (reps : List ChangedRange)

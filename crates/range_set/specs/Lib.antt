@@ -7,8 +7,10 @@ pub mod Seen
 pub mod Points
 pub mod Examples
 pub mod PrivateChunks
+pub mod PrivatePages
 pub mod PrivateMoving
 pub mod PrivateUpdates
+pub mod PrivateBuilders
 pub use Rattle.change_desc.specs.Sections
 pub use Rattle.change_desc.specs.Ranges
 pub use Rattle.change_desc.specs.Meeting

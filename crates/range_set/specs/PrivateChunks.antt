@@ -1,6 +1,6 @@
 -- Groups of chunks as one list of ranges, and groups and chunks that are shared one after another, moved as far as one place.
 -- Private: contracts of sets see that list alone.
-use Rattle.std.specs.Prelude.{◌≡◌, ◌⊎◌, ℕ, false, ◌+◌, ◌-◌, ◌^◌, ◌<◌, ◌≤◌, max, List, None, [], ◌∷◌, ◌++◌, length, map}
+use Rattle.std.specs.Prelude.{◌≡◌, ◌⊎◌, ℕ, false, filter, ◌+◌, ◌-◌, ◌^◌, ◌<◌, ◌≤◌, max, List, None, [], ◌∷◌, ◌++◌, length, map}
 use Rattle.std.specs.List.{list_any}
 use Rattle.change_desc.specs.Ranges.{meets}
 use Rattle.change_desc.specs.declared.changed_range.ChangedRange.{ChangedRange}
@@ -8,14 +8,12 @@ use Rattle.range_set.specs.Rules.{RangeRules}
 use Rattle.range_set.specs.Order.{AllForward, first_fault}
 use Rattle.range_set.specs.Mapping.{is_turned}
 use Rattle.range_set.specs.Points.{stands}
+use Rattle.range_set.specs.Updating.{overlaps}
 use Rattle.range_set.specs.declared.ranged.Ranged.{Ranged}
 use Rattle.range_set.specs.declared.chunk.Placed.{Placed}
 use Rattle.range_set.specs.declared.chunk.Chunk.{Chunk}
-use Rattle.range_set.specs.declared.chunk_builder.ChunkBuilder.{ChunkBuilder}
 use Rattle.range_set.specs.declared.group.Group.{Group}
 use Rattle.range_set.specs.declared.group.PlacedGroup.{PlacedGroup}
-use Rattle.range_set.specs.declared.group_builder.GroupBuilder.{GroupBuilder}
-use Rattle.range_set.specs.declared.mapped_builder.MappedBuilder.{MappedBuilder}
 
 module _ {T : Type 0} where
   -- the range further on
@@ -59,18 +57,6 @@ module _ {T : Type 0} where
   abbrev pub EndBy : ℕ → List (Ranged T) → Type 0
   EndBy n [] = Unit {0}
   EndBy n (r ∷ rs) = (r.to ≤ n) × EndBy n rs
-
-  -- the ranges of a builder: those of the chunks that are done, and those of the one that is growing
-  abbrev pub built : ChunkBuilder T → List (Ranged T)
-  built b = flat b.done.items ++ map (shift b.start) b.growing.ranges.items
-
-  -- the chunks of a builder of groups
-  abbrev pub grouped : GroupBuilder T → List (Placed T)
-  grouped b = spread b.done.items ++ map (move b.start) b.growing.chunks.items
-
-  -- the ranges that a builder of mapped ranges has put down: those of its groups, and of the chunks after them
-  abbrev pub put_down : MappedBuilder T → List (Ranged T)
-  put_down b = flat (grouped b.groups) ++ built b.chunks
 
   -- the group as far on as the place from goes to the place to
   abbrev pub carry : (from to : ℕ) → PlacedGroup T → PlacedGroup T
@@ -132,6 +118,12 @@ module _ {T : Type 0} where
   BeginBy n [] = Unit {0}
   BeginBy n (r ∷ rs) = (r.from ≤ n) × BeginBy n rs
 
+  -- what passing over chunks whose hull ends before a place leaves: those that overlap a span from there on, and their order
+  pub record ArePassed (place : ℕ) (old new : List (Placed T)) : Type 0 where
+    pub kept : (to : ℕ) → filter (overlaps place to) (flat new) ≡ filter (overlaps place to) (flat old)
+    pub order : (n : ℕ) → Ascend n (flat old) → Ascend n (flat new)
+    pub fewer : length (flat new) ≤ length (flat old)
+
 module _ {T : Type 0} (rules : RangeRules T) where
   -- Up to 128 ranges that count from the start of the first of them, with what a chunk keeps of them: their greatest end, and
   -- whether one of them is empty with an end side less than its start side.
@@ -165,31 +157,10 @@ module _ {T : Type 0} (rules : RangeRules T) where
   AreGroups [] = Unit {0}
   AreGroups (g ∷ gs) = (IsGroup g.start g.group.value × (1 ≤ length (flat g.group.value.chunks.items))) × AreGroups gs
 
-  -- what an iterator keeps of the chunks that are left, which count from a place, and of the groups after them
-  pub record AreLeft (base : ℕ) (chunks : List (Placed T)) (groups : List (PlacedGroup T)) : Type 0 where
-    pub opened : AreChunks (map (move base) chunks)
-    pub others : AreGroups groups
-
   -- groups, and how many ranges they have
   pub record AreGroupsOf (gs : List (PlacedGroup T)) (len : ℕ) : Type 0 where
     pub groups : AreGroups gs
     pub count : len ≡ length (flat (spread gs))
-
-  -- what a builder of chunks keeps
-  pub record IsBuilder (b : ChunkBuilder T) : Type 0 where
-    pub chunks : AreChunks b.done.items
-    pub growing : IsChunk b.start b.growing
-
-  -- what a builder of groups keeps
-  pub record IsGroupBuilder (b : GroupBuilder T) : Type 0 where
-    pub groups : AreGroups b.done.items
-    pub growing : IsGroup b.start b.growing
-    pub len : b.len ≡ length (flat (grouped b))
-
-  -- what a builder of mapped ranges keeps
-  pub record IsMappedBuilder (b : MappedBuilder T) : Type 0 where
-    pub groups : IsGroupBuilder b.groups
-    pub chunks : IsBuilder b.chunks
 
   -- what a set keeps of its groups and the number of its ranges
   pub record IsRangeSet (gs : List (PlacedGroup T)) (len : ℕ) : Type 0 where

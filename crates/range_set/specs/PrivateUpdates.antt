@@ -3,7 +3,10 @@ use Rattle.std.specs.Prelude.{◌≡◌, ℕ, ◌≤◌, ◌<◌, Bool, true, fa
 use Rattle.std.specs.List.{list_any}
 use Rattle.range_set.specs.Rules.{RangeRules}
 use Rattle.range_set.specs.Order.{before}
+use Rattle.range_set.specs.PrivateChunks.{AreChunks, flat, spread}
 use Rattle.range_set.specs.declared.ranged.Ranged.{Ranged}
+use Rattle.range_set.specs.declared.chunk.Placed.{Placed}
+use Rattle.range_set.specs.declared.group.PlacedGroup.{PlacedGroup}
 
 module _ {T : Type 0} where
   -- each range begins before a place
@@ -16,11 +19,12 @@ module _ {T : Type 0} where
   BeginPast place [] = Unit {0}
   BeginPast place (r ∷ rs) = (place < r.from) × BeginPast place rs
 
-  -- the start of the last range
-  abbrev pub last_start : List (Ranged T) → ℕ
-  last_start [] = 0
-  last_start (r ∷ []) = r.from
-  last_start (r ∷ q ∷ rs) = last_start (q ∷ rs)
+  -- the first of some groups, whose ranges begin before a place, were put after chunks, and the others were left
+  pub record AreSharedBefore (place : ℕ) (groups rest : List (PlacedGroup T)) (old new : List (Placed T)) : Type 0 where
+    pub taken : List (PlacedGroup T)
+    pub is : groups ≡ taken ++ rest
+    pub before : BeginUnder place (flat (spread taken))
+    pub chunks : new ≡ old ++ spread taken
 
   -- a test that none of a run and none of a chunk passes, none of the new run does, which has no more ranges than both
   pub record KeepsPart (chunk old new : List (Ranged T)) : Type 0 where
@@ -48,3 +52,11 @@ module _ {T : Type 0} (rules : RangeRules T) where
   IsBeyond [] (x ∷ added) = Unit {0}
   IsBeyond (u ∷ []) (x ∷ added) = before rules x u ≡ false
   IsBeyond (u ∷ v ∷ chunk) (x ∷ added) = IsBeyond (v ∷ chunk) (x ∷ added)
+
+  -- chunks of the first of some groups, and the others, whose ranges begin after a place
+  pub record AreOpened (place : ℕ) (groups : List (PlacedGroup T)) (chunks : List (Placed T)) (rest : List (PlacedGroup T)) : Type 0 where
+    pub taken : List (PlacedGroup T)
+    pub is : groups ≡ taken ++ rest
+    pub ranges : flat chunks ≡ flat (spread taken)
+    pub are : AreChunks rules chunks
+    pub after : BeginPast place (flat (spread rest))

@@ -4,13 +4,14 @@ ghost use Rattle.range_set.specs.PrivateChunks.{Ascend};
 ghost use Rattle.range_set.specs.Seen.{seen};
 ghost use Rattle.range_set.specs.Updating.{overlaps};
 
+use crate::group_cursor::GroupCursor;
 use crate::iter::Iter;
 use crate::range_ref::RangeRef;
 use crate::range_value::RangeValue;
 use std::marker::Model;
 
-/// The ranges of a set that overlap or touch a span, in order. Contracts see it as those that are left. Groups and chunks whose
-/// hull ends before the span are passed over whole, and the first range that begins past the span is the end.
+/// The ranges of a set that overlap or touch a span, in order. Contracts see it as those that are left. Pages, groups and
+/// chunks whose hull ends before the span are passed over whole, and the first range that begins past the span is the end.
 #[derive(Drop)]
 pub struct Between<'a, T: RangeValue> {
     ranges: Iter<'a, T>,
@@ -53,7 +54,7 @@ impl<'a, T: RangeValue> Iterator for Between<'a, T> {
             self.ranges.pass_chunks(self.from);
             let range = self.ranges.next()?;
             if self.to < range.from {
-                self.ranges = Iter::over(&[]);
+                self.ranges = Iter::over(GroupCursor::over(&[]));
                 return None;
             }
             if self.from <= range.to {

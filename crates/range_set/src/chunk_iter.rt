@@ -1,10 +1,10 @@
 ghost use Rattle.std.specs.Prelude.{◌++◌, ◌≡◌, ◌≤◌, IfSome, [], None, ℕ, filter, length};
 ghost use Rattle.range_set.specs.Points.{points_of};
-ghost use Rattle.range_set.specs.PrivateChunks.{AreGroups, Ascend, IsNextChunk, flat, spread};
+ghost use Rattle.range_set.specs.PrivateChunks.{Ascend, IsNextChunk, flat, spread};
 ghost use Rattle.range_set.specs.Updating.{overlaps};
 
 use crate::chunk::{Chunk, Placed};
-use crate::group::PlacedGroup;
+use crate::group_cursor::GroupCursor;
 use crate::range_value::RangeValue;
 use crate::run::Run;
 use std::marker::Model;
@@ -15,7 +15,7 @@ pub(crate) struct ChunkIter<'a, T: RangeValue> {
     /// The place from which the chunks of the group that was reached count.
     base: u32,
     chunks: &'a [Placed<T>],
-    groups: &'a [PlacedGroup<T>],
+    groups: GroupCursor<'a, T>,
 }
 
 impl<'a, T: RangeValue> Model for ChunkIter<'a, T> {
@@ -25,18 +25,17 @@ impl<'a, T: RangeValue> Model for ChunkIter<'a, T> {
     ghost Value = { List (Placed T) };
 
     ghost use Rattle.std.specs.Prelude.{◌++◌, map};
-    ghost use Rattle.range_set.specs.PrivateChunks.{AreLeft, move, spread};
+    ghost use Rattle.range_set.specs.PrivateChunks.{AreChunks, move, spread};
 
-    ghost view = { λ s. map (move s.base) s.chunks.now ++ spread s.groups.now };
+    ghost view = { λ s. map (move s.base) s.chunks.now ++ spread s.groups };
 
-    ghost invariant = { λ s. AreLeft T.rules s.base s.chunks.now s.groups.now };
+    ghost invariant = { λ s. AreChunks T.rules (map (move s.base) s.chunks.now) };
 }
 
 impl<'a, T: RangeValue> ChunkIter<'a, T> {
     /// The chunks of these groups.
-    pub(crate) fn over(groups: &'a [PlacedGroup<T>]) -> ChunkIter<'a, T>
-        requires { AreGroups T.rules groups.now }
-        ensures { result ≡ spread groups.now }
+    pub(crate) fn over(groups: GroupCursor<'a, T>) -> ChunkIter<'a, T>
+        ensures { result ≡ spread groups.entry }
     {
         ChunkIter {
             base: 0,
@@ -58,9 +57,9 @@ impl<'a, T: RangeValue> ChunkIter<'a, T> {
                     return Some((self.base + next.start, &*next.chunk));
                 }
                 None => {
-                    let (next, others) = self.groups.split_first()?;
-                    self.base = next.start;
-                    self.chunks = next.group.chunks.as_slice();
+                    let (start, group, others) = self.groups.split_first()?;
+                    self.base = start;
+                    self.chunks = group.chunks.as_slice();
                     self.groups = others;
                 }
             }
@@ -92,7 +91,7 @@ impl<'a, T: RangeValue> ChunkIter<'a, T> {
         if run.is_empty() { self.next_run() } else { run }
     }
 
-    /// Passes over chunks and groups that come next and whose hull ends before a place.
+    /// Passes over chunks, groups and pages that come next and whose hull ends before a place.
     pub(crate) fn pass_chunks(&mut self, place: u32)
         ensures kept { (to : ℕ) → filter (overlaps place to) (flat self.new) ≡ filter (overlaps place to) (flat self.old) }
         ensures order { (n : ℕ) → Ascend n (flat self.old) → Ascend n (flat self.new) }
@@ -106,21 +105,24 @@ impl<'a, T: RangeValue> ChunkIter<'a, T> {
                     }
                     self.chunks = others;
                 }
-                None => match self.groups.split_first() {
-                    Some((first, others)) => {
-                        if place <= first.start + first.group.reach {
-                            self.base = first.start;
-                            self.chunks = first.group.chunks.as_slice();
+                None => {
+                    self.groups = self.groups.past_pages(place);
+                    match self.groups.split_first() {
+                        Some((start, group, others)) => {
+                            if place <= start + group.reach {
+                                self.base = start;
+                                self.chunks = group.chunks.as_slice();
+                            }
+                            self.groups = others;
                         }
-                        self.groups = others;
+                        None => return,
                     }
-                    None => return,
-                },
+                }
             }
         }
     }
 
-    /// Passes over chunks and groups that come next and have no range that stands for what it covers.
+    /// Passes over chunks, groups and pages that come next and have no range that stands for what it covers.
     pub(crate) fn pass_without_point(&mut self)
         ensures kept { points_of T.rules (flat self.new) ≡ points_of T.rules (flat self.old) }
         ensures fewer { length (flat self.new) ≤ length (flat self.old) }
@@ -133,16 +135,19 @@ impl<'a, T: RangeValue> ChunkIter<'a, T> {
                     }
                     self.chunks = others;
                 }
-                None => match self.groups.split_first() {
-                    Some((first, others)) => {
-                        if first.group.has_point {
-                            self.base = first.start;
-                            self.chunks = first.group.chunks.as_slice();
+                None => {
+                    self.groups = self.groups.past_pages_without_point();
+                    match self.groups.split_first() {
+                        Some((start, group, others)) => {
+                            if group.has_point {
+                                self.base = start;
+                                self.chunks = group.chunks.as_slice();
+                            }
+                            self.groups = others;
                         }
-                        self.groups = others;
+                        None => return,
                     }
-                    None => return,
-                },
+                }
             }
         }
     }

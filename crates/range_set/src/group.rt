@@ -1,4 +1,4 @@
-ghost use Rattle.std.specs.Prelude.{IfOk, [], drop, map, take, ◌++◌, ◌∷◌, ◌+◌, ◌≡◌, ◌≤◌, ◌<◌, ◌^◌, length};
+ghost use Rattle.std.specs.Prelude.{IfOk, [], map, ◌++◌, ◌∷◌, ◌+◌, ◌≡◌, ◌≤◌, ◌<◌, ◌^◌, length};
 ghost use Rattle.range_set.specs.PrivateChunks.{AreChunks, Ascend, IsChunk, IsGroup, first_start, flat, move};
 
 use crate::chunk::Placed;
@@ -6,24 +6,26 @@ use crate::range_value::RangeValue;
 use std::alloc::{AllocError, Global};
 use std::rc::Rc;
 
-/// The greatest number of chunks of a group.
+/// The greatest number of chunks of a group that contracts allow.
 pub(crate) const MAX_CHUNKS: usize = 64;
 
 /// How many chunks make a group full in a small set.
 const MIN_FULL: usize = 16;
 
-/// How many chunks make a group full in a set of so many groups: half as many as there are groups, from 16 to 64. A change shares the
-/// groups that it doesn't meet, and the chunks of those that it does, one by one, so neither should be many.
-pub(crate) fn full_among(groups: usize) -> usize {
-    (groups / 2).max(MIN_FULL).min(MAX_CHUNKS)
+/// How many chunks make a group full in a large set.
+const MAX_FULL: usize = 32;
+
+/// How many chunks make a group full in a set of so many pages: as many as there are pages, from 16 to 32. A change shares the pages
+/// that it doesn't meet, the groups of those that it does, and the chunks of the groups that it does, one by one, so none of them
+/// should be many.
+pub(crate) fn full_among(pages: usize) -> usize {
+    pages.max(MIN_FULL).min(MAX_FULL)
 }
 
-/// How many chunks make a group full in a set of so many chunks whose groups are made at once: about the root of half of them, from
-/// 16 for 512 to 64 for 8,192, in a straight line between, so that changes don't part these groups.
+/// How many chunks make a group full in a set of so many chunks whose groups are made at once: one for each 1,024 chunks, from 16 to
+/// 32, so that changes don't part these groups.
 pub(crate) fn full_for(chunks: usize) -> usize {
-    (chunks.saturating_sub(512) / 160)
-        .saturating_add(MIN_FULL)
-        .min(MAX_CHUNKS)
+    (chunks / 1_024).max(MIN_FULL).min(MAX_FULL)
 }
 
 /// The greatest number of chunks of a small group: no run of more chunks is cut into small groups.
@@ -131,21 +133,4 @@ impl<T: RangeValue> Group<T> {
         self.has_point = self.has_point || has_point;
         Ok(())
     }
-}
-
-/// Groups in three parts: those before the place `first` of the list, those before `last`, and the others.
-pub(crate) fn in_three<T: RangeValue>(
-    groups: &[PlacedGroup<T>],
-    first: usize,
-    last: usize,
-) -> (&[PlacedGroup<T>], &[PlacedGroup<T>], &[PlacedGroup<T>])
-    requires order { first ≤ last }
-    requires inside { last ≤ length groups.now }
-    ensures parts { groups.now ≡ result.0.now ++ (result.1.now ++ result.2.now) }
-    ensures before { result.0.now ≡ take first groups.now }
-    ensures after { result.2.now ≡ drop last groups.now }
-{
-    let (before, rest) = groups.split_at(first);
-    let (middle, after) = rest.split_at(last - first);
-    (before, middle, after)
 }

@@ -1,10 +1,16 @@
 ghost use Rattle.std.specs.Prelude.{IfOk, IsTrue, false, [], ◌++◌, ◌∷◌, ◌+◌, ◌≡◌, ◌≤◌, ◌<◌, ◌^◌, length, map};
 ghost use Rattle.change_desc.specs.Meeting.{BeginAfter, EndsAtOrAfter};
-ghost use Rattle.range_set.specs.PrivateChunks.{FitCarried, AreChunks, AreGroups, AreGroupsOf, AreShared, Ascend, BeginBy, IsChunk, IsGroup, IsGroupBuilder, flat, grouped, move, spread};
+ghost use Rattle.range_set.specs.PrivateChunks.{FitCarried, AreChunks, AreGroups, AreGroupsOf, AreShared, Ascend, BeginBy, IsChunk, IsGroup, flat, move, spread};
+ghost use Rattle.range_set.specs.PrivateBuilders.{IsGroupBuilder, grouped};
+ghost use Rattle.range_set.specs.PrivatePages.{IsPage, further};
+ghost use Rattle.range_set.specs.PrivateUpdates.{AreSharedBefore};
 
 use crate::chunk::Placed;
 use crate::group::{Group, MAX_CHUNKS, PlacedGroup, few_of, full_among, full_for};
+use crate::group_cursor::GroupCursor;
 use crate::group_list::GroupList;
+use crate::page::{Page, PlacedPage};
+use crate::page_builder::PageBuilder;
 use crate::range_value::RangeValue;
 use change_desc::{ChangedRange, first_meets};
 use std::alloc::{AllocError, Global};
@@ -13,8 +19,8 @@ use std::rc::Rc;
 
 /// Cuts chunks that come in order into groups: those that are done, and one that is growing, at the place `start`.
 #[derive(Drop)]
-pub(crate) struct GroupBuilder<T> {
-    pub(crate) done: Vec<PlacedGroup<T>>,
+pub(crate) struct GroupBuilder<T: RangeValue> {
+    pub(crate) done: PageBuilder<T>,
     pub(crate) start: u32,
     pub(crate) growing: Group<T>,
     pub(crate) len: usize,
@@ -23,32 +29,32 @@ pub(crate) struct GroupBuilder<T> {
 }
 
 impl<T: RangeValue> GroupBuilder<T> {
-    /// A builder without ranges for what becomes of a set of so many groups. It has room for them and one more. `Err`: out of memory.
-    pub(crate) fn for_groups(alloc: Global, groups: usize) -> Result<GroupBuilder<T>, AllocError>
+    /// A builder without ranges for what becomes of a set of so many pages. It has room for them and one more. `Err`: out of memory.
+    pub(crate) fn for_pages(alloc: Global, pages: usize) -> Result<GroupBuilder<T>, AllocError>
         ensures builder { IfOk result (IsGroupBuilder T.rules) }
         ensures ranges { IfOk result (λ builder. grouped builder ≡ []) }
     {
         Ok(GroupBuilder {
-            done: Vec::with_capacity(alloc, groups.saturating_add(1))?,
+            done: PageBuilder::with_capacity(alloc, pages.saturating_add(1))?,
             start: 0,
             growing: Group::empty(alloc),
             len: 0,
-            full: full_among(groups),
+            full: full_among(pages),
         })
     }
 
-    /// A builder without ranges for a set of so many chunks.
-    pub(crate) fn for_chunks(alloc: Global, chunks: usize) -> GroupBuilder<T>
-        ensures builder { IsGroupBuilder T.rules result }
-        ensures ranges { grouped result ≡ [] }
+    /// A builder without ranges for a set of so many chunks. `Err`: out of memory.
+    pub(crate) fn for_chunks(alloc: Global, chunks: usize) -> Result<GroupBuilder<T>, AllocError>
+        ensures builder { IfOk result (IsGroupBuilder T.rules) }
+        ensures ranges { IfOk result (λ builder. grouped builder ≡ []) }
     {
-        GroupBuilder {
-            done: Vec::new(alloc),
+        Ok(GroupBuilder {
+            done: PageBuilder::with_capacity(alloc, 0)?,
             start: 0,
             growing: Group::empty(alloc),
             len: 0,
             full: full_for(chunks),
-        }
+        })
     }
 
     /// Puts chunks in order after the others. `Err`: out of memory.
@@ -174,51 +180,156 @@ impl<T: RangeValue> GroupBuilder<T> {
         Ok(())
     }
 
-    /// Shares the first groups after the ranges, each moved as far as the place `from` is where it goes to `to`, and gives the others:
-    /// from the first on that ends at or after the start of a replaced range, or in which an empty range has an end side less than
-    /// its start side. `changed` are the replaced ranges from the first on that doesn't end before `from`. `Err`: out of memory.
+    /// Puts the groups of a page after those that are done, where none is growing, the page at a place of its own, and shares it.
+    /// `Err`: out of memory.
+    fn put_page(&mut self, start: u32, page: &Rc<Page<T>>) -> Result<(), AllocError>
+        requires builder { IsGroupBuilder T.rules self.old }
+        requires growing { self.old.growing.chunks.items ≡ [] }
+        requires page { IsPage T.rules start page.now.value }
+        requires some { 1 ≤ length (flat (spread page.now.value.groups.items)) }
+        requires room { length (flat (grouped self.old)) + length (flat (spread page.now.value.groups.items)) < 2 ^ 64 }
+        ensures builder { IfOk result (λ _. IsGroupBuilder T.rules self.new) }
+        ensures growing { IfOk result (λ _. self.new.growing ≡ self.old.growing) }
+        ensures ranges { IfOk result (λ _. grouped self.new ≡ grouped self.old ++ spread (map (further start) page.now.value.groups.items)) }
+    {
+        let count = page.count;
+        self.done.share(start, page)?;
+        self.len += count;
+        Ok(())
+    }
+
+    /// Shares the first groups after the ranges, each moved as far as the place `from` is where it goes to `to`, and gives the place
+    /// before the others: from the first on that ends at or after the start of a replaced range, or in which an empty range has an end
+    /// side less than its start side. Pages are shared as a whole, unless they become one with groups before them. `changed` are the
+    /// replaced ranges from the first on that doesn't end before `from`. `Err`: out of memory.
     pub(crate) fn share_carried<'a>(
         &mut self,
-        groups: &'a [PlacedGroup<T>],
+        groups: GroupCursor<'a, T>,
         from: u32,
         to: u32,
         changed: &[ChangedRange],
-    ) -> Result<&'a [PlacedGroup<T>], AllocError>
+    ) -> Result<GroupCursor<'a, T>, AllocError>
         requires builder { IsGroupBuilder T.rules self.old }
-        requires groups { AreGroups T.rules groups.now }
-        requires ascend { Ascend from (flat (spread groups.now)) }
-        requires fits { FitCarried from to changed.now groups.now }
+        requires ascend { Ascend from (flat (spread groups)) }
+        requires fits { FitCarried from to changed.now groups }
         requires order { BeginAfter 0 changed.now }
         requires first { EndsAtOrAfter from changed.now }
-        requires room { length (flat (grouped self.old)) + length (flat (spread groups.now)) < 2 ^ 64 }
+        requires room { length (flat (grouped self.old)) + length (flat (spread groups)) < 2 ^ 64 }
         ensures builder { IfOk result (λ _. IsGroupBuilder T.rules self.new) }
-        ensures shared { IfOk result (λ rest. AreShared from to changed.now groups.now rest.now (flat (grouped self.old)) (flat (grouped self.new))) }
+        ensures shared { IfOk result (λ rest. AreShared from to changed.now groups.entry rest (flat (grouped self.old)) (flat (grouped self.new))) }
     {
         seal(&mut self.done, self.start, &mut self.growing)?;
-        let mut rest = groups;
-        while let Some((placed, others)) = rest.split_first() {
-            let end = placed.start + placed.group.reach;
-            if placed.group.is_turned || first_meets(changed, from, end) {
+        let mut rest = self.share_carried_pages(groups, from, to, changed)?;
+        while let Some((start, group, others)) = rest.split_first() {
+            let end = start + group.reach;
+            if group.is_turned || first_meets(changed, from, end) {
                 return Ok(rest);
             }
-            self.put_shared(placed.start - from + to, &placed.group)?;
+            self.put_shared(start - from + to, group)?;
+            rest = self.share_carried_pages(others, from, to, changed)?;
+        }
+        Ok(rest)
+    }
+
+    /// Shares the first groups as `share_carried` does, where none is growing, but as pages alone: from the place where a page begins up
+    /// to the first that becomes one with groups before it, that ends at or after the start of a replaced range, or in which an empty
+    /// range has an end side less than its start side. `Err`: out of memory.
+    fn share_carried_pages<'a>(
+        &mut self,
+        groups: GroupCursor<'a, T>,
+        from: u32,
+        to: u32,
+        changed: &[ChangedRange],
+    ) -> Result<GroupCursor<'a, T>, AllocError>
+        requires builder { IsGroupBuilder T.rules self.old }
+        requires growing { self.old.growing.chunks.items ≡ [] }
+        requires ascend { Ascend from (flat (spread groups)) }
+        requires fits { FitCarried from to changed.now groups }
+        requires order { BeginAfter 0 changed.now }
+        requires first { EndsAtOrAfter from changed.now }
+        requires room { length (flat (grouped self.old)) + length (flat (spread groups)) < 2 ^ 64 }
+        ensures builder { IfOk result (λ _. IsGroupBuilder T.rules self.new) }
+        ensures growing { IfOk result (λ _. self.new.growing.chunks.items ≡ []) }
+        ensures shared { IfOk result (λ rest. AreShared from to changed.now groups.entry rest (flat (grouped self.old)) (flat (grouped self.new))) }
+    {
+        let mut rest = groups;
+        while let Some((placed, others)) = rest.split_page() {
+            let page = &placed.page;
+            let end = placed.start + page.reach;
+            if self.done.joins(page.groups.len())
+                || page.is_turned
+                || first_meets(changed, from, end)
+            {
+                return Ok(rest);
+            }
+            self.put_page(placed.start - from + to, page)?;
             rest = others;
         }
         Ok(rest)
     }
 
-    /// Puts groups after the ranges, each at its place, and shares them. `Err`: out of memory.
-    pub(crate) fn share_all(&mut self, groups: &[PlacedGroup<T>]) -> Result<(), AllocError>
+    /// Shares the first groups after the ranges, each at its place, as long as another group follows that begins before a place, and
+    /// gives the place before the others. `Err`: out of memory.
+    pub(crate) fn share_before<'a>(
+        &mut self,
+        groups: GroupCursor<'a, T>,
+        place: u32,
+    ) -> Result<GroupCursor<'a, T>, AllocError>
         requires builder { IsGroupBuilder T.rules self.old }
-        requires groups { AreGroups T.rules groups.now }
-        requires room { length (flat (grouped self.old)) + length (flat (spread groups.now)) < 2 ^ 64 }
+        requires ascend { Ascend 0 (flat (spread groups)) }
+        requires room { length (flat (grouped self.old)) + length (flat (spread groups)) < 2 ^ 64 }
         ensures builder { IfOk result (λ _. IsGroupBuilder T.rules self.new) }
-        ensures ranges { IfOk result (λ _. grouped self.new ≡ grouped self.old ++ spread groups.now) }
+        ensures shared { IfOk result (λ rest. AreSharedBefore place groups.entry rest (grouped self.old) (grouped self.new)) }
     {
-        for placed in groups {
-            self.share(placed.start, &placed.group)?;
+        seal(&mut self.done, self.start, &mut self.growing)?;
+        let mut rest = groups;
+        loop {
+            if let Some((placed, others)) = rest.split_page() {
+                if others.begins_before(place) {
+                    self.put_page(placed.start, &placed.page)?;
+                    rest = others;
+                    continue;
+                }
+            }
+            match rest.split_first() {
+                Some((start, group, others)) => {
+                    if !others.begins_before(place) {
+                        return Ok(rest);
+                    }
+                    self.put_shared(start, group)?;
+                    rest = others;
+                }
+                None => return Ok(rest),
+            }
         }
-        Ok(())
+    }
+
+    /// Shares groups after the ranges, each at its place. Pages are shared as a whole, unless they become one with groups before them.
+    /// `Err`: out of memory.
+    pub(crate) fn share_all(&mut self, groups: GroupCursor<'_, T>) -> Result<(), AllocError>
+        requires builder { IsGroupBuilder T.rules self.old }
+        requires room { length (flat (grouped self.old)) + length (flat (spread groups)) < 2 ^ 64 }
+        ensures builder { IfOk result (λ _. IsGroupBuilder T.rules self.new) }
+        ensures ranges { IfOk result (λ _. grouped self.new ≡ grouped self.old ++ spread groups.entry) }
+    {
+        seal(&mut self.done, self.start, &mut self.growing)?;
+        let mut rest = groups;
+        loop {
+            if let Some((placed, others)) = rest.split_page() {
+                if !self.done.joins(placed.page.groups.len()) {
+                    self.put_page(placed.start, &placed.page)?;
+                    rest = others;
+                    continue;
+                }
+            }
+            match rest.split_first() {
+                Some((start, group, others)) => {
+                    self.put_shared(start, group)?;
+                    rest = others;
+                }
+                None => return Ok(()),
+            }
+        }
     }
 
     /// The groups of all ranges, and how many ranges there are. `Err`: out of memory.
@@ -228,7 +339,7 @@ impl<T: RangeValue> GroupBuilder<T> {
         ensures ranges { IfOk result (λ made. spread made.0 ≡ grouped self) }
     {
         seal(&mut self.done, self.start, &mut self.growing)?;
-        Ok((GroupList::of(self.done)?, self.len))
+        Ok((self.done.finish()?, self.len))
     }
 }
 
@@ -245,21 +356,22 @@ fn is_full(len: usize, left: usize, full: usize) -> bool
 
 /// Ends the growing group, if it has chunks, and begins one without chunks. `Err`: out of memory.
 fn seal<T: RangeValue>(
-    done: &mut Vec<PlacedGroup<T>>,
+    done: &mut PageBuilder<T>,
     start: u32,
     growing: &mut Group<T>,
 ) -> Result<(), AllocError>
-    requires groups { AreGroups T.rules done.old.items }
+    requires groups { AreGroups T.rules done.old }
     requires group { IsGroup T.rules start growing.old }
-    ensures groups { IfOk result (λ _. AreGroups T.rules done.new.items) }
-    ensures ranges { IfOk result (λ _. spread done.new.items ≡ spread done.old.items ++ map (move start) growing.old.chunks.items) }
+    requires room { length (flat (spread done.old)) + length (flat growing.old.chunks.items) < 2 ^ 64 }
+    ensures groups { IfOk result (λ _. AreGroups T.rules done.new) }
+    ensures ranges { IfOk result (λ _. spread done.new ≡ spread done.old ++ map (move start) growing.old.chunks.items) }
     ensures opened { IfOk result (λ _. IsGroup T.rules start growing.new) }
     ensures empty { IfOk result (λ _. growing.new.chunks.items ≡ []) }
 {
     if growing.chunks.is_empty() {
         return Ok(());
     }
-    let alloc = *done.allocator();
+    let alloc = done.alloc();
     let group = mem::replace(growing, Group::empty(alloc));
     done.push(PlacedGroup {
         start,

@@ -1,12 +1,12 @@
 ghost use Rattle.std.specs.Prelude.{◌↔◌, ◌≡◌, ◌≤◌, ℕ, IsTrue, filter, length};
 ghost use Rattle.std.specs.Iterator.{YieldsFirstBy, item_count};
 ghost use Rattle.range_set.specs.Points.{points_of};
-ghost use Rattle.range_set.specs.PrivateChunks.{AreGroups, Ascend, flat, spread};
+ghost use Rattle.range_set.specs.PrivateChunks.{Ascend, flat, spread};
 ghost use Rattle.range_set.specs.Seen.{seen};
 ghost use Rattle.range_set.specs.Updating.{overlaps};
 
 use crate::chunk_iter::ChunkIter;
-use crate::group::PlacedGroup;
+use crate::group_cursor::GroupCursor;
 use crate::range_ref::RangeRef;
 use crate::range_value::RangeValue;
 use crate::run::Run;
@@ -34,9 +34,8 @@ impl<'a, T: RangeValue> Model for Iter<'a, T> {
 
 impl<'a, T: RangeValue> Iter<'a, T> {
     /// The ranges of these groups.
-    pub(crate) fn over(groups: &'a [PlacedGroup<T>]) -> Iter<'a, T>
-        requires { AreGroups T.rules groups.now }
-        ensures { result ≡ flat (spread groups.now) }
+    pub(crate) fn over(groups: GroupCursor<'a, T>) -> Iter<'a, T>
+        ensures { result ≡ flat (spread groups.entry) }
     {
         Iter {
             run: Run::empty(),
@@ -44,7 +43,7 @@ impl<'a, T: RangeValue> Iter<'a, T> {
         }
     }
 
-    /// Passes over groups and chunks that come next and whose hull ends before a place.
+    /// Passes over pages, groups and chunks that come next and whose hull ends before a place.
     pub(crate) fn pass_chunks(&mut self, place: u32)
         ensures kept { (to : ℕ) → filter (overlaps place to) self.new ≡ filter (overlaps place to) self.old }
         ensures order { (n : ℕ) → Ascend n self.old → Ascend n self.new }
@@ -55,7 +54,7 @@ impl<'a, T: RangeValue> Iter<'a, T> {
         }
     }
 
-    /// Passes over groups and chunks that come next and have no range that stands for what it covers.
+    /// Passes over pages, groups and chunks that come next and have no range that stands for what it covers.
     pub(crate) fn pass_without_point(&mut self)
         ensures kept { points_of T.rules self.new ≡ points_of T.rules self.old }
         ensures fewer { length self.new ≤ length self.old }

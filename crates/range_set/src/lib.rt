@@ -2,8 +2,8 @@
 //!
 //! Contracts see a `RangeSet` as its list of ranges, in order of their starts, then of their start sides, then as they
 //! were given; iterators as what is left of that list. All is proved once for every `RangeValue`. A set is a list of
-//! shared groups of shared chunks: mapping it moves groups and chunks that no change meets as a whole, and says how many ranges
-//! it mapped by themselves at most. Reading and comparing take no memory. Places are in characters.
+//! shared pages of shared groups of shared chunks: mapping it moves pages, groups and chunks that no change meets as a whole, and
+//! says how many ranges it mapped by themselves at most. Reading and comparing take no memory. Places are in characters.
 #![tactic(auto)]
 
 mod between;
@@ -13,11 +13,14 @@ mod chunk_iter;
 mod clear_walk;
 mod group;
 mod group_builder;
+mod group_cursor;
 mod group_list;
 mod iter;
 mod mapped_builder;
 mod moving;
 mod opening;
+mod page;
+mod page_builder;
 mod points;
 mod range_error;
 mod range_ref;

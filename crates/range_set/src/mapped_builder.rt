@@ -1,6 +1,7 @@
 ghost use Rattle.std.specs.Prelude.{IfOk, [], ◌++◌, ◌+◌, ◌≡◌, ◌≤◌, ◌<◌, ◌^◌, length, map};
 ghost use Rattle.range_set.specs.Order.{AllForward, before};
-ghost use Rattle.range_set.specs.PrivateChunks.{AreGroupsOf, Ascend, IsChunk, IsGroup, IsMappedBuilder, built, flat, grouped, put_down, shift, spread};
+ghost use Rattle.range_set.specs.PrivateChunks.{AreGroupsOf, Ascend, IsChunk, IsGroup, flat, shift, spread};
+ghost use Rattle.range_set.specs.PrivateBuilders.{IsMappedBuilder, built, grouped, put_down};
 ghost use Rattle.stable_order.specs.StableSort.{stable_sort};
 
 use crate::chunk::{Chunk, MAX_RANGES};
@@ -18,21 +19,21 @@ use std::rc::Rc;
 /// Cuts ranges that changes moved into groups: groups that are done, chunks that come after them and aren't in a group yet, and a run
 /// of ranges that is still to be sorted.
 #[derive(Drop)]
-pub(crate) struct MappedBuilder<T> {
+pub(crate) struct MappedBuilder<T: RangeValue> {
     pub(crate) groups: GroupBuilder<T>,
     pub(crate) chunks: ChunkBuilder<T>,
     pub(crate) run: Vec<Ranged<T>>,
 }
 
 impl<T: RangeValue> MappedBuilder<T> {
-    /// A builder without ranges for what becomes of a set of so many groups. `Err`: out of memory.
-    pub(crate) fn for_groups(alloc: Global, groups: usize) -> Result<MappedBuilder<T>, AllocError>
+    /// A builder without ranges for what becomes of a set of so many pages. `Err`: out of memory.
+    pub(crate) fn for_pages(alloc: Global, pages: usize) -> Result<MappedBuilder<T>, AllocError>
         ensures builder { IfOk result (IsMappedBuilder T.rules) }
         ensures ranges { IfOk result (λ builder. put_down builder ≡ []) }
         ensures none { IfOk result (λ builder. builder.run.items ≡ []) }
     {
         Ok(MappedBuilder {
-            groups: GroupBuilder::for_groups(alloc, groups)?,
+            groups: GroupBuilder::for_pages(alloc, pages)?,
             chunks: ChunkBuilder::new(alloc),
             run: Vec::new(alloc),
         })

@@ -12,7 +12,8 @@ ghost use Rattle.range_set.specs.PrivateChunks.{AreGroups, AreGroupsOf, Ascend, 
 
 use crate::chunk::Chunk;
 use crate::clear_walk::ClearWalk;
-use crate::group::PlacedGroup;
+use crate::group::Group;
+use crate::group_cursor::GroupCursor;
 use crate::group_list::GroupList;
 use crate::mapped_builder::MappedBuilder;
 use crate::range_ref::RangeRef;
@@ -28,17 +29,17 @@ use steps::Steps;
 /// they become one with chunks before them; of the others the chunks that they don't affect are. `Err`: out of memory.
 pub(crate) fn mapped_groups<T: RangeValue, L: Ledger>(
     alloc: Global,
-    groups: &[PlacedGroup<T>],
+    groups: GroupCursor<'_, T>,
     changes: &Desc,
     mapped: &mut Steps<L>,
 ) -> Result<(GroupList<T>, usize), AllocError>
-    requires groups { AreGroups T.rules groups.now }
-    requires order { first_fault T.rules (flat (spread groups.now)) ≡ None }
-    requires room { length (flat (spread groups.now)) < 2 ^ 64 }
-    requires inside { EndWithin (old_size changes.now) (flat (spread groups.now)) }
+    requires groups { AreGroups T.rules groups }
+    requires order { first_fault T.rules (flat (spread groups)) ≡ None }
+    requires room { length (flat (spread groups)) < 2 ^ 64 }
+    requires inside { EndWithin (old_size changes.now) (flat (spread groups)) }
     ensures groups { IfOk result (λ made. AreGroupsOf T.rules made.0 made.1) }
-    ensures ranges { IfOk result (λ made. flat (spread made.0) ≡ map_ranges T.rules changes.now (flat (spread groups.now))) }
-    ensures cost { mapped.new ≤ mapped.old + most_mapped T.rules changes.now (flat (spread groups.now)) }
+    ensures ranges { IfOk result (λ made. flat (spread made.0) ≡ map_ranges T.rules changes.now (flat (spread groups.entry))) }
+    ensures cost { mapped.new ≤ mapped.old + most_mapped T.rules changes.now (flat (spread groups.entry)) }
 {
     let changed = changes.ranges(true)?;
     let index = PositionIndex::new(alloc, changes)?;
@@ -47,12 +48,13 @@ pub(crate) fn mapped_groups<T: RangeValue, L: Ledger>(
 
 /// The groups of a set after changes, and how many ranges they have, where the replaced ranges and an index of the changes are
 /// given. A group whose hull meets no Replace, and in which no empty range has an end side less than its start side, is shared,
-/// unless it becomes one with chunks before it; of the others the same holds of each chunk. The ranges of the other chunks are
+/// unless it becomes one with chunks before it, and whole pages of such groups before the first Replace and after a shared group are
+/// shared as pages; of the others the same holds of each chunk. The ranges of the other chunks are
 /// mapped each by itself, which raises `mapped` by one. The ranges between two that are shared are sorted by themselves, since
 /// what is shared parts those before it from those after it. `Err`: out of memory.
 fn map_all<'a, T: RangeValue, L: Ledger>(
     alloc: Global,
-    groups: &[PlacedGroup<T>],
+    groups: GroupCursor<'_, T>,
     changes: &'a Desc,
     changed: &'a [ChangedRange],
     index: &PositionIndex,
@@ -60,28 +62,30 @@ fn map_all<'a, T: RangeValue, L: Ledger>(
 ) -> Result<(GroupList<T>, usize), AllocError>
     requires replaced { changed.now ≡ replaced changes.now }
     requires index { index.now ≡ changes.now }
-    requires groups { AreGroups T.rules groups.now }
-    requires order { first_fault T.rules (flat (spread groups.now)) ≡ None }
-    requires room { length (flat (spread groups.now)) < 2 ^ 64 }
-    requires inside { EndWithin (old_size changes.now) (flat (spread groups.now)) }
+    requires groups { AreGroups T.rules groups }
+    requires order { first_fault T.rules (flat (spread groups)) ≡ None }
+    requires room { length (flat (spread groups)) < 2 ^ 64 }
+    requires inside { EndWithin (old_size changes.now) (flat (spread groups)) }
     ensures groups { IfOk result (λ made. AreGroupsOf T.rules made.0 made.1) }
-    ensures ranges { IfOk result (λ made. flat (spread made.0) ≡ map_ranges T.rules changes.now (flat (spread groups.now))) }
-    ensures cost { mapped.new ≤ mapped.old + most_mapped T.rules changes.now (flat (spread groups.now)) }
+    ensures ranges { IfOk result (λ made. flat (spread made.0) ≡ map_ranges T.rules changes.now (flat (spread groups.entry))) }
+    ensures cost { mapped.new ≤ mapped.old + most_mapped T.rules changes.now (flat (spread groups.entry)) }
 {
     // The proof takes from this line that lengths of the new document fit u32.
     let _new_len = changes.new_len();
     let mut left = changed;
     let mut walk = ClearWalk::new(changes);
-    let mut builder = MappedBuilder::for_groups(alloc, groups.len())?;
-    let mut rest = groups;
-    while let Some((placed, others)) = rest.split_first() {
-        left = ranges_from(left, placed.start);
+    let mut builder = MappedBuilder::for_pages(alloc, groups.pages_left())?;
+    // What lies before the first replaced range stays in place, and is shared here: the loop makes the page anew of each group that it
+    // takes.
+    let mut rest = builder.groups.share_carried(groups, 0, 0, changed)?;
+    while let Some((base, group, others)) = rest.split_first() {
+        left = ranges_from(left, base);
         rest = others;
-        if is_opened(placed, left, &builder) {
-            builder.reserve(placed.group.chunks.len())?;
-            let mut chunks = placed.group.chunks.as_slice();
+        if is_opened(base, group, left, &builder) {
+            builder.reserve(group.chunks.len())?;
+            let mut chunks = group.chunks.as_slice();
             while let Some((inner, more)) = chunks.split_first() {
-                let start = inner.start + placed.start;
+                let start = inner.start + base;
                 left = ranges_from(left, start);
                 chunks = more;
                 if is_affected(start, &inner.chunk, left) {
@@ -97,17 +101,13 @@ fn map_all<'a, T: RangeValue, L: Ledger>(
                 } else {
                     let to = walk.place_after(start, left);
                     builder.share_chunk(to, &inner.chunk)?;
-                    chunks = builder
-                        .chunks
-                        .share_carried(more, placed.start, start, to, left)?;
+                    chunks = builder.chunks.share_carried(more, base, start, to, left)?;
                 }
             }
         } else {
-            let start = walk.place_after(placed.start, left);
-            builder.share_group(start, &placed.group)?;
-            rest = builder
-                .groups
-                .share_carried(others, placed.start, start, left)?;
+            let to = walk.place_after(base, left);
+            builder.share_group(to, group)?;
+            rest = builder.groups.share_carried(rest, base, to, left)?;
         }
     }
     builder.finish()
@@ -116,27 +116,32 @@ fn map_all<'a, T: RangeValue, L: Ledger>(
 /// Whether the chunks of a group are looked at one by one: whether changes affect it, where the ranges that they replace before it are
 /// left out, or it becomes one with those before it.
 fn is_opened<T: RangeValue>(
-    placed: &PlacedGroup<T>,
+    start: u32,
+    group: &Rc<Group<T>>,
     changed: &[ChangedRange],
     builder: &MappedBuilder<T>,
 ) -> bool
-    requires fits { placed.now.start + placed.now.group.value.reach < 2 ^ 32 }
+    requires fits { start + group.now.value.reach < 2 ^ 32 }
     requires order { BeginAfter 0 changed.now }
-    requires first { EndsAtOrAfter placed.now.start changed.now }
-    ensures { result ≡ false → (placed.now.group.value.is_turned || list_any (meets placed.now.start (placed.now.start + placed.now.group.value.reach)) changed.now) ≡ false }
+    requires first { EndsAtOrAfter start changed.now }
+    ensures { result ≡ false → (group.now.value.is_turned || list_any (meets start (start + group.now.value.reach)) changed.now) ≡ false }
 {
-    is_group_affected(placed, changed) || builder.joins(placed.group.chunks.len())
+    is_group_affected(start, group, changed) || builder.joins(group.chunks.len())
 }
 
 /// Whether a change meets the hull of a group, where those before the group are left out, or an empty range of it has an end side
 /// less than its start side.
-fn is_group_affected<T: RangeValue>(placed: &PlacedGroup<T>, changed: &[ChangedRange]) -> bool
-    requires fits { placed.now.start + placed.now.group.value.reach < 2 ^ 32 }
+fn is_group_affected<T: RangeValue>(
+    start: u32,
+    group: &Rc<Group<T>>,
+    changed: &[ChangedRange],
+) -> bool
+    requires fits { start + group.now.value.reach < 2 ^ 32 }
     requires order { BeginAfter 0 changed.now }
-    requires first { EndsAtOrAfter placed.now.start changed.now }
-    ensures { result ≡ (placed.now.group.value.is_turned || list_any (meets placed.now.start (placed.now.start + placed.now.group.value.reach)) changed.now) }
+    requires first { EndsAtOrAfter start changed.now }
+    ensures { result ≡ (group.now.value.is_turned || list_any (meets start (start + group.now.value.reach)) changed.now) }
 {
-    placed.group.is_turned || first_meets(changed, placed.start, placed.start + placed.group.reach)
+    group.is_turned || first_meets(changed, start, start + group.reach)
 }
 
 /// Whether the ranges of a chunk are mapped each by itself: whether its hull meets a replaced range, of which those before the

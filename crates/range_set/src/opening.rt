@@ -1,40 +1,67 @@
 ghost use Rattle.std.specs.Prelude.{IfOk, map, ◌≡◌, ◌++◌};
-ghost use Rattle.range_set.specs.PrivateChunks.{AreChunks, AreGroups, IsGroup, flat, shift, spread};
+ghost use Rattle.range_set.specs.PrivateChunks.{AreChunks, Ascend, IsGroup, flat, shift, spread};
+ghost use Rattle.range_set.specs.PrivateUpdates.{AreOpened};
 
 use crate::chunk::Placed;
-use crate::group::PlacedGroup;
+use crate::group::Group;
+use crate::group_cursor::GroupCursor;
 use crate::range_value::RangeValue;
 use std::alloc::{AllocError, Global};
+use std::rc::Rc;
 
 /// The chunks of groups at their places, shared. `Err`: out of memory.
 pub(crate) fn opened<T: RangeValue>(
     alloc: Global,
-    groups: &[PlacedGroup<T>],
+    groups: GroupCursor<'_, T>,
 ) -> Result<Vec<Placed<T>>, AllocError>
-    requires { AreGroups T.rules groups.now }
-    ensures ranges { IfOk result (λ chunks. flat chunks.items ≡ flat (spread groups.now)) }
+    ensures ranges { IfOk result (λ chunks. flat chunks.items ≡ flat (spread groups.entry)) }
     ensures chunks { IfOk result (λ chunks. AreChunks T.rules chunks.items) }
 {
     let mut chunks = Vec::new(alloc);
-    for group in groups {
-        open(group, &mut chunks)?;
+    let mut rest = groups;
+    while let Some((start, group, others)) = rest.split_first() {
+        open(start, group, &mut chunks)?;
+        rest = others;
     }
     Ok(chunks)
 }
 
-/// Puts the chunks of a group at their places after others, shared. `Err`: out of memory.
+/// The chunks of the first group and of those after it that don't begin after a place, shared, and the place before the other groups.
+/// `Err`: out of memory.
+pub(crate) fn opened_by<'a, T: RangeValue>(
+    alloc: Global,
+    groups: GroupCursor<'a, T>,
+    place: u32,
+) -> Result<(Vec<Placed<T>>, GroupCursor<'a, T>), AllocError>
+    requires { Ascend 0 (flat (spread groups)) }
+    ensures opened { IfOk result (λ made. AreOpened T.rules place groups.entry made.0.items made.1) }
+{
+    let mut chunks = Vec::new(alloc);
+    let mut rest = groups;
+    while let Some((start, group, others)) = rest.split_first() {
+        if place < start && !chunks.is_empty() {
+            return Ok((chunks, rest));
+        }
+        open(start, group, &mut chunks)?;
+        rest = others;
+    }
+    Ok((chunks, rest))
+}
+
+/// Puts the chunks of a group at the place `base` after others, shared. `Err`: out of memory.
 fn open<T: RangeValue>(
-    placed: &PlacedGroup<T>,
+    base: u32,
+    group: &Rc<Group<T>>,
     chunks: &mut Vec<Placed<T>>,
 ) -> Result<(), AllocError>
-    requires group { IsGroup T.rules placed.now.start placed.now.group.value }
+    requires group { IsGroup T.rules base group.now.value }
     requires chunks { AreChunks T.rules chunks.old.items }
-    ensures ranges { IfOk result (λ _. flat chunks.new.items ≡ flat chunks.old.items ++ map (shift placed.now.start) (flat placed.now.group.value.chunks.items)) }
+    ensures ranges { IfOk result (λ _. flat chunks.new.items ≡ flat chunks.old.items ++ map (shift base) (flat group.now.value.chunks.items)) }
     ensures chunks { IfOk result (λ _. AreChunks T.rules chunks.new.items) }
 {
-    chunks.reserve(placed.group.chunks.len())?;
-    for inner in &placed.group.chunks {
-        let start = placed.start + inner.start;
+    chunks.reserve(group.chunks.len())?;
+    for inner in &group.chunks {
+        let start = base + inner.start;
         chunks.push(Placed {
             start,
             chunk: inner.chunk.clone()?,

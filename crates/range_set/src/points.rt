@@ -8,8 +8,8 @@ use crate::range_ref::RangeRef;
 use crate::range_value::RangeValue;
 use std::marker::Model;
 
-/// The ranges of a set that stand for what they cover, in order. Contracts see it as those that are left. Groups and
-/// chunks without such a range are passed over whole.
+/// The ranges of a set that stand for what they cover, in order. Contracts see it as those that are left. Pages, groups
+/// and chunks without such a range are passed over whole.
 #[derive(Drop)]
 pub struct Points<'a, T: RangeValue> {
     ranges: Iter<'a, T>,

@@ -5,6 +5,7 @@ ghost use Rattle.range_set.specs.Order.{first_fault};
 ghost use Rattle.range_set.specs.Mapping.{is_turned, map_ranges, most_mapped, EndWithin};
 ghost use Rattle.range_set.specs.Points.{points_of};
 ghost use Rattle.range_set.specs.PrivateChunks.{AreChunks, AreGroups, AreGroupsOf, flat, greatest_end, shift, spread};
+ghost use Rattle.range_set.specs.PrivatePages.{ArePages, laid};
 ghost use Rattle.range_set.specs.Seen.{seen};
 ghost use Rattle.range_set.specs.Updating.{AnswersAs, updated, overlaps};
 
@@ -12,12 +13,12 @@ use crate::between::Between;
 use crate::chunk::Placed;
 use crate::chunk_builder::ChunkBuilder;
 use crate::chunk_iter::ChunkIter;
-use crate::group::PlacedGroup;
 use crate::group_builder::GroupBuilder;
 use crate::group_list::GroupList;
 use crate::iter::{Iter, same_ranges};
 use crate::moving::mapped_groups;
 use crate::opening::opened;
+use crate::page::PlacedPage;
 use crate::points::Points;
 use crate::range_error::RangeError;
 use crate::range_ref::RangeRef;
@@ -32,7 +33,7 @@ use std::sync::ledger::{Blank, Ledger};
 use steps::Steps;
 
 /// A set of ranges in order (Reference Manual: RangeSet): by their starts, then by their start sides, then as they were
-/// given. It is a list of groups of chunks; sets share both, and copies of one share the list.
+/// given. It is a list of pages of groups of chunks; sets share all three, and copies of one share the list.
 #[derive(Drop)]
 pub struct RangeSet<T: RangeValue> {
     groups: GroupList<T>,
@@ -79,17 +80,17 @@ impl<T: RangeValue> RangeSet<T> {
     pub fn iter(&self) -> Iter<'_, T>
         ensures { result ≡ self.now }
     {
-        Iter::over(self.groups.as_slice())
+        Iter::over(self.groups.groups())
     }
 
     /// The ranges that overlap or touch those from the place `from` to the place `to`, in order (RangeSet.between).
     pub fn between(&self, from: u32, to: u32) -> Between<'_, T>
         ensures { result ≡ filter (overlaps from to) self.now }
     {
-        Between::among(Iter::over(self.groups.as_slice()), from, to)
+        Between::among(Iter::over(self.groups.groups()), from, to)
     }
 
-    /// The ranges that stand for what they cover, in order. Groups and chunks without one are passed over whole; of the others
+    /// The ranges that stand for what they cover, in order. Pages, groups and chunks without one are passed over whole; of the others
     /// each range is looked at.
     pub fn points(&self) -> Points<'_, T>
         ensures { result ≡ points_of T.rules self.now }
@@ -118,17 +119,14 @@ impl<T: RangeValue> RangeSet<T> {
         ensures { IsTrue result ↔ (self.now ≡ other.now) }
     {
         self.len == other.len
-            && same_last(
-                last_of(self.groups.as_slice()),
-                last_of(other.groups.as_slice()),
-            )
+            && same_last(last_of(self.groups.pages()), last_of(other.groups.pages()))
             && same_ranges(
-                ChunkIter::over(self.groups.as_slice()),
-                ChunkIter::over(other.groups.as_slice()),
+                ChunkIter::over(self.groups.groups()),
+                ChunkIter::over(other.groups.groups()),
             )
     }
 
-    /// The same set once more: both share one list of groups. `Err`: no further owner can be counted.
+    /// The same set once more: both share one list of pages. `Err`: no further owner can be counted.
     pub fn try_copy(&self) -> Result<RangeSet<T>, AllocError>
         ensures { IfOk result (λ s. s ≡ self.now) }
     {
@@ -141,8 +139,9 @@ impl<T: RangeValue> RangeSet<T> {
     /// The ranges that `keep` allows and those of `add`, the old ones first where they tie (RangeSet.update). `keep` is asked
     /// of ranges as `iter` lends them, of some twice. A chunk whose ranges it allows, and among which no range of `add`
     /// belongs, is shared, unless it has few ranges and stands after ranges that don't fill a chunk, or a range of `add`
-    /// begins after it and by the end of the next chunk; of the others the values that stay are copied. `Err`: the first
-    /// range of `add` that ends before it starts or belongs before the one before it; or out of memory.
+    /// begins after it and by the end of the next chunk; of the others the values that stay are copied. Groups
+    /// and pages are made anew. `Err`: the first range of `add` that ends before it starts or belongs before the one before it;
+    /// or out of memory.
     pub fn update<F: Fn(&RangeRef<'_, T>) -> bool>(
         &self,
         add: Vec<Ranged<T>>,
@@ -155,7 +154,7 @@ impl<T: RangeValue> RangeSet<T> {
     {
         self.check_added(add.as_slice())?;
         let alloc = self.groups.alloc();
-        let chunks = opened(alloc, self.groups.as_slice())?;
+        let chunks = opened(alloc, self.groups.groups())?;
         let chunks = updated_chunks(alloc, chunks.as_slice(), add, &keep)?;
         let (groups, len) = in_groups(alloc, chunks)?;
         Ok(RangeSet { groups, len })
@@ -163,7 +162,8 @@ impl<T: RangeValue> RangeSet<T> {
 
     /// The ranges and those of `add`, the old ones first where they tie (RangeSet.update without a filter). Groups of which each
     /// range begins before the first of `add`, or after the last one, are shared and not looked at further, but for one that
-    /// what is added joins. `Err`: the first range of `add` that ends before it starts or belongs before the one before it; or out of memory.
+    /// what is added joins; whole pages of such groups are shared as pages. `Err`: the first range of `add` that ends before it starts
+    /// or belongs before the one before it; or out of memory.
     pub fn with_added(&self, add: Vec<Ranged<T>>) -> Result<RangeSet<T>, RangeError>
         ensures set { IfOk result (λ s. s ≡ updated T.rules (λ _. true) self.now add.items) }
         ensures in_order { IfOk result (λ s. first_fault T.rules add.items ≡ None) }
@@ -176,7 +176,7 @@ impl<T: RangeValue> RangeSet<T> {
             return Ok(self.try_copy()?);
         }
         let alloc = self.groups.alloc();
-        let (groups, len) = added_groups(alloc, self.groups.as_slice(), add)?;
+        let (groups, len) = added_groups(alloc, self.groups.groups(), add)?;
         Ok(RangeSet { groups, len })
     }
 
@@ -199,7 +199,7 @@ impl<T: RangeValue> RangeSet<T> {
     pub fn ends_within(&self, len: u32) -> bool
         ensures { IsTrue result ↔ EndWithin len self.now }
     {
-        groups_end_within(self.groups.as_slice(), len)
+        pages_end_within(self.groups.pages(), len)
     }
 
     /// The set over the new document of some changes (RangeSet.map): each range is moved or dropped, and what stays is
@@ -214,8 +214,9 @@ impl<T: RangeValue> RangeSet<T> {
 
     /// What `map` gives. A chunk whose hull meets no Replace, and in which no empty range has an end side less than its start
     /// side, is only moved, and shared; so is a group for which this holds, as a whole, unless it and the chunks of opened groups
-    /// before it fill at most three quarters of one. Each range of the other chunks raises `mapped` by one; the values of these
-    /// alone are copied. `Err`: out of memory.
+    /// before it fill at most three quarters of one. Pages of such groups are shared as pages, unless a page becomes one with groups
+    /// before it. Each range of the other chunks raises `mapped` by one; the values of these alone are copied.
+    /// `Err`: out of memory.
     pub fn map_steps<L: Ledger>(
         &self,
         changes: &Desc,
@@ -230,10 +231,10 @@ impl<T: RangeValue> RangeSet<T> {
         if self.len() == 0 {
             return Ok(RangeSet::empty(alloc));
         }
-        if changes.is_empty() && none_turned(self.groups.as_slice()) {
+        if changes.is_empty() && none_turned(self.groups.pages()) {
             return self.try_copy();
         }
-        let (groups, len) = mapped_groups(alloc, self.groups.as_slice(), changes, mapped)?;
+        let (groups, len) = mapped_groups(alloc, self.groups.groups(), changes, mapped)?;
         Ok(RangeSet { groups, len })
     }
 }
@@ -281,44 +282,45 @@ fn in_groups<T: RangeValue>(
     ensures groups { IfOk result (λ made. AreGroupsOf T.rules made.0 made.1) }
     ensures ranges { IfOk result (λ made. flat (spread made.0) ≡ flat chunks.items) }
 {
-    let mut builder = GroupBuilder::for_chunks(alloc, chunks.len());
+    let mut builder = GroupBuilder::for_chunks(alloc, chunks.len())?;
     builder.put_all(chunks)?;
     builder.finish()
 }
 
-/// Whether no range of some groups is empty with an end side less than its start side.
-fn none_turned<T: RangeValue>(groups: &[PlacedGroup<T>]) -> bool
-    requires { AreGroups T.rules groups.now }
-    ensures { IsTrue result → list_any (is_turned T.rules) (flat (spread groups.now)) ≡ false }
+/// Whether no range of some pages is empty with an end side less than its start side.
+fn none_turned<T: RangeValue>(pages: &[PlacedPage<T>]) -> bool
+    requires { ArePages T.rules pages.now }
+    ensures { IsTrue result → list_any (is_turned T.rules) (flat (spread (laid pages.now))) ≡ false }
 {
-    for placed in groups {
-        if placed.group.is_turned {
+    for placed in pages {
+        if placed.page.is_turned {
             return false;
         }
     }
     true
 }
 
-/// Whether each range of some groups lies in a document of `len` characters: whether their hulls do.
-fn groups_end_within<T: RangeValue>(groups: &[PlacedGroup<T>], len: u32) -> bool
-    requires { AreGroups T.rules groups.now }
-    ensures { IsTrue result ↔ EndWithin len (flat (spread groups.now)) }
+/// Whether each range of some pages lies in a document of `len` characters: whether their hulls do.
+fn pages_end_within<T: RangeValue>(pages: &[PlacedPage<T>], len: u32) -> bool
+    requires { ArePages T.rules pages.now }
+    ensures { IsTrue result ↔ EndWithin len (flat (spread (laid pages.now))) }
 {
-    for placed in groups {
-        if placed.start + placed.group.reach > len {
+    for placed in pages {
+        if placed.start + placed.page.reach > len {
             return false;
         }
     }
     true
 }
 
-/// The last range of some groups.
-fn last_of<T: RangeValue>(groups: &[PlacedGroup<T>]) -> Option<RangeRef<'_, T>>
-    requires { AreGroups T.rules groups.now }
-    ensures { option_map seen result ≡ slice_get (flat (spread groups.now)) (length (flat (spread groups.now)) - 1) }
+/// The last range of some pages.
+fn last_of<T: RangeValue>(pages: &[PlacedPage<T>]) -> Option<RangeRef<'_, T>>
+    requires { ArePages T.rules pages.now }
+    ensures { option_map seen result ≡ slice_get (flat (spread (laid pages.now))) (length (flat (spread (laid pages.now))) - 1) }
 {
-    let placed = groups.last()?;
-    last_in(placed.group.chunks.as_slice(), placed.start)
+    let placed = pages.last()?;
+    let inner = placed.page.groups.last()?;
+    last_in(inner.group.chunks.as_slice(), placed.start + inner.start)
 }
 
 /// The last range of some chunks, which count from the place `base`.

@@ -1,6 +1,7 @@
 ghost use Rattle.std.specs.Prelude.{IfOk, [], ◌++◌, ◌≡◌};
 ghost use Rattle.range_set.specs.Order.{AllForward, before};
-ghost use Rattle.range_set.specs.PrivateChunks.{Ascend, IsBuilder, built};
+ghost use Rattle.range_set.specs.PrivateChunks.{Ascend};
+ghost use Rattle.range_set.specs.PrivateBuilders.{IsBuilder, built};
 ghost use Rattle.stable_order.specs.StableSort.{stable_sort};
 
 use crate::chunk_builder::ChunkBuilder;

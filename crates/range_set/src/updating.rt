@@ -1,15 +1,15 @@
-ghost use Rattle.std.specs.Prelude.{IfOk, IsTrue, None, true, [], All, drop, filter, length, map, take, ◌++◌, ◌+◌, ◌-◌, ◌<◌, ◌≤◌, ◌^◌, ◌≡◌};
-ghost use Rattle.range_set.specs.Order.{AllForward, before, first_fault};
-ghost use Rattle.range_set.specs.PrivateChunks.{AreChunks, AreGroups, AreGroupsOf, Ascend, IsChunk, first_start, flat, shift, spread};
-ghost use Rattle.range_set.specs.PrivateUpdates.{BeginPast, BeginUnder, IsBeyond, KeepsPart, TakesBefore, last_start};
+ghost use Rattle.std.specs.Prelude.{IfOk, IsTrue, None, true, filter, length, map, ◌++◌, ◌+◌, ◌-◌, ◌<◌, ◌≤◌, ◌^◌, ◌≡◌};
+ghost use Rattle.range_set.specs.Order.{before, first_fault};
+ghost use Rattle.range_set.specs.PrivateChunks.{AreChunks, AreGroups, AreGroupsOf, IsChunk, flat, shift, spread};
+ghost use Rattle.range_set.specs.PrivateUpdates.{IsBeyond, KeepsPart, TakesBefore};
 ghost use Rattle.range_set.specs.Updating.{AnswersAs, updated};
 
 use crate::chunk::{FEW_RANGES, MAX_RANGES, Placed, stands_alone};
 use crate::chunk_builder::ChunkBuilder;
-use crate::group::{PlacedGroup, in_three};
 use crate::group_builder::GroupBuilder;
+use crate::group_cursor::GroupCursor;
 use crate::group_list::GroupList;
-use crate::opening::opened;
+use crate::opening::opened_by;
 use crate::range_ref::RangeRef;
 use crate::range_value::RangeValue;
 use crate::ranged::Ranged;
@@ -22,84 +22,29 @@ use std::collections::VecDeque;
 /// memory.
 pub(crate) fn added_groups<T: RangeValue>(
     alloc: Global,
-    groups: &[PlacedGroup<T>],
+    groups: GroupCursor<'_, T>,
     add: Vec<Ranged<T>>,
 ) -> Result<(GroupList<T>, usize), AllocError>
-    requires groups { AreGroups T.rules groups.now }
-    requires order { first_fault T.rules (flat (spread groups.now)) ≡ None }
+    requires groups { AreGroups T.rules groups }
+    requires order { first_fault T.rules (flat (spread groups)) ≡ None }
     requires added { first_fault T.rules add.items ≡ None }
     requires some { 1 ≤ length add.items }
-    requires room { length (flat (spread groups.now)) + length add.items < 2 ^ 64 }
+    requires room { length (flat (spread groups)) + length add.items < 2 ^ 64 }
     ensures groups { IfOk result (λ made. AreGroupsOf T.rules made.0 made.1) }
     ensures order { IfOk result (λ made. first_fault T.rules (flat (spread made.0)) ≡ None) }
-    ensures ranges { IfOk result (λ made. flat (spread made.0) ≡ updated T.rules (λ _. true) (flat (spread groups.now)) add.items) }
-{
-    let (before, middle, after) = parted_around(groups, add.as_slice());
-    let chunks = opened(alloc, middle)?;
-    let chunks = with_all(alloc, chunks.as_slice(), add)?;
-    let mut builder = GroupBuilder::for_groups(alloc, groups.len())?;
-    builder.share_all(before)?;
-    builder.put_all(chunks)?;
-    builder.share_all(after)?;
-    builder.finish()
-}
-
-/// Groups in three parts: the ranges of the first begin before any of added ones, which stand in order, and those of the last begin
-/// after each does. The second has a group where there is one, so that what is added joins it.
-fn parted_around<'a, T: RangeValue>(
-    groups: &'a [PlacedGroup<T>],
-    add: &[Ranged<T>],
-) -> (
-    &'a [PlacedGroup<T>],
-    &'a [PlacedGroup<T>],
-    &'a [PlacedGroup<T>],
-)
-    requires groups { AreGroups T.rules groups.now }
-    requires ascend { Ascend 0 (flat (spread groups.now)) }
-    requires some { 1 ≤ length add.now }
-    ensures parts { groups.now ≡ result.0.now ++ (result.1.now ++ result.2.now) }
-    ensures before { BeginUnder (first_start add.now) (flat (spread result.0.now)) }
-    ensures after { BeginPast (last_start add.now) (flat (spread result.2.now)) }
+    ensures ranges { IfOk result (λ made. flat (spread made.0) ≡ updated T.rules (λ _. true) (flat (spread groups.entry)) add.items) }
 {
     let (Some(first), Some(last)) = (add.first(), add.last()) else {
         unreachable!()
     };
-    let begun = begun_by(groups, last.from).max(1).min(groups.len());
-    let passed = begun_before(groups, first.from)
-        .min(begun)
-        .saturating_sub(1);
-    in_three(groups, passed, begun)
-}
-
-/// How many groups there are before the first that doesn't begin before a place. The ranges of all but the last of them begin before
-/// it too.
-fn begun_before<T: RangeValue>(groups: &[PlacedGroup<T>], place: u32) -> usize
-    requires groups { AreGroups T.rules groups.now }
-    requires ascend { Ascend 0 (flat (spread groups.now)) }
-    ensures inside { result ≤ length groups.now }
-    ensures before { BeginUnder place (flat (spread (take (result - 1) groups.now))) }
-{
-    for (index, placed) in groups.iter().enumerate() {
-        if place <= placed.start {
-            return index;
-        }
-    }
-    groups.len()
-}
-
-/// How many groups there are before the first that begins after a place.
-fn begun_by<T: RangeValue>(groups: &[PlacedGroup<T>], place: u32) -> usize
-    requires groups { AreGroups T.rules groups.now }
-    requires ascend { Ascend 0 (flat (spread groups.now)) }
-    ensures inside { result ≤ length groups.now }
-    ensures after { BeginPast place (flat (spread (drop result groups.now))) }
-{
-    for (index, placed) in groups.iter().enumerate() {
-        if place < placed.start {
-            return index;
-        }
-    }
-    groups.len()
+    let (first, last) = (first.from, last.from);
+    let mut builder = GroupBuilder::for_pages(alloc, groups.pages_left())?;
+    let rest = builder.share_before(groups, first)?;
+    let (chunks, rest) = opened_by(alloc, rest, last)?;
+    let chunks = with_all(alloc, chunks.as_slice(), add)?;
+    builder.put_all(chunks)?;
+    builder.share_all(rest)?;
+    builder.finish()
 }
 
 /// The chunks of the ranges of others and of added ones. `Err`: out of memory.

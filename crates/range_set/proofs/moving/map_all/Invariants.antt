@@ -1,39 +1,40 @@
 use Rattle.std.proofs.Common.{◌≡◌, ◌+◌, ◌≤◌, ◌++◌, length, map}
 use Rattle.change_desc.specs.Meeting.{BeginAfter}
-use Rattle.range_set.specs.PrivateChunks.{AreGroups, IsMappedBuilder, flat, move, put_down, spread}
+use Rattle.range_set.specs.PrivateChunks.{AreGroups, flat, move, spread}
+use Rattle.range_set.specs.PrivateBuilders.{IsMappedBuilder, put_down}
 use Rattle.range_set.specs.PrivateMoving.{IsClearWalk}
 use Rattle.range_set.proofs.Cost.{allowance}
 use Rattle.range_set.proofs.Walked.{IsWalked}
 use Rattle.range_set.proofs.moving.map_all.Given as goal
 
-abbrev pub invariant-loop-placed : goal.invariant-loop-placed
-invariant-loop-placed g l =
+abbrev pub invariant-loop-base : goal.invariant-loop-base
+invariant-loop-base g l =
     let rules = g.T.RangeValue.rules in
     record {
       builder : IsMappedBuilder rules l.builder;
       groups : AreGroups rules l.rest;
-      walked : IsWalked rules l.changes (flat (spread l.groups)) (spread l.rest) (put_down l.builder) l.builder.run.items l.walk.walker.reached l.left;
+      walked : IsWalked rules l.changes (flat (spread l.fn.groups)) (spread l.rest) (put_down l.builder) l.builder.run.items l.walk.walker.reached l.left;
       desc : l.walk.walker.desc ≡ l.changes;
       clear : IsClearWalk l.walk;
       begin : BeginAfter 0 l.left;
-      cost : l.mapped + allowance rules l.changes (spread l.rest) ≤ l.fn.mapped + allowance rules l.changes (spread l.groups);
+      cost : l.mapped + allowance rules l.changes (spread l.rest) ≤ l.fn.mapped + allowance rules l.changes (spread l.fn.groups);
     }
 
 abbrev pub invariant-loop-inner : goal.invariant-loop-inner
 invariant-loop-inner g l =
     let rules = g.T.RangeValue.rules in
-    let rest = map (move l.placed.start) l.chunks ++ spread l.rest in
+    let rest = map (move l.base) l.chunks ++ spread l.rest in
     record {
       builder : IsMappedBuilder rules l.builder;
-      walked : IsWalked rules l.changes (flat (spread l.groups)) rest (put_down l.builder) l.builder.run.items l.walk.walker.reached l.left;
+      walked : IsWalked rules l.changes (flat (spread l.fn.groups)) rest (put_down l.builder) l.builder.run.items l.walk.walker.reached l.left;
       desc : l.walk.walker.desc ≡ l.changes;
       clear : IsClearWalk l.walk;
       begin : BeginAfter 0 l.left;
-      cost : l.mapped + allowance rules l.changes rest ≤ l.fn.mapped + allowance rules l.changes (spread l.groups);
+      cost : l.mapped + allowance rules l.changes rest ≤ l.fn.mapped + allowance rules l.changes (spread l.fn.groups);
     }
 
-abbrev pub decreases-loop-placed : goal.decreases-loop-placed
-decreases-loop-placed g l = length l.rest
+abbrev pub decreases-loop-base : goal.decreases-loop-base
+decreases-loop-base g l = length l.rest
 
 abbrev pub decreases-loop-inner : goal.decreases-loop-inner
 decreases-loop-inner g l = length l.chunks

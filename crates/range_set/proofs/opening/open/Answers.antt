@@ -11,11 +11,11 @@ pub overflow_add-start : goal.overflow_add-start
 overflow_add-start g c =
     let p = c.inner-item.result in
     let i = c.loop-inner.inner-index in
-    let group = c.args.placed.now.group.value in
+    let group = c.args.group.now.value in
     let same = c.deref-inner-items.ensures.value ∙ ap (λ (x : Group g.row.T.Denot). x.chunks.items) c.deref-2.ensures in
     let l : i < length group.chunks.items = subst (λ (xs : List (Placed g.row.T.Denot)). i < length xs) same c.loop-inner-test.true in
     let is : p ≡ get_or group.chunks.items i p = subst (λ (xs : List (Placed g.row.T.Denot)). p ≡ get_or xs i p) same c.inner-item.is in
-    let fits = open_fits g.T.RangeValue.rules c.args.placed.now.start group i p c.requires.group l is in
+    let fits = open_fits g.T.RangeValue.rules c.args.base group i p c.requires.group l is in
     omega (arith, fits.0)
 
 pub loop-inner-preserved : goal.loop-inner-preserved
@@ -23,8 +23,8 @@ loop-inner-preserved g c =
     let rules = g.T.RangeValue.rules in
     let p = c.inner-item.result in
     let i = c.loop-inner.inner-index in
-    let start = c.args.placed.now.start in
-    let group = c.args.placed.now.group.value in
+    let start = c.args.base in
+    let group = c.args.group.now.value in
     let list = group.chunks.items in
     let old = flat c.args.chunks.now.items in
     let same = c.deref-inner-items.ensures.value ∙ ap (λ (x : Group g.row.T.Denot). x.chunks.items) c.deref-2.ensures in

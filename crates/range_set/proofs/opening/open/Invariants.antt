@@ -4,6 +4,6 @@ use Rattle.range_set.proofs.opening.open.Given as goal
 
 abbrev pub invariant-loop-inner : goal.invariant-loop-inner
 invariant-loop-inner g l = record {
-  ranges : flat l.chunks.items ≡ flat l.fn.chunks.items ++ map (shift l.placed.start) (flat (take l.inner-index l.placed.group.value.chunks.items));
+  ranges : flat l.chunks.items ≡ flat l.fn.chunks.items ++ map (shift l.base) (flat (take l.inner-index l.group.value.chunks.items));
   chunks : AreChunks g.T.RangeValue.rules l.chunks.items;
 }

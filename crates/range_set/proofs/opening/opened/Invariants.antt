@@ -1,9 +1,13 @@
-use Rattle.std.proofs.Common.{◌≡◌, take}
-use Rattle.range_set.specs.PrivateChunks.{AreChunks, flat, spread}
+use Rattle.std.proofs.Common.{length}
+use Rattle.range_set.specs.PrivateChunks.{AreChunks}
+use Rattle.range_set.proofs.Opened.{OpenUpTo}
 use Rattle.range_set.proofs.opening.opened.Given as goal
 
-abbrev pub invariant-loop-group : goal.invariant-loop-group
-invariant-loop-group g l = record {
-  ranges : flat l.chunks.items ≡ flat (spread (take l.group-index l.groups));
+abbrev pub invariant-loop-start : goal.invariant-loop-start
+invariant-loop-start g l = record {
+  opened : OpenUpTo l.fn.groups l.rest l.chunks.items;
   chunks : AreChunks g.T.RangeValue.rules l.chunks.items;
 }
+
+abbrev pub decreases-loop-start : goal.decreases-loop-start
+decreases-loop-start g l = length l.rest

@@ -8,11 +8,11 @@ pub put_all-requires : goal.put_all-requires
 put_all-requires g c =
     let rules = g.T.RangeValue.rules in
     let ps = c.args.chunks.items in
-    let none = c.for_chunks-builder.ensures.ranges in
+    let none = c.in_ok-builder.ensures.ranges in
     let count = ap (λ qs. length (flat qs)) none in
     let most = c.requires.room in
     record {
-      builder = c.for_chunks-builder.ensures.builder;
+      builder = c.in_ok-builder.ensures.builder;
       chunks = c.requires.chunks;
       room = omega (arith, count, most);
       order = subst (λ qs. Ascend 0 (flat (qs ++ ps))) (sym none) (rises_ascend rules (flat ps) (rises-no_fault rules (flat ps) c.requires.order));

@@ -1,7 +1,8 @@
 use Rattle.std.proofs.Common.{◌++◌, ◌∷◌, [], length, ap, subst, sym, ◌∙◌, arith, append_assoc}
 use Rattle.std.proofs.lemmas.List.{append-nil}
 use Rattle.range_set.specs.Order.{AllForward}
-use Rattle.range_set.specs.PrivateChunks.{Ascend, built}
+use Rattle.range_set.specs.PrivateChunks.{Ascend}
+use Rattle.range_set.specs.PrivateBuilders.{built}
 use Rattle.range_set.proofs.Chunks.{ascend-rest, begin_by-next, not_less}
 use Rattle.range_set.proofs.sorting.put_all.Goals as goal
 

@@ -1,6 +1,6 @@
 use Rattle.std.proofs.Common.{◌≡◌, ◌++◌, length}
 use Rattle.range_set.specs.Order.{AllForward}
-use Rattle.range_set.specs.PrivateChunks.{IsBuilder, built}
+use Rattle.range_set.specs.PrivateBuilders.{IsBuilder, built}
 use Rattle.range_set.proofs.sorting.put_all.Given as goal
 
 abbrev pub invariant-loop-range : goal.invariant-loop-range

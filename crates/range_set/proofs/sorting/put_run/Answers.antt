@@ -1,7 +1,8 @@
 use Rattle.std.proofs.Common.{◌++◌, ap, subst, sym, ◌∙◌}
 use Rattle.stable_order.specs.StableSort.{stable_sort}
 use Rattle.range_set.specs.Order.{AllForward, before}
-use Rattle.range_set.specs.PrivateChunks.{Ascend, built}
+use Rattle.range_set.specs.PrivateChunks.{Ascend}
+use Rattle.range_set.specs.PrivateBuilders.{built}
 use Rattle.range_set.proofs.RangeOrder.{forward_sort}
 use Rattle.range_set.proofs.sorting.put_run.Goals as goal
 

@@ -4,7 +4,8 @@ use Rattle.std.proofs.lemmas.Result.{IfOk-weaker}
 use Rattle.stable_order.specs.StableSort.{stable_sort}
 use Rattle.stable_order.proofs.StableSort.{length-stable_sort}
 use Rattle.range_set.specs.Order.{AllForward, before, first_fault}
-use Rattle.range_set.specs.PrivateChunks.{Ascend, built, flat, shift}
+use Rattle.range_set.specs.PrivateChunks.{Ascend, flat, shift}
+use Rattle.range_set.specs.PrivateBuilders.{built}
 use Rattle.range_set.specs.Updating.{AnswersAs, updated}
 use Rattle.range_set.specs.declared.chunk.Placed.{Placed}
 use Rattle.range_set.specs.declared.ranged.Ranged.{Ranged}

@@ -1,7 +1,8 @@
 use Rattle.std.proofs.Common.{◌≡◌, ◌+◌, ◌++◌, Bool, drop, filter, length}
 use Rattle.stable_order.specs.StableSort.{stable_sort}
 use Rattle.range_set.specs.Order.{before}
-use Rattle.range_set.specs.PrivateChunks.{IsBuilder, built, flat}
+use Rattle.range_set.specs.PrivateChunks.{flat}
+use Rattle.range_set.specs.PrivateBuilders.{IsBuilder, built}
 use Rattle.range_set.specs.Updating.{AnswersAs, updated}
 use Rattle.range_set.specs.declared.ranged.Ranged.{Ranged}
 use Rattle.range_set.proofs.Updates.{IsUpdating}

@@ -12,7 +12,7 @@ returns-then-self-range-clause-steps g c =
     let order = subst (Ascend 0) c.in_ok-range.ensures.steps (c.pass_chunks.ensures.order 0 c.loop-range.invariant.order) in
     let none = none_from from to (seen c.in_ok-range.range) c.next.new.self c.if-self-range.true order in
     let same = c.loop-range.invariant.same in
-    (sym c.self.view_is ∙ (sym same ∙ (sym (c.pass_chunks.ensures.kept to) ∙ (ap (filter (overlaps from to)) c.in_ok-range.ensures.steps ∙ none))), rw c.over-self-inside.ensures refl)
+    (sym c.self.view_is ∙ (sym same ∙ (sym (c.pass_chunks.ensures.kept to) ∙ (ap (filter (overlaps from to)) c.in_ok-range.ensures.steps ∙ none))), rw c.over-self-inside.ensures (rw c.over.ensures refl))
 
 pub invariant_of-self-then-self-range-2 : goal.invariant_of-self-then-self-range-2
 invariant_of-self-then-self-range-2 g c =

@@ -1,6 +1,7 @@
 use Rattle.std.proofs.Common.{◌++◌, ◌≤◌, map, length, sym, ap, subst, ◌∙◌}
 use Rattle.std.proofs.lemmas.List.{append-nil}
-use Rattle.range_set.specs.PrivateChunks.{IsChunk, built, flat, shift}
+use Rattle.range_set.specs.PrivateChunks.{IsChunk, flat, shift}
+use Rattle.range_set.specs.PrivateBuilders.{built}
 use Rattle.range_set.specs.declared.chunk.Chunk.{Chunk}
 use Rattle.range_set.proofs.Chunks.{AreChunks-push, share_built}
 use Rattle.range_set.proofs.chunk_builder.ChunkBuilder.put_shared.Goals as goal

@@ -1,7 +1,8 @@
 use Rattle.std.proofs.Common.{◌+◌, map, ap, sym, subst, ◌∙◌}
 use Rattle.std.specs.List.{list_any}
 use Rattle.change_desc.specs.Ranges.{meets}
-use Rattle.range_set.specs.PrivateChunks.{FitCarriedChunks, AreChunks, AreChunksShared, Ascend, built, flat, move}
+use Rattle.range_set.specs.PrivateChunks.{FitCarriedChunks, AreChunks, AreChunksShared, Ascend, flat, move}
+use Rattle.range_set.specs.PrivateBuilders.{built}
 use Rattle.range_set.specs.declared.chunk.Chunk.{Chunk}
 use Rattle.range_set.proofs.Carried.{chunks_shared_more}
 use Rattle.range_set.proofs.Chunks.{ascend-less}

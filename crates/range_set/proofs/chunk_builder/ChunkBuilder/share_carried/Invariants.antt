@@ -1,5 +1,6 @@
 use Rattle.std.proofs.Common.{◌≡◌, [], length, map}
-use Rattle.range_set.specs.PrivateChunks.{FitCarriedChunks, AreChunks, AreChunksShared, Ascend, IsBuilder, built, flat, move}
+use Rattle.range_set.specs.PrivateChunks.{FitCarriedChunks, AreChunks, AreChunksShared, Ascend, flat, move}
+use Rattle.range_set.specs.PrivateBuilders.{IsBuilder, built}
 use Rattle.range_set.proofs.chunk_builder.ChunkBuilder.share_carried.Given as goal
 
 abbrev pub invariant-loop-placed : goal.invariant-loop-placed

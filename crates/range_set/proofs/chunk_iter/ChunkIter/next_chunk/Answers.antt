@@ -1,5 +1,5 @@
 use Rattle.std.proofs.Common.{◌≡◌, ◌+◌, ◌++◌, List, map, ap, subst, sym, ◌∙◌}
-use Rattle.range_set.specs.PrivateChunks.{AreLeft, IsNextChunk, move, spread}
+use Rattle.range_set.specs.PrivateChunks.{AreChunks, IsNextChunk, move, spread}
 use Rattle.range_set.specs.declared.chunk.Chunk.{Chunk}
 use Rattle.range_set.specs.declared.chunk.Placed.{Placed}
 use Rattle.range_set.specs.declared.group.Group.{Group}
@@ -10,13 +10,14 @@ pub loop-next-preserved : goal.loop-next-preserved
 loop-next-preserved g c =
     let rules = g.T.RangeValue.rules in
     let at = c.loop-next.self-inside in
-    let next = c.in_ok-next-in-None.next.now in
-    let others = c.in_ok-next-in-None.others.now in
-    let list : c.as_slice-self-inside.result.now ≡ next.group.value.chunks.items = c.as_slice-self-inside.ensures.value ∙ ap (λ (x : Group g.row.T.Denot). x.chunks.items) c.deref-in-None.ensures in
-    let entered = left_open rules at.base at.chunks.now at.groups.now next others c.in-None.ensures.cases c.in_ok-next-in-None.ensures.cases.0 c.loop-next.invariant.left in
+    let start = c.in_ok-start-in-None.start in
+    let group = c.in_ok-start-in-None.group.now in
+    let others = c.in_ok-start-in-None.others in
+    let list : c.as_slice-self-inside.result.now ≡ group.value.chunks.items = c.as_slice-self-inside.ensures.value ∙ ap (λ (x : Group g.row.T.Denot). x.chunks.items) c.deref-in-None.ensures in
+    let entered = left_open rules at.base at.chunks.now at.groups start group others c.in-None.ensures.cases c.in_ok-start-in-None.ensures.some in
     record {
-      same = ap (λ ps. map (move next.start) ps ++ spread others) list ∙ (sym entered.0 ∙ c.loop-next.invariant.same);
-      left = subst (λ (ps : List (Placed g.row.T.Denot)). AreLeft rules next.start ps others) (sym list) entered.1.1;
+      same = ap (λ ps. map (move start) ps ++ spread others) list ∙ (sym entered.0 ∙ c.loop-next.invariant.same);
+      left = subst (λ (ps : List (Placed g.row.T.Denot)). AreChunks rules (map (move start) ps)) (sym list) entered.1;
     }
 
 pub returns-in-Some-clause-next : goal.returns-in-Some-clause-next
@@ -25,7 +26,7 @@ returns-in-Some-clause-next g c =
     let at = c.loop-next.self-inside in
     let next = c.in-Some.next.now in
     let others = c.in-Some.others.now in
-    let left = map (move at.base) others ++ spread at.groups.now in
-    let first = next_chunk rules at.base at.chunks.now at.groups.now next others c.in-Some.ensures.cases.0 c.loop-next.invariant.left in
+    let left = map (move at.base) others ++ spread at.groups in
+    let first = next_chunk rules at.base at.chunks.now at.groups next others c.in-Some.ensures.cases.0 c.loop-next.invariant.left in
     subst (λ (ch : Chunk g.row.T.Denot). IsNextChunk c.args.self.now (at.base + next.start) ch left) (sym c.deref.ensures)
     (subst (λ (ps : List (Placed g.row.T.Denot)). IsNextChunk ps (at.base + next.start) next.chunk.value left) (c.loop-next.invariant.same ∙ c.self.view_is) first)

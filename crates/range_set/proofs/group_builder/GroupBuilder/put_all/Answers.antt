@@ -1,6 +1,7 @@
 use Rattle.std.proofs.Common.{◌++◌, ◌∷◌, [], length, map, ap, subst, sym, ◌∙◌, arith, append_assoc}
 use Rattle.std.proofs.lemmas.List.{append-nil, length-append}
-use Rattle.range_set.specs.PrivateChunks.{AreChunks, Ascend, flat, grouped, shift}
+use Rattle.range_set.specs.PrivateChunks.{AreChunks, Ascend, flat, shift}
+use Rattle.range_set.specs.PrivateBuilders.{grouped}
 use Rattle.range_set.proofs.Chunks.{ascend-rest, flat-append, length_shifted}
 use Rattle.range_set.proofs.Groups.{begin_by_chunk}
 use Rattle.range_set.proofs.group_builder.GroupBuilder.put_all.Goals as goal

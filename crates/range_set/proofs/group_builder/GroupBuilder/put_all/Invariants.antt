@@ -1,5 +1,6 @@
 use Rattle.std.proofs.Common.{◌≡◌, ◌++◌, length}
-use Rattle.range_set.specs.PrivateChunks.{AreChunks, IsGroupBuilder, grouped}
+use Rattle.range_set.specs.PrivateChunks.{AreChunks}
+use Rattle.range_set.specs.PrivateBuilders.{IsGroupBuilder, grouped}
 use Rattle.range_set.proofs.group_builder.GroupBuilder.put_all.Given as goal
 
 abbrev pub invariant-loop-placed : goal.invariant-loop-placed

@@ -1,6 +1,7 @@
 use Rattle.std.proofs.Common.{◌≡◌, ◌++◌, map, length, ap, ◌∙◌, arith}
 use Rattle.std.proofs.lemmas.List.{append-nil, length-append}
-use Rattle.range_set.specs.PrivateChunks.{flat, grouped, move, spread}
+use Rattle.range_set.specs.PrivateChunks.{flat, move, spread}
+use Rattle.range_set.specs.PrivateBuilders.{grouped}
 use Rattle.range_set.proofs.Chunks.{flat-append}
 use Rattle.range_set.proofs.Groups.{length_moved}
 use Rattle.range_set.proofs.group_builder.GroupBuilder.put_whole.Goals as goal
@@ -20,7 +21,7 @@ pub returns-in-Some-clause-builder : goal.returns-in-Some-clause-builder
 returns-in-Some-clause-builder g c =
     let start = c.in-Some.first.now.start in
     let old = c.args.self.now in
-    let done = spread old.done.items in
+    let done = spread old.done in
     let chunks = c.of-group.result.chunks.items in
     let none : grouped old ≡ done = ap (λ ps. done ++ map (move old.start) ps) c.requires.growing ∙ append-nil done in
     let before = ap (λ ps. length (flat ps)) none in
@@ -32,4 +33,5 @@ returns-in-Some-clause-builder g c =
       groups = c.requires.builder.groups;
       growing = c.of-group.ensures.group;
       len = omega (arith, before, parts, len, count, moved);
+      room = let is = ap (λ ps. length (flat ps)) c.of-group.ensures.chunks in let most = c.requires.room in omega (arith, before, parts, is, most);
     }

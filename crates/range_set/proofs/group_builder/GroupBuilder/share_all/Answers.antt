@@ -1,39 +1,74 @@
-use Rattle.std.proofs.Common.{◌++◌, length, map, take, ap, sym, ◌∙◌, arith, append_assoc}
-use Rattle.std.proofs.lemmas.List.{length-append}
-use Rattle.range_set.specs.PrivateChunks.{flat, grouped, move, spread}
-use Rattle.range_set.proofs.Chunks.{flat-append}
-use Rattle.range_set.proofs.Groups.{group-at, groups_room, spread-push, spread_take}
+use Rattle.std.proofs.Common.{◌+◌, ◌<◌, ◌^◌, [], ◌∷◌, ◌++◌, length, map, ap, sym, subst, ◌∙◌, arith}
+use Rattle.std.proofs.lemmas.List.{append-nil, length-append}
+use Rattle.range_set.specs.PrivateChunks.{flat, move, shift, spread}
+use Rattle.range_set.specs.PrivateBuilders.{grouped}
+use Rattle.range_set.specs.PrivatePages.{further}
+use Rattle.range_set.specs.declared.group.PlacedGroup.{PlacedGroup}
+use Rattle.range_set.proofs.Builders.{seal_room}
+use Rattle.range_set.proofs.CarriedPages.{page_room}
+use Rattle.range_set.proofs.Chunks.{flat-append, length_shifted}
+use Rattle.range_set.proofs.Groups.{flat-spread, length_moved}
+use Rattle.range_set.proofs.Pages.{length_further}
+use Rattle.range_set.proofs.SharedBefore.{all_more}
 use Rattle.range_set.proofs.group_builder.GroupBuilder.share_all.Goals as goal
 
-pub share-requires : goal.share-requires
-share-requires g c =
+pub seal-requires-clause-room : goal.seal-requires-clause-room
+seal-requires-clause-room g c = seal_room g.T.RangeValue.rules c.args.self.now c.requires.builder
+
+pub put_page-requires-clause-room : goal.put_page-requires-clause-room
+put_page-requires-clause-room g c =
+    let p = c.in-Some.placed.now in
+    let room = subst (λ gs. length (flat (grouped c.loop-placed.self)) + length (flat (spread gs)) < 2 ^ 64) c.in-Some.ensures.is c.loop-placed.invariant.room in
+    let n = page_room g.T.RangeValue.rules p.start p.page.value.groups.items c.in-Some.others in
+    omega (arith, room, n)
+
+pub loop-placed-preserved-then-not-joins : goal.loop-placed-preserved-then-not-joins
+loop-placed-preserved-then-not-joins g c =
     let rules = g.T.RangeValue.rules in
-    let gs = c.args.groups.now in
-    let i = c.loop-placed.placed-index in
-    let p = c.placed-item.result in
-    let here = group-at rules gs i p c.loop-placed-test.true c.placed-item.is c.requires.groups in
+    let p = c.in-Some.placed.now in
+    let gs = map (further p.start) p.page.value.groups.items in
+    let others = c.in-Some.others in
+    let here = grouped c.loop-placed.self in
+    let at = c.loop-placed.invariant in
+    let put = c.in_ok-put_page.ensures.ranges in
+    let room = subst (λ hs. length (flat here) + length (flat (spread hs)) < 2 ^ 64) c.in-Some.ensures.is at.room in
+    let n = page_room rules p.start p.page.value.groups.items others in
+    let k = ap (λ ps. length (flat ps)) put ∙ (ap length (flat-append here (spread gs)) ∙ length-append (flat here) (flat (spread gs))) in
+    let l = length_further rules p.start p.page.value.groups.items in
     record {
-      builder = c.loop-placed.invariant.builder;
-      group = here.0;
-      some = here.1;
-      room =
-          let n = ap (λ ps. length (flat ps)) c.loop-placed.invariant.ranges in
-          let m = ap length (flat-append (grouped c.args.self.now) (spread (take i gs))) ∙ length-append (flat (grouped c.args.self.now)) (flat (spread (take i gs))) in
-          let k = groups_room rules gs i p c.loop-placed-test.true c.placed-item.is in
-          let l = c.requires.room in
-          omega (arith, n, m, k, l);
+      builder = c.in_ok-put_page.ensures.builder;
+      growing = ap (λ x. x.chunks.items) c.in_ok-put_page.ensures.growing ∙ at.growing;
+      room = omega (arith, room, n, k, l);
+      ranges = all_more c.loop-placed.rest gs others _ here _ c.in-Some.ensures.is put at.ranges;
     }
+
+pub put_shared-requires-clause-room : goal.put_shared-requires-clause-room
+put_shared-requires-clause-room g c =
+    let p : PlacedGroup g.row.T.Denot = record { start = c.in-Some-split_first.start; group = c.in-Some-split_first.group.now } in
+    let others = c.in-Some-split_first.others in
+    let room = subst (λ gs. length (flat (grouped c.loop-placed.self)) + length (flat (spread gs)) < 2 ^ 64) c.in-Some-split_first.ensures.some.is c.loop-placed.invariant.room in
+    let n = ap length (flat-spread p others) ∙ length-append (map (shift p.start) (flat p.group.value.chunks.items)) (flat (spread others)) in
+    let m = length_shifted g.T.RangeValue.rules p.start (flat p.group.value.chunks.items) in
+    omega (arith, room, n, m)
 
 pub loop-placed-preserved : goal.loop-placed-preserved
 loop-placed-preserved g c =
-    let gs = c.args.groups.now in
-    let i = c.loop-placed.placed-index in
-    let p = c.placed-item.result in
-    let old = grouped c.args.self.now in
+    let rules = g.T.RangeValue.rules in
+    let p : PlacedGroup g.row.T.Denot = record { start = c.in-Some-split_first.start; group = c.in-Some-split_first.group.now } in
+    let chunks = p.group.value.chunks.items in
+    let others = c.in-Some-split_first.others in
+    let here = grouped c.loop-placed.self in
+    let at = c.loop-placed.invariant in
+    let next = c.in-Some-split_first.ensures.some in
+    let put = c.in_ok-put_shared-in-Some-split_first.ensures.ranges in
+    let room = subst (λ gs. length (flat here) + length (flat (spread gs)) < 2 ^ 64) next.is at.room in
+    let n = ap length (flat-spread p others) ∙ length-append (map (shift p.start) (flat chunks)) (flat (spread others)) in
+    let m = length_shifted rules p.start (flat chunks) in
+    let k = ap (λ ps. length (flat ps)) put ∙ (ap length (flat-append here (map (move p.start) chunks)) ∙ length-append (flat here) (flat (map (move p.start) chunks))) in
+    let l = length_moved rules p.start chunks in
     record {
-      builder = c.in_ok-share.ensures.builder;
-      ranges = c.in_ok-share.ensures.ranges
-          ∙ (ap (λ ps. ps ++ map (move p.start) p.group.value.chunks.items) c.loop-placed.invariant.ranges
-          ∙ (append_assoc old (spread (take i gs)) (map (move p.start) p.group.value.chunks.items)
-          ∙ ap (λ ps. old ++ ps) (sym (ap spread (spread_take gs i p c.loop-placed-test.true c.placed-item.is) ∙ spread-push (take i gs) p))));
+      builder = c.in_ok-put_shared-in-Some-split_first.ensures.builder;
+      growing = ap (λ x. x.chunks.items) c.in_ok-put_shared-in-Some-split_first.ensures.growing ∙ at.growing;
+      room = omega (arith, room, n, m, k, l);
+      ranges = all_more c.loop-placed.rest (p ∷ []) others _ here _ next.is (put ∙ ap (λ ps. here ++ ps) (sym (append-nil (map (move p.start) chunks)))) at.ranges;
     }

@@ -1,6 +1,7 @@
 use Rattle.std.proofs.Common.{◌≡◌, ◌++◌, sym, ap, subst, ◌∙◌}
 use Rattle.std.proofs.lemmas.Result.{IfOk-weaker}
-use Rattle.range_set.specs.PrivateChunks.{Ascend, built, flat, grouped, put_down}
+use Rattle.range_set.specs.PrivateChunks.{Ascend, flat}
+use Rattle.range_set.specs.PrivateBuilders.{built, grouped, put_down}
 use Rattle.range_set.proofs.Chunks.{flat-append}
 use Rattle.range_set.proofs.mapped_builder.MappedBuilder.end_groups.Goals as goal
 

@@ -4,7 +4,8 @@ use Rattle.std.proofs.lemmas.Result.{IfOk-weaker}
 use Rattle.stable_order.specs.StableSort.{stable_sort}
 use Rattle.stable_order.proofs.StableSort.{length-stable_sort}
 use Rattle.range_set.specs.Order.{before}
-use Rattle.range_set.specs.PrivateChunks.{Ascend, built, flat, grouped, put_down, spread}
+use Rattle.range_set.specs.PrivateChunks.{Ascend, flat, spread}
+use Rattle.range_set.specs.PrivateBuilders.{built, grouped, put_down}
 use Rattle.range_set.proofs.Chunks.{ascend-rest}
 use Rattle.range_set.proofs.mapped_builder.MappedBuilder.finish.Goals as goal
 

@@ -2,7 +2,8 @@ use Rattle.std.proofs.Common.{◌≡◌, ◌++◌, map, sym, ap, subst, ◌∙�
 use Rattle.std.proofs.lemmas.Result.{IfOk-weaker}
 use Rattle.stable_order.specs.StableSort.{stable_sort}
 use Rattle.range_set.specs.Order.{before}
-use Rattle.range_set.specs.PrivateChunks.{Ascend, built, flat, grouped, shift}
+use Rattle.range_set.specs.PrivateChunks.{Ascend, flat, shift}
+use Rattle.range_set.specs.PrivateBuilders.{built, grouped}
 use Rattle.range_set.proofs.Chunks.{ascend-rest}
 use Rattle.range_set.proofs.mapped_builder.MappedBuilder.share_chunk.Goals as goal
 

@@ -4,7 +4,8 @@ use Rattle.std.proofs.lemmas.Result.{IfOk-weaker}
 use Rattle.stable_order.specs.StableSort.{stable_sort}
 use Rattle.stable_order.proofs.StableSort.{length-stable_sort}
 use Rattle.range_set.specs.Order.{before}
-use Rattle.range_set.specs.PrivateChunks.{Ascend, built, flat, grouped, move, put_down, shift}
+use Rattle.range_set.specs.PrivateChunks.{Ascend, flat, move, shift}
+use Rattle.range_set.specs.PrivateBuilders.{built, grouped, put_down}
 use Rattle.range_set.proofs.Chunks.{ascend-rest, flat-append}
 use Rattle.range_set.proofs.Groups.{flat-moved}
 use Rattle.range_set.proofs.mapped_builder.MappedBuilder.share_group.Goals as goal

@@ -10,7 +10,8 @@ use Rattle.change_desc.specs.declared.map_mode.MapMode.TheVariants.{Simple}
 use Rattle.stable_order.specs.StableSort.{stable_sort}
 use Rattle.range_set.specs.Order.{before}
 use Rattle.range_set.specs.Mapping.{moved}
-use Rattle.range_set.specs.PrivateChunks.{FitCarriedChunks, Ascend, built, carry_chunk, flat, grouped, move, put_down, shift, spread}
+use Rattle.range_set.specs.PrivateChunks.{FitCarriedChunks, Ascend, carry_chunk, flat, move, shift, spread}
+use Rattle.range_set.specs.PrivateBuilders.{built, grouped, put_down}
 use Rattle.range_set.proofs.Chunks.{ascend-prefix, flat-append}
 use Rattle.range_set.proofs.Clear.{IsClear, Sections, clear_place, map_pos-clear}
 use Rattle.range_set.proofs.Cost.{allowance, allowed}
@@ -26,15 +27,15 @@ pub map_each-requires-clause-inside : goal.map_each-requires-clause-inside
 map_each-requires-clause-inside g c =
     let rules = g.T.RangeValue.rules in
     let d = c.args.changes.now in
-    let gs = c.args.groups.now in
+    let gs = c.args.groups in
     let p = c.in-Some-split_first.inner.now in
     let more = c.in-Some-split_first.more.now in
-    let start = c.in-Some.placed.now.start in
-    let later = spread c.in-Some.others.now in
+    let start = c.in-Some.base in
+    let later = spread c.in-Some.others in
     let rest = map (move start) more ++ later in
     let ranges = map (shift (p.start + start)) p.chunk.value.ranges.items in
     let kept = c.loop-inner.invariant in
-    let here = subst (λ qs. IsWalked rules d (flat (spread gs)) (map (move start) qs ++ spread c.in-Some.others.now) (put_down c.loop-inner.builder) c.loop-inner.builder.run.items c.loop-inner.walk.walker.reached c.loop-inner.left.now) c.in-Some-split_first.ensures.cases.0 kept.walked in
+    let here = subst (λ qs. IsWalked rules d (flat (spread gs)) (map (move start) qs ++ spread c.in-Some.others) (put_down c.loop-inner.builder) c.loop-inner.builder.run.items c.loop-inner.walk.walker.reached c.loop-inner.left.now) c.in-Some-split_first.ensures.cases.0 kept.walked in
     end_within (old_size c.loop-inner.walk.walker.desc) ranges
     (subst (λ (s : Sections). Within (old_size s) ranges) (sym kept.desc) (within_prefix (old_size d) ranges (flat rest) here.within))
 
@@ -42,42 +43,42 @@ pub map_each-requires-clause-ascending : goal.map_each-requires-clause-ascending
 map_each-requires-clause-ascending g c =
     let rules = g.T.RangeValue.rules in
     let d = c.args.changes.now in
-    let gs = c.args.groups.now in
+    let gs = c.args.groups in
     let p = c.in-Some-split_first.inner.now in
     let more = c.in-Some-split_first.more.now in
-    let start = c.in-Some.placed.now.start in
-    let later = spread c.in-Some.others.now in
+    let start = c.in-Some.base in
+    let later = spread c.in-Some.others in
     let rest = map (move start) more ++ later in
     let kept = c.loop-inner.invariant in
-    let here = subst (λ qs. IsWalked rules d (flat (spread gs)) (map (move start) qs ++ spread c.in-Some.others.now) (put_down c.loop-inner.builder) c.loop-inner.builder.run.items c.loop-inner.walk.walker.reached c.loop-inner.left.now) c.in-Some-split_first.ensures.cases.0 kept.walked in
+    let here = subst (λ qs. IsWalked rules d (flat (spread gs)) (map (move start) qs ++ spread c.in-Some.others) (put_down c.loop-inner.builder) c.loop-inner.builder.run.items c.loop-inner.walk.walker.reached c.loop-inner.left.now) c.in-Some-split_first.ensures.cases.0 kept.walked in
     ascend-prefix c.loop-inner.walk.walker.reached (map (shift (p.start + start)) p.chunk.value.ranges.items) (flat rest) here.ascend
 
 pub map_each-requires-clause-same : goal.map_each-requires-clause-same
 map_each-requires-clause-same g c = λ a b l.
     let d = c.args.changes.now in
-    let gs = c.args.groups.now in
+    let gs = c.args.groups in
     let p = c.in-Some-split_first.inner.now in
     let more = c.in-Some-split_first.more.now in
     let kept = c.loop-inner.invariant in
-    let here = subst (λ qs. IsWalked g.T.RangeValue.rules d (flat (spread gs)) (map (move c.in-Some.placed.now.start) qs ++ spread c.in-Some.others.now) (put_down c.loop-inner.builder) c.loop-inner.builder.run.items c.loop-inner.walk.walker.reached c.loop-inner.left.now) c.in-Some-split_first.ensures.cases.0 kept.walked in
+    let here = subst (λ qs. IsWalked g.T.RangeValue.rules d (flat (spread gs)) (map (move c.in-Some.base) qs ++ spread c.in-Some.others) (put_down c.loop-inner.builder) c.loop-inner.builder.run.items c.loop-inner.walk.walker.reached c.loop-inner.left.now) c.in-Some-split_first.ensures.cases.0 kept.walked in
     c.ranges_from-left-in-Some-split_first.ensures.same a b l ∙ (here.same a b l ∙ ap (λ (x : Sections). list_any (meets a b) (replaced x)) (sym kept.desc))
 
 pub returns-in_err-map_each-clause-cost : goal.returns-in_err-map_each-clause-cost
 returns-in_err-map_each-clause-cost g c =
     let rules = g.T.RangeValue.rules in
     let d = c.args.changes.now in
-    let gs = c.args.groups.now in
+    let gs = c.args.groups in
     let p = c.in-Some-split_first.inner.now in
     let more = c.in-Some-split_first.more.now in
-    let start = c.in-Some.placed.now.start in
-    let later = spread c.in-Some.others.now in
+    let start = c.in-Some.base in
+    let later = spread c.in-Some.others in
     let rest = map (move start) more ++ later in
     let done = put_down c.loop-inner.builder in
     let run = c.loop-inner.builder.run.items in
     let reached = c.loop-inner.walk.walker.reached in
     let reps = c.loop-inner.left.now in
     let kept = c.loop-inner.invariant in
-    let here = subst (λ qs. IsWalked rules d (flat (spread gs)) (map (move start) qs ++ spread c.in-Some.others.now) (put_down c.loop-inner.builder) c.loop-inner.builder.run.items c.loop-inner.walk.walker.reached c.loop-inner.left.now) c.in-Some-split_first.ensures.cases.0 kept.walked in
+    let here = subst (λ qs. IsWalked rules d (flat (spread gs)) (map (move start) qs ++ spread c.in-Some.others) (put_down c.loop-inner.builder) c.loop-inner.builder.run.items c.loop-inner.walk.walker.reached c.loop-inner.left.now) c.in-Some-split_first.ensures.cases.0 kept.walked in
     let affected = affected_same rules d (flat (spread gs)) (move start p) rest done run reached reps c.ranges_from-left-in-Some-split_first.result.now here c.ranges_from-left-in-Some-split_first.ensures.same c.is_affected.result c.is_affected.ensures in
     let top = allowed rules d 0 (spread gs) (are_spread rules gs c.requires.groups) (rises_ascend rules (flat (spread gs)) (rises-no_fault rules (flat (spread gs)) c.requires.order)) in
     let spent = kept.cost in
@@ -91,18 +92,18 @@ pub place_after-to-requires-clause-inside : goal.place_after-to-requires-clause-
 place_after-to-requires-clause-inside g c =
     let rules = g.T.RangeValue.rules in
     let d = c.args.changes.now in
-    let gs = c.args.groups.now in
+    let gs = c.args.groups in
     let p = c.in-Some-split_first.inner.now in
     let more = c.in-Some-split_first.more.now in
-    let start = c.in-Some.placed.now.start in
-    let later = spread c.in-Some.others.now in
+    let start = c.in-Some.base in
+    let later = spread c.in-Some.others in
     let rest = map (move start) more ++ later in
     let done = put_down c.loop-inner.builder in
     let run = c.loop-inner.builder.run.items in
     let reached = c.loop-inner.walk.walker.reached in
     let reps = c.loop-inner.left.now in
     let kept = c.loop-inner.invariant in
-    let here = subst (λ qs. IsWalked rules d (flat (spread gs)) (map (move start) qs ++ spread c.in-Some.others.now) (put_down c.loop-inner.builder) c.loop-inner.builder.run.items c.loop-inner.walk.walker.reached c.loop-inner.left.now) c.in-Some-split_first.ensures.cases.0 kept.walked in
+    let here = subst (λ qs. IsWalked rules d (flat (spread gs)) (map (move start) qs ++ spread c.in-Some.others) (put_down c.loop-inner.builder) c.loop-inner.builder.run.items c.loop-inner.walk.walker.reached c.loop-inner.left.now) c.in-Some-split_first.ensures.cases.0 kept.walked in
     let affected = affected_same rules d (flat (spread gs)) (move start p) rest done run reached reps c.ranges_from-left-in-Some-split_first.result.now here c.ranges_from-left-in-Some-split_first.ensures.same c.is_affected.result c.is_affected.ensures in
     let clear = clear_chunk rules d (flat (spread gs)) (move start p) rest done run reached reps here (sym affected ∙ c.if-is_affected.false) in
     let size = ap old_size kept.desc in
@@ -113,18 +114,18 @@ pub place_after-to-requires-clause-ascending : goal.place_after-to-requires-clau
 place_after-to-requires-clause-ascending g c =
     let rules = g.T.RangeValue.rules in
     let d = c.args.changes.now in
-    let gs = c.args.groups.now in
+    let gs = c.args.groups in
     let p = c.in-Some-split_first.inner.now in
     let more = c.in-Some-split_first.more.now in
-    let start = c.in-Some.placed.now.start in
-    let later = spread c.in-Some.others.now in
+    let start = c.in-Some.base in
+    let later = spread c.in-Some.others in
     let rest = map (move start) more ++ later in
     let done = put_down c.loop-inner.builder in
     let run = c.loop-inner.builder.run.items in
     let reached = c.loop-inner.walk.walker.reached in
     let reps = c.loop-inner.left.now in
     let kept = c.loop-inner.invariant in
-    let here = subst (λ qs. IsWalked rules d (flat (spread gs)) (map (move start) qs ++ spread c.in-Some.others.now) (put_down c.loop-inner.builder) c.loop-inner.builder.run.items c.loop-inner.walk.walker.reached c.loop-inner.left.now) c.in-Some-split_first.ensures.cases.0 kept.walked in
+    let here = subst (λ qs. IsWalked rules d (flat (spread gs)) (map (move start) qs ++ spread c.in-Some.others) (put_down c.loop-inner.builder) c.loop-inner.builder.run.items c.loop-inner.walk.walker.reached c.loop-inner.left.now) c.in-Some-split_first.ensures.cases.0 kept.walked in
     let affected = affected_same rules d (flat (spread gs)) (move start p) rest done run reached reps c.ranges_from-left-in-Some-split_first.result.now here c.ranges_from-left-in-Some-split_first.ensures.same c.is_affected.result c.is_affected.ensures in
     let clear = clear_chunk rules d (flat (spread gs)) (move start p) rest done run reached reps here (sym affected ∙ c.if-is_affected.false) in
     clear.ascend
@@ -133,18 +134,18 @@ pub place_after-to-requires-clause-clear : goal.place_after-to-requires-clause-c
 place_after-to-requires-clause-clear g c =
     let rules = g.T.RangeValue.rules in
     let d = c.args.changes.now in
-    let gs = c.args.groups.now in
+    let gs = c.args.groups in
     let p = c.in-Some-split_first.inner.now in
     let more = c.in-Some-split_first.more.now in
-    let start = c.in-Some.placed.now.start in
-    let later = spread c.in-Some.others.now in
+    let start = c.in-Some.base in
+    let later = spread c.in-Some.others in
     let rest = map (move start) more ++ later in
     let done = put_down c.loop-inner.builder in
     let run = c.loop-inner.builder.run.items in
     let reached = c.loop-inner.walk.walker.reached in
     let reps = c.loop-inner.left.now in
     let kept = c.loop-inner.invariant in
-    let here = subst (λ qs. IsWalked rules d (flat (spread gs)) (map (move start) qs ++ spread c.in-Some.others.now) (put_down c.loop-inner.builder) c.loop-inner.builder.run.items c.loop-inner.walk.walker.reached c.loop-inner.left.now) c.in-Some-split_first.ensures.cases.0 kept.walked in
+    let here = subst (λ qs. IsWalked rules d (flat (spread gs)) (map (move start) qs ++ spread c.in-Some.others) (put_down c.loop-inner.builder) c.loop-inner.builder.run.items c.loop-inner.walk.walker.reached c.loop-inner.left.now) c.in-Some-split_first.ensures.cases.0 kept.walked in
     let affected = affected_same rules d (flat (spread gs)) (move start p) rest done run reached reps c.ranges_from-left-in-Some-split_first.result.now here c.ranges_from-left-in-Some-split_first.ensures.same c.is_affected.result c.is_affected.ensures in
     let clear = clear_chunk rules d (flat (spread gs)) (move start p) rest done run reached reps here (sym affected ∙ c.if-is_affected.false) in
     subst (λ (x : Sections). IsClear (p.start + start) (p.start + start) x) (sym kept.desc) clear.clear
@@ -153,62 +154,62 @@ pub place_after-to-requires-clause-same : goal.place_after-to-requires-clause-sa
 place_after-to-requires-clause-same g c = λ a b m.
     let rules = g.T.RangeValue.rules in
     let d = c.args.changes.now in
-    let gs = c.args.groups.now in
+    let gs = c.args.groups in
     let p = c.in-Some-split_first.inner.now in
     let more = c.in-Some-split_first.more.now in
-    let start = c.in-Some.placed.now.start in
-    let later = spread c.in-Some.others.now in
+    let start = c.in-Some.base in
+    let later = spread c.in-Some.others in
     let rest = map (move start) more ++ later in
     let done = put_down c.loop-inner.builder in
     let run = c.loop-inner.builder.run.items in
     let reached = c.loop-inner.walk.walker.reached in
     let reps = c.loop-inner.left.now in
     let kept = c.loop-inner.invariant in
-    let here = subst (λ qs. IsWalked rules d (flat (spread gs)) (map (move start) qs ++ spread c.in-Some.others.now) (put_down c.loop-inner.builder) c.loop-inner.builder.run.items c.loop-inner.walk.walker.reached c.loop-inner.left.now) c.in-Some-split_first.ensures.cases.0 kept.walked in
+    let here = subst (λ qs. IsWalked rules d (flat (spread gs)) (map (move start) qs ++ spread c.in-Some.others) (put_down c.loop-inner.builder) c.loop-inner.builder.run.items c.loop-inner.walk.walker.reached c.loop-inner.left.now) c.in-Some-split_first.ensures.cases.0 kept.walked in
     c.ranges_from-left-in-Some-split_first.ensures.same a b m ∙ (here.same a b m ∙ ap (λ (x : Sections). list_any (meets a b) (replaced x)) (sym kept.desc))
 
 pub share_chunk-requires-clause-order : goal.share_chunk-requires-clause-order
 share_chunk-requires-clause-order g c =
     let rules = g.T.RangeValue.rules in
     let d = c.args.changes.now in
-    let gs = c.args.groups.now in
+    let gs = c.args.groups in
     let p = c.in-Some-split_first.inner.now in
     let more = c.in-Some-split_first.more.now in
-    let start = c.in-Some.placed.now.start in
-    let later = spread c.in-Some.others.now in
+    let start = c.in-Some.base in
+    let later = spread c.in-Some.others in
     let rest = map (move start) more ++ later in
     let done = put_down c.loop-inner.builder in
     let run = c.loop-inner.builder.run.items in
     let reached = c.loop-inner.walk.walker.reached in
     let reps = c.loop-inner.left.now in
     let kept = c.loop-inner.invariant in
-    let here = subst (λ qs. IsWalked rules d (flat (spread gs)) (map (move start) qs ++ spread c.in-Some.others.now) (put_down c.loop-inner.builder) c.loop-inner.builder.run.items c.loop-inner.walk.walker.reached c.loop-inner.left.now) c.in-Some-split_first.ensures.cases.0 kept.walked in
+    let here = subst (λ qs. IsWalked rules d (flat (spread gs)) (map (move start) qs ++ spread c.in-Some.others) (put_down c.loop-inner.builder) c.loop-inner.builder.run.items c.loop-inner.walk.walker.reached c.loop-inner.left.now) c.in-Some-split_first.ensures.cases.0 kept.walked in
     let affected = affected_same rules d (flat (spread gs)) (move start p) rest done run reached reps c.ranges_from-left-in-Some-split_first.result.now here c.ranges_from-left-in-Some-split_first.ensures.same c.is_affected.result c.is_affected.ensures in
     let clear = clear_chunk rules d (flat (spread gs)) (move start p) rest done run reached reps here (sym affected ∙ c.if-is_affected.false) in
     clear.order
 
 pub share_chunk-requires-clause-forward : goal.share_chunk-requires-clause-forward
 share_chunk-requires-clause-forward g c =
-    let gs = c.args.groups.now in
-    let rest = map (move c.in-Some.placed.now.start) c.loop-inner.chunks.now ++ spread c.in-Some.others.now in
+    let gs = c.args.groups in
+    let rest = map (move c.in-Some.base) c.loop-inner.chunks.now ++ spread c.in-Some.others in
     run_forward g.T.RangeValue.rules c.args.changes.now (flat (spread gs)) (put_down c.loop-inner.builder) c.loop-inner.builder.run.items (flat rest) c.loop-inner.invariant.walked.under
 
 pub share_chunk-requires-clause-chunk : goal.share_chunk-requires-clause-chunk
 share_chunk-requires-clause-chunk g c =
     let rules = g.T.RangeValue.rules in
     let d = c.args.changes.now in
-    let gs = c.args.groups.now in
+    let gs = c.args.groups in
     let p = c.in-Some-split_first.inner.now in
     let more = c.in-Some-split_first.more.now in
-    let base = c.in-Some.placed.now.start in
-    let later = spread c.in-Some.others.now in
+    let base = c.in-Some.base in
+    let later = spread c.in-Some.others in
     let rest = map (move base) more ++ later in
     let done = put_down c.loop-inner.builder in
     let run = c.loop-inner.builder.run.items in
     let reached = c.loop-inner.walk.walker.reached in
     let reps = c.loop-inner.left.now in
     let kept = c.loop-inner.invariant in
-    let here = subst (λ qs. IsWalked rules d (flat (spread gs)) (map (move base) qs ++ spread c.in-Some.others.now) (put_down c.loop-inner.builder) c.loop-inner.builder.run.items c.loop-inner.walk.walker.reached c.loop-inner.left.now) c.in-Some-split_first.ensures.cases.0 kept.walked in
+    let here = subst (λ qs. IsWalked rules d (flat (spread gs)) (map (move base) qs ++ spread c.in-Some.others) (put_down c.loop-inner.builder) c.loop-inner.builder.run.items c.loop-inner.walk.walker.reached c.loop-inner.left.now) c.in-Some-split_first.ensures.cases.0 kept.walked in
     let affected = affected_same rules d (flat (spread gs)) (move base p) rest done run reached reps c.ranges_from-left-in-Some-split_first.result.now here c.ranges_from-left-in-Some-split_first.ensures.same c.is_affected.result c.is_affected.ensures in
     let clear = clear_chunk rules d (flat (spread gs)) (move base p) rest done run reached reps here (sym affected ∙ c.if-is_affected.false) in
     let start : c.place_after-to.result ≡ clear_place d (p.start + base) =
@@ -221,7 +222,7 @@ share_chunk-requires-clause-chunk g c =
 pub returns-in_err-share_chunk-clause-cost : goal.returns-in_err-share_chunk-clause-cost
 returns-in_err-share_chunk-clause-cost g c =
     let rules = g.T.RangeValue.rules in
-    let gs = c.args.groups.now in
+    let gs = c.args.groups in
     let top = allowed rules c.args.changes.now 0 (spread gs) (are_spread rules gs c.requires.groups) (rises_ascend rules (flat (spread gs)) (rises-no_fault rules (flat (spread gs)) c.requires.order)) in
     let spent = c.loop-inner.invariant.cost in
     omega (arith, top, spent)
@@ -230,10 +231,10 @@ pub loop-inner-preserved : goal.loop-inner-preserved
 loop-inner-preserved g c =
     let rules = g.T.RangeValue.rules in
     let d = c.args.changes.now in
-    let gs = c.args.groups.now in
+    let gs = c.args.groups in
     let whole = flat (spread gs) in
-    let base = c.in-Some.placed.now.start in
-    let later = spread c.in-Some.others.now in
+    let base = c.in-Some.base in
+    let later = spread c.in-Some.others in
     let p = c.in-Some-split_first.inner.now in
     let more = c.in-Some-split_first.more.now in
     let rest = map (move base) more ++ later in
@@ -261,7 +262,7 @@ loop-inner-preserved g c =
     let walk = c.place_after-to.new.self.walker.reached in
     let old = flat (grouped c.share_chunk.new.self.groups) in
     let chunks = built c.share_chunk.new.self.chunks in
-    let new = built c.share_carried.new.self in
+    let new = built c.share_carried-else-is_affected.new.self in
     let carried = flat (map (carry_chunk from (clear_place d from)) taken) in
     let is : old ++ new ≡ put ++ carried =
     ap (λ rs. old ++ rs) (shared.ranges ∙ ap (λ n. chunks ++ flat (map (carry_chunk from n) taken)) start) ∙ sym (append_assoc old chunks carried) in
@@ -282,14 +283,14 @@ loop-inner-preserved g c =
       cost = omega (arith, spent, at, share, cut, less);
     }
 
-pub loop-inner-preserved-in-Continue-branch-3 : goal.loop-inner-preserved-in-Continue-branch-3
-loop-inner-preserved-in-Continue-branch-3 g c =
+pub loop-inner-preserved-in-Continue-branch-4 : goal.loop-inner-preserved-in-Continue-branch-4
+loop-inner-preserved-in-Continue-branch-4 g c =
     let rules = g.T.RangeValue.rules in
     let d = c.args.changes.now in
-    let gs = c.args.groups.now in
+    let gs = c.args.groups in
     let whole = flat (spread gs) in
-    let base = c.in-Some.placed.now.start in
-    let later = spread c.in-Some.others.now in
+    let base = c.in-Some.base in
+    let later = spread c.in-Some.others in
     let p = c.in-Some-split_first.inner.now in
     let more = c.in-Some-split_first.more.now in
     let rest = map (move base) more ++ later in
@@ -320,7 +321,7 @@ loop-inner-preserved-in-Continue-branch-3 g c =
 
 pub loop-inner-smaller : goal.loop-inner-smaller
 loop-inner-smaller g c =
-    let base = c.in-Some.placed.now.start in
+    let base = c.in-Some.base in
     let more = c.in-Some-split_first.more.now in
     let left = c.in_ok-chunks.chunks.now in
     let shared = c.in_ok-chunks.ensures.shared in
@@ -330,14 +331,14 @@ loop-inner-smaller g c =
     let l = length-map left (move base) in
     omega (arith, n, m, k, l)
 
-pub share_carried-requires-clause-chunks : goal.share_carried-requires-clause-chunks
-share_carried-requires-clause-chunks g c =
+pub share_carried-requires-else-is_affected-clause-chunks : goal.share_carried-requires-else-is_affected-clause-chunks
+share_carried-requires-else-is_affected-clause-chunks g c =
     let rules = g.T.RangeValue.rules in
     let d = c.args.changes.now in
-    let gs = c.args.groups.now in
+    let gs = c.args.groups in
     let whole = flat (spread gs) in
-    let base = c.in-Some.placed.now.start in
-    let later = spread c.in-Some.others.now in
+    let base = c.in-Some.base in
+    let later = spread c.in-Some.others in
     let p = c.in-Some-split_first.inner.now in
     let more = c.in-Some-split_first.more.now in
     let rest = map (move base) more ++ later in
@@ -359,14 +360,14 @@ share_carried-requires-clause-chunks g c =
     (c.in_ok-share_chunk.ensures.ranges ∙ ap (λ n. done ++ stable_sort (before rules) run ++ map (shift n) p.chunk.value.ranges.items) start) in
     are_before rules d (map (move base) more) later next.chunks
 
-pub share_carried-requires-clause-ascend : goal.share_carried-requires-clause-ascend
-share_carried-requires-clause-ascend g c =
+pub share_carried-requires-else-is_affected-clause-ascend : goal.share_carried-requires-else-is_affected-clause-ascend
+share_carried-requires-else-is_affected-clause-ascend g c =
     let rules = g.T.RangeValue.rules in
     let d = c.args.changes.now in
-    let gs = c.args.groups.now in
+    let gs = c.args.groups in
     let whole = flat (spread gs) in
-    let base = c.in-Some.placed.now.start in
-    let later = spread c.in-Some.others.now in
+    let base = c.in-Some.base in
+    let later = spread c.in-Some.others in
     let p = c.in-Some-split_first.inner.now in
     let more = c.in-Some-split_first.more.now in
     let rest = map (move base) more ++ later in
@@ -388,14 +389,14 @@ share_carried-requires-clause-ascend g c =
     (c.in_ok-share_chunk.ensures.ranges ∙ ap (λ n. done ++ stable_sort (before rules) run ++ map (shift n) p.chunk.value.ranges.items) start) in
     ascend-prefix from (flat (map (move base) more)) (flat later) (subst (Ascend from) (flat-append (map (move base) more) later) next.ascend)
 
-pub share_carried-requires-clause-fits : goal.share_carried-requires-clause-fits
-share_carried-requires-clause-fits g c =
+pub share_carried-requires-else-is_affected-clause-fits : goal.share_carried-requires-else-is_affected-clause-fits
+share_carried-requires-else-is_affected-clause-fits g c =
     let rules = g.T.RangeValue.rules in
     let d = c.args.changes.now in
-    let gs = c.args.groups.now in
+    let gs = c.args.groups in
     let whole = flat (spread gs) in
-    let base = c.in-Some.placed.now.start in
-    let later = spread c.in-Some.others.now in
+    let base = c.in-Some.base in
+    let later = spread c.in-Some.others in
     let p = c.in-Some-split_first.inner.now in
     let more = c.in-Some-split_first.more.now in
     let rest = map (move base) more ++ later in
@@ -423,7 +424,7 @@ share_carried-requires-clause-fits g c =
 pub returns-in_err-chunks-clause-cost : goal.returns-in_err-chunks-clause-cost
 returns-in_err-chunks-clause-cost g c =
     let rules = g.T.RangeValue.rules in
-    let gs = c.args.groups.now in
+    let gs = c.args.groups in
     let top = allowed rules c.args.changes.now 0 (spread gs) (are_spread rules gs c.requires.groups) (rises_ascend rules (flat (spread gs)) (rises-no_fault rules (flat (spread gs)) c.requires.order)) in
     let spent = c.loop-inner.invariant.cost in
     omega (arith, top, spent)

@@ -15,7 +15,7 @@ use Rattle.range_set.proofs.range_set.RangeSet.map_steps.Goals as goal
 pub mapped_groups-requires : goal.mapped_groups-requires
 mapped_groups-requires g c =
     let rules = g.T.RangeValue.rules in
-    let e = c.as_slice-2.ensures in
+    let e = c.groups.ensures in
     let shown = ap (λ (gs : List (PlacedGroup g.row.T.Denot)). flat (spread gs)) e ∙ c.self.view_is in
     let count = ap length shown in
     let len = c.len.ensures in
@@ -32,19 +32,19 @@ invariant_of-result g c =
     let rules = g.T.RangeValue.rules in
     record {
       sound = c.in_ok-groups.ensures.groups;
-      order = ap (first_fault rules) c.in_ok-groups.ensures.ranges ∙ no_fault_in_map rules c.args.changes.now (flat (spread c.as_slice-2.result.now));
+      order = ap (first_fault rules) c.in_ok-groups.ensures.ranges ∙ no_fault_in_map rules c.args.changes.now (flat (spread c.groups.result));
     }
 
 pub returns-clause-inside : goal.returns-clause-inside
 returns-clause-inside g c =
-    subst (EndWithin (new_size counted c.args.changes.now)) (sym c.in_ok-groups.ensures.ranges) (map_in g.T.RangeValue.rules c.args.changes.now (flat (spread c.as_slice-2.result.now)))
+    subst (EndWithin (new_size counted c.args.changes.now)) (sym c.in_ok-groups.ensures.ranges) (map_in g.T.RangeValue.rules c.args.changes.now (flat (spread c.groups.result)))
 
 pub returns-then-none_turned-clause-set : goal.returns-then-none_turned-clause-set
 returns-then-none_turned-clause-set g c =
     let rules = g.T.RangeValue.rules in
     let d = c.args.changes.now in
     let rs = c.args.self.now in
-    let shown = ap (λ (gs : List (PlacedGroup g.row.T.Denot)). flat (spread gs)) c.as_slice.ensures ∙ c.self.view_is in
+    let shown = ap (λ (gs : List (PlacedGroup g.row.T.Denot)). flat (spread gs)) c.pages.ensures.groups ∙ c.self.view_is in
     let order = sym (ap (first_fault rules) c.self.view_is) ∙ c.self.invariant.order in
     let turned = sym (ap (list_any (is_turned rules)) shown) ∙ c.none_turned.ensures c.if-none_turned.true in
     let still = map_still rules d rs (sym c.is_empty.ensures ∙ c.if-is_empty.true) order turned (within (old_size d) rs c.requires) in
@@ -55,7 +55,7 @@ returns-then-none_turned-clause-inside g c =
     let rules = g.T.RangeValue.rules in
     let d = c.args.changes.now in
     let rs = c.args.self.now in
-    let shown = ap (λ (gs : List (PlacedGroup g.row.T.Denot)). flat (spread gs)) c.as_slice.ensures ∙ c.self.view_is in
+    let shown = ap (λ (gs : List (PlacedGroup g.row.T.Denot)). flat (spread gs)) c.pages.ensures.groups ∙ c.self.view_is in
     let order = sym (ap (first_fault rules) c.self.view_is) ∙ c.self.invariant.order in
     let turned = sym (ap (list_any (is_turned rules)) shown) ∙ c.none_turned.ensures c.if-none_turned.true in
     let still = map_still rules d rs (sym c.is_empty.ensures ∙ c.if-is_empty.true) order turned (within (old_size d) rs c.requires) in

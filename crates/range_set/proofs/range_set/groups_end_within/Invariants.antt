@@ -1,7 +1,0 @@
-use Rattle.std.proofs.Common.{take}
-use Rattle.range_set.specs.PrivateChunks.{flat, spread}
-use Rattle.range_set.proofs.Each.{Within}
-use Rattle.range_set.proofs.range_set.groups_end_within.Given as goal
-
-abbrev pub invariant-loop-placed : goal.invariant-loop-placed
-invariant-loop-placed g l = Within l.len (flat (spread (take l.placed-index l.groups)))

@@ -1,0 +1,124 @@
+ghost use Rattle.std.specs.Prelude.{IfOk, [], ◌++◌, ◌+◌, ◌∷◌, ◌≡◌, ◌≤◌, ◌<◌, ◌^◌, length, map};
+ghost use Rattle.range_set.specs.PrivateChunks.{IsGroup, flat, spread};
+ghost use Rattle.range_set.specs.PrivatePages.{ArePages, IsPage, further, laid};
+
+use crate::group::PlacedGroup;
+use crate::group_list::GroupList;
+use crate::page::{MAX_GROUPS, Page, PlacedPage};
+use crate::range_value::RangeValue;
+use std::alloc::{AllocError, Global};
+use std::marker::Model;
+use std::mem;
+use std::rc::Rc;
+
+/// Cuts groups that come in order into pages: those that are done, and one that is growing, at the place `start`. Contracts see the
+/// groups.
+#[derive(Drop)]
+pub(crate) struct PageBuilder<T: RangeValue> {
+    done: Vec<PlacedPage<T>>,
+    start: u32,
+    growing: Page<T>,
+}
+
+impl<T: RangeValue> Model for PageBuilder<T> {
+    ghost use Rattle.std.specs.Prelude.{List, ◌++◌, map};
+    ghost use Rattle.range_set.specs.declared.group.PlacedGroup.{PlacedGroup};
+    ghost use Rattle.range_set.specs.PrivatePages.{ArePagesBuilt, further, laid};
+
+    ghost Value = { List (PlacedGroup T) };
+
+    ghost view = { λ s. laid s.done.items ++ map (further s.start) s.growing.groups.items };
+
+    ghost invariant = { λ s. ArePagesBuilt T.rules s.done.items s.start s.growing };
+}
+
+impl<T: RangeValue> PageBuilder<T> {
+    /// A builder without groups, with room for so many pages.
+    pub(crate) fn with_capacity(alloc: Global, pages: usize) -> Result<PageBuilder<T>, AllocError>
+        ensures { IfOk result (λ builder. builder ≡ []) }
+    {
+        Ok(PageBuilder {
+            done: Vec::with_capacity(alloc, pages)?,
+            start: 0,
+            growing: Page::empty(alloc),
+        })
+    }
+
+    /// What its pages take memory from.
+    pub(crate) fn alloc(&self) -> Global {
+        *self.done.allocator()
+    }
+
+    /// Puts a group after the others. `Err`: out of memory.
+    pub(crate) fn push(&mut self, placed: PlacedGroup<T>) -> Result<(), AllocError>
+        requires group { IsGroup T.rules placed.start placed.group.value }
+        requires some { 1 ≤ length (flat placed.group.value.chunks.items) }
+        requires room { length (flat (spread self.old)) + length (flat placed.group.value.chunks.items) < 2 ^ 64 }
+        ensures { IfOk result (λ _. self.new ≡ self.old ++ placed ∷ []) }
+    {
+        // Groups come in order, so none begins before the growing page: this is asked so that no contract needs to say it.
+        if self.growing.groups.len() >= MAX_GROUPS || placed.start < self.start {
+            seal(&mut self.done, self.start, &mut self.growing)?;
+        }
+        if self.growing.groups.is_empty() {
+            self.growing.groups.reserve(MAX_GROUPS)?;
+            self.start = placed.start;
+        }
+        self.growing.put(self.start, placed)
+    }
+
+    /// Whether a page of so many groups is to become one with the groups that are growing: whether there are any, and all of them
+    /// fill at most three quarters of a full page. No contract speaks of this: it only decides which pages are shared.
+    pub(crate) fn joins(&self, len: usize) -> bool {
+        !self.growing.groups.is_empty()
+            && self.growing.groups.len().saturating_add(len) <= MAX_GROUPS / 4 * 3
+    }
+
+    /// Puts the groups of a page after the others, at a place of its own, and shares it. `Err`: out of memory.
+    pub(crate) fn share(&mut self, start: u32, page: &Rc<Page<T>>) -> Result<(), AllocError>
+        requires page { IsPage T.rules start page.now.value }
+        requires some { 1 ≤ length (flat (spread page.now.value.groups.items)) }
+        ensures { IfOk result (λ _. self.new ≡ self.old ++ map (further start) page.now.value.groups.items) }
+    {
+        seal(&mut self.done, self.start, &mut self.growing)?;
+        self.done.push(PlacedPage {
+            start,
+            page: page.clone()?,
+        })?;
+        Ok(())
+    }
+
+    /// The list of the groups. `Err`: out of memory.
+    pub(crate) fn finish(mut self) -> Result<GroupList<T>, AllocError>
+        ensures { IfOk result (λ list. list ≡ self) }
+    {
+        seal(&mut self.done, self.start, &mut self.growing)?;
+        GroupList::of(self.done)
+    }
+}
+
+/// Ends the growing page, if it has groups, and begins one without groups. `Err`: out of memory.
+fn seal<T: RangeValue>(
+    done: &mut Vec<PlacedPage<T>>,
+    start: u32,
+    growing: &mut Page<T>,
+) -> Result<(), AllocError>
+    requires pages { ArePages T.rules done.old.items }
+    requires page { IsPage T.rules start growing.old }
+    ensures pages { ArePages T.rules done.new.items }
+    ensures groups { IfOk result (λ _. laid done.new.items ≡ laid done.old.items ++ map (further start) growing.old.groups.items) }
+    ensures opened { IsPage T.rules start growing.new }
+    ensures empty { IfOk result (λ _. growing.new.groups.items ≡ []) }
+{
+    if growing.groups.is_empty() {
+        return Ok(());
+    }
+    let alloc = *done.allocator();
+    let mut page = mem::replace(growing, Page::empty(alloc));
+    page.groups.shrink_to_fit();
+    done.push(PlacedPage {
+        start,
+        page: Rc::new(alloc, page)?,
+    })?;
+    Ok(())
+}
