@@ -26,6 +26,7 @@ fn value(copied: &Copied, number: u32) -> Numbered {
         end: 1,
         number,
         most,
+        is_point: true,
     }
 }
 

@@ -11,6 +11,8 @@ mod numbered;
 #[cfg(test)]
 mod ordering;
 #[cfg(test)]
+mod paging;
+#[cfg(test)]
 mod selections;
 #[cfg(test)]
 mod sets;

@@ -1,4 +1,3 @@
-ghost use Rattle.std.specs.Prelude.{true};
 ghost use Rattle.change_desc.specs.declared.map_mode.MapMode.TheVariants as modes;
 ghost use Rattle.range_cases.specs.declared.numbered.Numbered.{Numbered};
 
@@ -6,17 +5,19 @@ use change_desc::{Desc, MapMode, Section};
 use range_set::{RangeSet, RangeValue, Ranged};
 use std::alloc::{AllocError, Global};
 
-/// A value with two sides and a number that tells it apart. A copy is refused where the number is over `most`.
+/// A value with two sides and a number that tells it apart. A copy is refused where the number is over `most`. Its range stands for
+/// what it covers where `is_point`.
 #[derive(Clone, Copy, Debug, PartialEq, Eq, Drop)]
 pub(crate) struct Numbered {
     pub(crate) start: i32,
     pub(crate) end: i32,
     pub(crate) number: u32,
     pub(crate) most: u32,
+    pub(crate) is_point: bool,
 }
 
 impl RangeValue for Numbered {
-    ghost rules = { record { start_side = λ (v : Numbered). v.start; end_side = λ v. v.end; mode = λ _. modes.TrackDel; is_point = λ _. true } };
+    ghost rules = { record { start_side = λ (v : Numbered). v.start; end_side = λ v. v.end; mode = λ _. modes.TrackDel; is_point = λ v. v.is_point } };
 
     fn start_side(&self) -> i32 {
         self.start
@@ -31,7 +32,7 @@ impl RangeValue for Numbered {
     }
 
     fn is_point(&self) -> bool {
-        true
+        self.is_point
     }
 
     fn same(&self, other: &Numbered) -> bool {
@@ -39,6 +40,7 @@ impl RangeValue for Numbered {
             && self.end == other.end
             && self.number == other.number
             && self.most == other.most
+            && self.is_point == other.is_point
     }
 
     fn try_copy(&self, _alloc: Global) -> Result<Numbered, AllocError> {
@@ -64,6 +66,7 @@ pub(crate) fn ranges_of(alloc: Global, rows: &[Row]) -> Result<Vec<Ranged<Number
                 end: *end,
                 number: *number,
                 most: u32::MAX,
+                is_point: true,
             },
         })?;
     }

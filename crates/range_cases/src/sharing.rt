@@ -18,6 +18,7 @@ fn numbered(index: u32, most: u32) -> Numbered {
         end: 1,
         number: index.wrapping_add(1),
         most,
+        is_point: true,
     }
 }
 
