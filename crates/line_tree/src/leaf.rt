@@ -166,11 +166,18 @@ impl Leaf {
         requires { pos ≤ length self.now }
         ensures { result ≡ count_breaks (take pos self.now) }
     {
+        let chunks = self.chunks.as_slice();
         let start = self.len - self.last.len() as u32;
         if pos < start {
-            return breaks_to(self.chunks.as_slice(), pos);
+            return breaks_to(chunks, pos);
         }
-        self.breaks - breaks_in(&self.last.as_slice()[(pos - start) as usize..])
+        // The breaks on the shorter side are counted.
+        let (before, after) = self.last.as_slice().split_at((pos - start) as usize);
+        if before.len() <= after.len() {
+            breaks_of(chunks) + breaks_in(before)
+        } else {
+            self.breaks - breaks_in(after)
+        }
     }
 
     /// The place of the break after so many others.
