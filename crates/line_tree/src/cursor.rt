@@ -1,4 +1,4 @@
-ghost use Rattle.std.specs.Prelude.{◌≡◌, ◌++◌, ◌+◌, ◌^◌, ◌≤◌, ◌<◌, length, take, drop, IfOk, OnOk};
+ghost use Rattle.std.specs.Prelude.{◌≡◌, ◌++◌, ◌+◌, ◌^◌, ◌≤◌, ◌<◌, length, take, drop, IfOk, OnOk, string_bytes, encode_utf8_all};
 
 use crate::builder::TextBuilder;
 use crate::text::Text;
@@ -93,6 +93,17 @@ impl<'a> TextCursor<'a> {
         let mut builder = TextBuilder::new(self.text.alloc());
         self.copy_to(count, &mut builder)?;
         builder.finish()
+    }
+
+    /// The next characters in UTF-8, with LF between lines. `Err`: out of memory.
+    pub fn next_string(&mut self, count: u32) -> Result<String, AllocError>
+        requires { count ≤ length self.old }
+        ensures string { IfOk result (λ s. string_bytes s ≡ encode_utf8_all (take count self.old)) }
+        ensures left { OnOk result (self.new ≡ drop count self.old) }
+    {
+        let string = self.text.string_at(self.pos, count)?;
+        self.pos += count;
+        Ok(string)
     }
 
     /// Puts the next characters into a text that is made. `Err`: out of memory.

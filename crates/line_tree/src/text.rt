@@ -346,15 +346,25 @@ impl Text {
     pub fn text(&self) -> Result<String, AllocError>
         ensures { IfOk result (λ s. string_bytes s ≡ encode_utf8_all self.now.characters) }
     {
-        let len = self.len();
-        let mut text = String::with_capacity(self.alloc(), len as usize)?;
-        let mut pos = 0;
-        while pos < len {
-            let run = self.run_at(pos);
-            push_characters(&mut text, run)?;
-            pos += run.len() as u32;
+        self.string_at(0, self.len())
+    }
+
+    /// So many characters from a place on, in UTF-8, with LF between lines.
+    pub(crate) fn string_at(&self, from: u32, count: u32) -> Result<String, AllocError>
+        requires { from + count ≤ length self.now.characters }
+        ensures { IfOk result (λ s. string_bytes s ≡ encode_utf8_all (take count (drop from self.now.characters))) }
+    {
+        // The proof takes from this line that the length of the text fits u32.
+        let _fits = self.len();
+        let mut string = String::with_capacity(self.alloc(), count as usize)?;
+        let mut taken = 0;
+        while taken < count {
+            let run = self.run_at(from + taken);
+            let now = run.len().min((count - taken) as usize);
+            push_characters(&mut string, &run[..now])?;
+            taken += now as u32;
         }
-        Ok(text)
+        Ok(string)
     }
 
     /// Whether both have the same characters (Text.eq).

@@ -330,7 +330,7 @@ fn push_some(
     push_clusters(alloc, filling, block, text.as_str(), at - block.from)
 }
 
-/// The characters from one place to another, as a text of their own.
+/// The characters from one place to another, in UTF-8.
 fn slice_text(text: &Text, from: u32, to: u32) -> Result<String, AllocError>
     requires order { from ≤ to }
     requires within { to ≤ length text.now.characters }
@@ -338,9 +338,7 @@ fn slice_text(text: &Text, from: u32, to: u32) -> Result<String, AllocError>
 {
     let mut cursor = TextCursor::new(text);
     cursor.skip(from);
-    let part = cursor.next_text(to - from)?;
-    let text = part.text()?;
-    Ok(text)
+    cursor.next_string(to - from)
 }
 
 /// Puts the clusters of the text, of which the first stands at the place `base` of the block.

@@ -165,3 +165,35 @@ fn cursors_give_texts(rt: HostRuntime) -> Result<(), Fail> {
     assert!(rt; next_are(rt.alloc(), 1, 4, &['b', '\n', 'c', 'd'])?);
     Ok(())
 }
+
+/// After so many characters of a text the next ones as a string, or as many as are left.
+fn string_after(given: &Text, skipped: u32, count: u32) -> Result<String, AllocError> {
+    let mut cursor = TextCursor::new(given);
+    let len = cursor.len();
+    cursor.skip(skipped.min(len));
+    let left = cursor.len();
+    cursor.next_string(count.min(left))
+}
+
+fn next_read(alloc: Global, skipped: u32, count: u32, want: &str) -> Result<bool, AllocError> {
+    let given = text(alloc, &['a', 'é', '\n', '漢', '😀'])?;
+    let string = string_after(&given, skipped, count)?;
+    Ok(string.as_str() == want)
+}
+
+/// Whether the characters of several leaves are read at once, from the midst of one to that of another.
+fn leaves_are_read(alloc: Global) -> Result<bool, AllocError> {
+    let given = text(alloc, &['漢', '\n'].repeat(alloc, 200)?)?;
+    let string = string_after(&given, 21, 300)?;
+    let want = "\n漢".repeat(alloc, 150)?;
+    Ok(string.as_str() == want.as_str())
+}
+
+#[test]
+fn cursors_give_strings(rt: HostRuntime) -> Result<(), Fail> {
+    assert!(rt; next_read(rt.alloc(), 0, 5, "aé\n漢😀")?);
+    assert!(rt; next_read(rt.alloc(), 1, 3, "é\n漢")?);
+    assert!(rt; next_read(rt.alloc(), 5, 0, "")?);
+    assert!(rt; leaves_are_read(rt.alloc())?);
+    Ok(())
+}
