@@ -6,7 +6,7 @@ use Rattle.std.specs.Prelude.{nat_lt, ◌==◌, slice_get}
 use Rattle.stable_order.specs.StableSort.{stable_sort}
 use Rattle.stable_order.proofs.StableSort.{NoneBelow, Rises, Rises-stable_sort, length-stable_sort, stable_sort-append, stable_sort-risen}
 use Rattle.range_set.specs.Rules.{RangeRules}
-use Rattle.range_set.specs.Order.{before, first_fault}
+use Rattle.range_set.specs.Order.{AllForward, before, first_fault}
 use Rattle.range_set.specs.Ranking.{before-order}
 use Rattle.range_set.specs.Updating.{updated}
 use Rattle.range_set.specs.PrivateChunks.{AreGroups, Ascend, BeginBy, first_start, flat, shift, spread}
@@ -17,7 +17,7 @@ use Rattle.range_set.specs.declared.group.PlacedGroup.{PlacedGroup}
 use Rattle.range_set.proofs.Chunks.{ascend-prefix, begin_by-next, flat-append}
 use Rattle.range_set.proofs.Groups.{are_spread, flat-spread, flat_forward}
 use Rattle.range_set.proofs.RangeOrder.{forward-append, forward-no_fault, no_fault_from, rises-no_fault}
-use Rattle.range_set.proofs.Parts.{HaveParts, have_parts}
+use Rattle.range_set.proofs.ThreeParts.{have_parts}
 use Rattle.range_set.proofs.Under.{any_both, rises_across, rises_ascend, rises_left, rises_right}
 use Rattle.range_set.proofs.Updates.{BeforeEach, Below, EachBefore, below_append, none_after, sort-swapped}
 
@@ -137,31 +137,25 @@ module _ {T : Type 0} (rules : RangeRules T) where
   length_updated : (ms add : List (Ranged T)) → length (updated rules (λ _. true) ms add) ≡ length ms + length add
   length_updated ms add = length-stable_sort (before rules) (filter (λ _. true) ms ++ add) ∙ (ap (λ zs. length (zs ++ add)) (filter_all ms) ∙ length-append ms add)
 
-  -- what such an update gives of three parts of groups
-  record AddParts (gs xs ys zs : List (PlacedGroup T)) (add : List (Ranged T)) : Type 0 where
-    pub goes : updated rules (λ _. true) (flat (spread gs)) add ≡ flat (spread xs) ++ (updated rules (λ _. true) (flat (spread ys)) add ++ flat (spread zs))
-    pub order : Ascend 0 (flat (spread xs) ++ updated rules (λ _. true) (flat (spread ys)) add)
-    pub none : first_fault rules (flat (spread xs) ++ (updated rules (λ _. true) (flat (spread ys)) add ++ flat (spread zs))) ≡ None
-    pub count : length (updated rules (λ _. true) (flat (spread ys)) add) ≡ length (flat (spread ys)) + length add
+  -- what such an update gives of ranges in three parts
+  pub record AddParts (rs xs ys zs add : List (Ranged T)) : Type 0 where
+    pub goes : updated rules (λ _. true) rs add ≡ xs ++ (updated rules (λ _. true) ys add ++ zs)
+    pub order : Ascend 0 (xs ++ updated rules (λ _. true) ys add)
+    pub none : first_fault rules (xs ++ (updated rules (λ _. true) ys add ++ zs)) ≡ None
+    pub count : length (updated rules (λ _. true) ys add) ≡ length ys + length add
 
-  add_parts : (gs xs ys zs : List (PlacedGroup T)) (add : List (Ranged T)) → HaveParts rules gs xs ys zs → first_fault rules add ≡ None → first_fault rules (updated rules (λ _. true) (flat (spread ys)) add) ≡ None
-      → BeginUnder (first_start add) (flat (spread xs)) → BeginPast (last_start add) (flat (spread zs)) → AddParts gs xs ys zs add
-  add_parts gs xs ys zs add h k n u p =
-      let x = flat (spread xs) in
-      let y = flat (spread ys) in
-      let z = flat (spread zs) in
+  pub add_parts : (rs xs ys zs add : List (Ranged T)) → rs ≡ xs ++ (ys ++ zs) → Rises (before rules) (xs ++ (ys ++ zs)) → AllForward xs → AllForward zs → first_fault rules add ≡ None
+      → first_fault rules (updated rules (λ _. true) ys add) ≡ None → BeginUnder (first_start add) xs → BeginPast (last_start add) zs → AddParts rs xs ys zs add
+  add_parts rs xs ys zs add is h first last k n u p =
       let less = before rules in
-      let all : Ranged T → Bool = λ _. true in
-      let m = updated rules (λ _. true) y add in
-      let first = flat_forward rules (spread xs) (are_spread rules xs h.first) in
-      let last = flat_forward rules (spread zs) (are_spread rules zs h.third) in
-      let goes = ap (λ rs. updated rules (λ _. true) rs add) h.is ∙ updated_between x y z add h.rises (rises-no_fault rules add k) u p in
-      let rises = subst (Rises less) goes (Rises-stable_sort less (before-order rules) (filter (λ _. true) (flat (spread gs)) ++ add)) in
+      let m = updated rules (λ _. true) ys add in
+      let goes = ap (λ qs. updated rules (λ _. true) qs add) is ∙ updated_between xs ys zs add h (rises-no_fault rules add k) u p in
+      let rises = subst (Rises less) goes (Rises-stable_sort less (before-order rules) (filter (λ _. true) rs ++ add)) in
       record {
         goes = goes;
-        order = ascend-prefix 0 (x ++ m) z (rises_ascend rules ((x ++ m) ++ z) (subst (Rises less) (sym (append_assoc x m z)) rises));
-        none = no_fault_from rules 0 None (x ++ (m ++ z)) rises tt (forward-append x (m ++ z) first (forward-append m z (forward-no_fault rules 0 None m n) last));
-        count = length_updated y add;
+        order = ascend-prefix 0 (xs ++ m) zs (rises_ascend rules ((xs ++ m) ++ zs) (subst (Rises less) (sym (append_assoc xs m zs)) rises));
+        none = no_fault_from rules 0 None (xs ++ (m ++ zs)) rises tt (forward-append xs (m ++ zs) first (forward-append m zs (forward-no_fault rules 0 None m n) last));
+        count = length_updated ys add;
       }
 
   -- groups of which the first are shared, and those after them opened, stand in order
@@ -187,7 +181,9 @@ module _ {T : Type 0} (rules : RangeRules T) where
       let middle = updated rules (λ _. true) y add in
       let parts = have_parts rules gs s.taken o.taken left (s.is ∙ ap (λ hs. s.taken ++ hs) o.is) h n in
       let is : flat made ≡ middle = e ∙ ap (λ rs. updated rules (λ _. true) rs add) o.ranges in
-      let added = add_parts gs s.taken o.taken left add parts k (ap (first_fault rules) (sym is) ∙ m)
+      let taken_forward = flat_forward rules (spread s.taken) (are_spread rules s.taken parts.first) in
+      let left_forward = flat_forward rules (spread left) (are_spread rules left parts.third) in
+      let added = add_parts (flat (spread gs)) x y z add parts.is parts.rises taken_forward left_forward k (ap (first_fault rules) (sym is) ∙ m)
       (subst (λ place. BeginUnder place x) (sym (first_of add first f)) s.before)
       (subst (λ place. BeginPast place z) (sym (last_of add last l)) o.after) in
       let kept : flat shared ≡ x = ap flat s.chunks in

@@ -1,20 +1,15 @@
 -- Chunks and builders of them, seen as lists of ranges.
 use Rattle.std.proofs.Common.{◌≡◌, ℕ, zero, suc, ◌+◌, ◌-◌, ◌^◌, ◌<◌, ◌≤◌, max, Bool, true, false, ◌&&◌, ◌||◌, List, [], ◌∷◌, ◌++◌, length, get_or, drop, map, refl, sym, ◌∙◌, ap, subst, arith, add-one, append_assoc}
-use Rattle.std.proofs.Math.Bool.{or-false}
-use Rattle.std.proofs.lemmas.List.{append-nil, map-append, length_push}
-use Rattle.std.proofs.lemmas.List.Folds.{list_any-append}
+use Rattle.std.proofs.lemmas.List.{append-nil}
 use Rattle.std.proofs.lemmas.Bool.Decides.{nat_tests}
 use Rattle.std.specs.Prelude.{nat_lt, ◌==◌, int_lt}
-use Rattle.std.specs.List.{list_any}
 use Rattle.range_set.specs.Rules.{RangeRules}
 use Rattle.range_set.specs.Order.{AllForward}
 use Rattle.range_set.specs.Mapping.{is_turned}
-use Rattle.range_set.specs.Points.{stands}
-use Rattle.range_set.specs.PrivateChunks.{AreChunks, Ascend, BeginBy, EndBy, Fit, IsChunk, first_start, flat, greatest_end, shift}
+use Rattle.range_set.specs.PrivateChunks.{AreChunks, Ascend, BeginBy, EndBy, Fit, IsChunk, flat, greatest_end, shift}
 use Rattle.range_set.specs.declared.ranged.Ranged.{Ranged}
 use Rattle.range_set.specs.declared.chunk.Placed.{Placed}
 use Rattle.range_set.specs.declared.chunk.Chunk.{Chunk}
-use Rattle.range_set.proofs.RangeOrder.{forward-append}
 
 pub not_less : (a b : ℕ) → nat_lt a b ≡ false → b ≤ a
 not_less a b h = grind (arith, nat_tests)
@@ -67,10 +62,6 @@ module _ {T : Type 0} where
   greatest_shifted start (r ∷ []) some = omega arith
   greatest_shifted start (r ∷ q ∷ rs) some = let e = greatest_shifted start (q ∷ rs) (omega arith) in omega (arith, e)
 
-  first-push : (rs : List (Ranged T)) (r : Ranged T) → first_start rs ≡ 0 → (rs ≡ [] → r.from ≡ 0) → first_start (rs ++ r ∷ []) ≡ 0
-  first-push [] r h k = k refl
-  first-push (q ∷ rs) r h k = h
-
   pub end_by_greatest : (rs : List (Ranged T)) (n : ℕ) → greatest_end rs ≤ n → EndBy n rs
   end_by_greatest [] n h = tt
   end_by_greatest (r ∷ rs) n h = (omega (arith, h), end_by_greatest rs n (omega (arith, h)))
@@ -89,15 +80,6 @@ module _ {T : Type 0} where
   pub forward_shifted : (start : ℕ) (rs : List (Ranged T)) → AllForward rs → AllForward (map (shift start) rs)
   forward_shifted start [] h = tt
   forward_shifted start (r ∷ rs) h = (shift_forward r.to r.from start h.0, forward_shifted start rs h.1)
-
-  pub begin_by_append : (n : ℕ) (xs ys : List (Ranged T)) → BeginBy n (xs ++ ys) → BeginBy n ys
-  begin_by_append n [] ys h = h
-  begin_by_append n (x ∷ xs) ys h = begin_by_append n xs ys h.1
-
-  -- an open chunk begins where its first range does
-  pub begins_by : (n start : ℕ) (rs : List (Ranged T)) → (rs ≡ [] → ⊥) → first_start rs ≡ 0 → BeginBy n (map (shift start) rs) → start ≤ n
-  begins_by n start [] some h b = absurd (some refl)
-  begins_by n start (r ∷ rs) some h b = omega (arith, h, b.0)
 
   pub ascend-begin : (n : ℕ) (xs : List (Ranged T)) (r : Ranged T) (rest : List (Ranged T)) → Ascend n (xs ++ r ∷ rest) → n ≤ r.from
   ascend-begin n [] r rest h = h.0
@@ -133,35 +115,12 @@ module _ {T : Type 0} (rules : RangeRules T) where
       same : (a b : ℕ) → start ≤ a → start ≤ b → (a - start == b - start) ≡ (a == b)
       same a b l m = grind (arith, nat_tests)
 
-  pub put_chunk : (start : ℕ) (before after : Chunk T) (r : Ranged T) → IsChunk rules start before → length before.ranges.items < 128 → start ≤ r.from → r.from ≤ r.to → r.to < 2 ^ 32
-      → (before.ranges.items ≡ [] → r.from ≡ start) → after.ranges.items ≡ before.ranges.items ++ counted_from start r ∷ []
-      → after.reach ≡ max before.reach (r.to - start) → after.is_turned ≡ (before.is_turned || is_turned rules r) → after.has_point ≡ (before.has_point || stands rules r) → IsChunk rules start after
-  put_chunk start before after r h room l f t first items reach turned points =
-      let x : Ranged T = counted_from start r in
-      record {
-        few = rw items (omega (arith, length_push before.ranges.items x));
-        first = rw items (first-push before.ranges.items x h.first (λ e. let k = first e in omega (arith, k)));
-        forward = rw items (forward-append before.ranges.items (x ∷ []) h.forward (is_not_less (r.to - start) (r.from - start) (omega arith), tt));
-        reach = reach ∙ (ap (λ n. max n (r.to - start)) h.reach ∙ (sym (greatest-push before.ranges.items x) ∙ ap greatest_end (sym items)));
-        turned = turned ∙ (ap (λ b. b || is_turned rules r) h.turned
-            ∙ (ap (λ b. list_any (is_turned rules) before.ranges.items || b) (sym (turned-counted start r l (omega arith)) ∙ sym (or-false (is_turned rules x)))
-            ∙ (sym (list_any-append (is_turned rules) before.ranges.items (x ∷ [])) ∙ ap (list_any (is_turned rules)) (sym items))));
-        points = points ∙ (ap (λ b. b || stands rules r) h.points
-            ∙ (ap (λ b. list_any (stands rules) before.ranges.items || b) (sym (or-false (stands rules r)))
-            ∙ (sym (list_any-append (stands rules) before.ranges.items (x ∷ [])) ∙ ap (list_any (stands rules)) (sym items))));
-        fits = let k = h.fits in omega (arith, reach);
-      }
-
   pub shift_counted : (start : ℕ) (r : Ranged T) → start ≤ r.from → start ≤ r.to → shift start (counted_from start r) ≡ r
   shift_counted start r l m =
       let f : r.from - start + start ≡ r.from = omega arith in
       let t : r.to - start + start ≡ r.to = omega arith in
       ap (λ n. let q : Ranged T = record { from = n; to = r.to - start + start; value = r.value } in q) f
       ∙ ap (λ n. let q : Ranged T = record { from = r.from; to = n; value = r.value } in q) t
-
-  pub put_ranges : (start : ℕ) (before after : List (Ranged T)) (r : Ranged T) → start ≤ r.from → start ≤ r.to → after ≡ before ++ counted_from start r ∷ [] → map (shift start) after ≡ map (shift start) before ++ r ∷ []
-  put_ranges start before after r l m e =
-      ap (map (shift start)) e ∙ (map-append (shift start) before (counted_from start r ∷ []) ∙ ap (λ q. map (shift start) before ++ q ∷ []) (shift_counted start r l m))
 
   pub AreChunks-push : (ps : List (Placed T)) (p : Placed T) → AreChunks rules ps → IsChunk rules p.start p.chunk.value → 1 ≤ length p.chunk.value.ranges.items → AreChunks rules (ps ++ p ∷ [])
   AreChunks-push [] p h k some = ((k, some), tt)
@@ -180,13 +139,6 @@ module _ {T : Type 0} (rules : RangeRules T) where
   pub fit_flat : (ps : List (Placed T)) → AreChunks rules ps → Fit (flat ps)
   fit_flat [] h = tt
   fit_flat (p ∷ ps) h = Fit-append (map (shift p.start) p.chunk.value.ranges.items) (flat ps) (fit_chunk p.start p.chunk.value h.0.0) (fit_flat ps h.1)
-
-  -- one more chunk after those of a builder, of which none grows
-  pub share_built : (done ended after : List (Placed T)) (start at : ℕ) (before none : List (Ranged T)) (p : Placed T) → flat ended ≡ flat done ++ map (shift start) before → none ≡ []
-      → after ≡ ended ++ p ∷ [] → flat after ++ map (shift at) none ≡ flat done ++ map (shift start) before ++ map (shift p.start) p.chunk.value.ranges.items
-  share_built done ended after start at before none p e n a =
-      ap (λ rs. flat after ++ map (shift at) rs) n
-      ∙ (append-nil (flat after) ∙ (ap flat a ∙ (flat-push ended p ∙ ap (λ rs. rs ++ map (shift p.start) p.chunk.value.ranges.items) e)))
 
   pub length_shifted : (start : ℕ) (rs : List (Ranged T)) → length (map (shift start) rs) ≡ length rs
   length_shifted start [] = refl

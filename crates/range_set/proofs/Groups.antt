@@ -1,13 +1,12 @@
 -- Groups of chunks, and builders of them, seen as lists of chunks and of ranges.
 use Rattle.std.proofs.Common.{◌≡◌, ℕ, zero, suc, ◌+◌, ◌-◌, ◌^◌, ◌<◌, ◌≤◌, max, ◌||◌, List, [], ◌∷◌, ◌++◌, length, get_or, take, map, refl, sym, ◌∙◌, ap, subst, arith, append_assoc}
 use Rattle.std.proofs.lemmas.List.{append-nil, map-append, length-append, take_more}
-use Rattle.std.proofs.lemmas.List.Folds.{list_any-append}
 use Rattle.std.specs.List.{list_any}
 use Rattle.range_set.specs.Rules.{RangeRules}
 use Rattle.range_set.specs.Order.{AllForward}
 use Rattle.range_set.specs.Mapping.{is_turned}
 use Rattle.range_set.specs.Points.{stands}
-use Rattle.range_set.specs.PrivateChunks.{AreChunks, AreGroups, Ascend, BeginBy, EndBy, IsChunk, IsGroup, IsNextChunk, first_start, flat, greatest_end, move, shift, spread}
+use Rattle.range_set.specs.PrivateChunks.{AreChunks, AreGroups, Ascend, EndBy, IsChunk, IsGroup, IsNextChunk, first_start, flat, greatest_end, move, shift, spread}
 use Rattle.range_set.specs.PrivatePages.{PlacesFirst}
 use Rattle.std.specs.declared.alloc.Global.{Global}
 use Rattle.std.specs.declared.rc.Rc.{Rc}
@@ -16,7 +15,7 @@ use Rattle.range_set.specs.declared.chunk.Placed.{Placed}
 use Rattle.range_set.specs.declared.chunk.Chunk.{Chunk}
 use Rattle.range_set.specs.declared.group.Group.{Group}
 use Rattle.range_set.specs.declared.group.PlacedGroup.{PlacedGroup}
-use Rattle.range_set.proofs.Chunks.{AreChunks-push, begin_by-next, chunk-at, end_by_greatest, fit_chunk, flat-append, flat-push, forward_shifted, greatest_shifted, length_shifted, turned-shifted}
+use Rattle.range_set.proofs.Chunks.{chunk-at, end_by_greatest, fit_chunk, flat-append, flat-push, forward_shifted, greatest_shifted, length_shifted, turned-shifted}
 use Rattle.range_set.proofs.RangeOrder.{forward-append}
 
 module _ {T : Type 0} where
@@ -167,10 +166,6 @@ module _ {T : Type 0} (rules : RangeRules T) where
   flat_some [] h some = absurd (omega arith)
   flat_some (p ∷ ps) h some = some_flat p ps h
 
-  flat_none : (ps : List (Placed T)) → AreChunks rules ps → flat ps ≡ [] → ps ≡ []
-  flat_none [] h e = refl
-  flat_none (p ∷ ps) h e = absurd (let k = some_flat p ps h in let l = ap length e in omega (arith, k, l))
-
   pub AreGroups-push : (gs : List (PlacedGroup T)) (g : PlacedGroup T) → AreGroups rules gs → IsGroup rules g.start g.group.value → 1 ≤ length (flat g.group.value.chunks.items) → AreGroups rules (gs ++ g ∷ [])
   AreGroups-push [] g h k some = ((k, some), tt)
   AreGroups-push (q ∷ gs) g h k some = (h.0, AreGroups-push gs g h.1 k some)
@@ -192,80 +187,8 @@ module _ {T : Type 0} (rules : RangeRules T) where
   abbrev pub counted_chunk : ℕ → Placed T → Placed T
   counted_chunk start p = record { start = p.start - start; chunk = p.chunk }
 
-  pub put_group : (start : ℕ) (before after : Group T) (p : Placed T) → IsGroup rules start before → IsChunk rules p.start p.chunk.value → 1 ≤ length p.chunk.value.ranges.items → length before.chunks.items < 64 → start ≤ p.start
-      → (before.chunks.items ≡ [] → p.start ≡ start) → after.chunks.items ≡ before.chunks.items ++ counted_chunk start p ∷ [] → after.count ≡ before.count + length p.chunk.value.ranges.items
-      → after.reach ≡ max before.reach (p.start - start + p.chunk.value.reach) → after.is_turned ≡ (before.is_turned || p.chunk.value.is_turned) → after.has_point ≡ (before.has_point || p.chunk.value.has_point) → IsGroup rules start after
-  put_group start before after p h chunk some room l first items count reach turned points =
-      let q : Placed T = counted_chunk start p in
-      let old = flat before.chunks.items in
-      let new = map (shift q.start) p.chunk.value.ranges.items in
-      let is : flat after.chunks.items ≡ old ++ new = ap flat items ∙ flat-push before.chunks.items q in
-      let greatest = ap greatest_end is ∙ greatest-append old new in
-      let end = greatest_shifted q.start p.chunk.value.ranges.items some in
-      let long = ap length is ∙ length-append old new in
-      let len = length_shifted rules q.start p.chunk.value.ranges.items in
-      record {
-        few = rw items (let n = length-append before.chunks.items (q ∷ []) in omega (arith, n, room));
-        chunks = rw items (AreChunks-push rules before.chunks.items q h.chunks (chunk_placed p.start q.start p.chunk.value chunk (let f = chunk.fits in omega (arith, f))) some);
-        first = ap first_start is ∙ first-append old new (λ e.
-            let k = first (flat_none before.chunks.items h.chunks e) in
-            let a = first_shifted q.start p.chunk.value.ranges.items some in
-            let b = chunk.first in
-            omega (arith, k, a, b)) h.first;
-        count = let c = h.count in omega (arith, c, count, long, len);
-        reach = let a = h.reach in let b = chunk.reach in omega (arith, a, b, reach, greatest, end);
-        turned = turned ∙ (ap (λ b. b || p.chunk.value.is_turned) h.turned
-            ∙ (ap (λ b. list_any (is_turned rules) old || b) (chunk.turned ∙ sym (turned_any q.start p.chunk.value.ranges.items))
-            ∙ (sym (list_any-append (is_turned rules) old new) ∙ ap (list_any (is_turned rules)) (sym is))));
-        points = points ∙ (ap (λ b. b || p.chunk.value.has_point) h.points
-            ∙ (ap (λ b. list_any (stands rules) old || b) (chunk.points ∙ sym (points_any q.start p.chunk.value.ranges.items))
-            ∙ (sym (list_any-append (stands rules) old new) ∙ ap (list_any (stands rules)) (sym is))));
-        fits = let f = h.fits in let k = chunk.fits in omega (arith, f, k, reach, l);
-      }
-
-  move_counted : (start : ℕ) (p : Placed T) → start ≤ p.start → move start (counted_chunk start p) ≡ p
-  move_counted start p l =
-      let e : p.start - start + start ≡ p.start = omega (arith, l) in
-      ap (λ n. let q : Placed T = record { start = n; chunk = p.chunk } in q) e
-
-  pub put_chunks : (start : ℕ) (before after : List (Placed T)) (p : Placed T) → start ≤ p.start → after ≡ before ++ counted_chunk start p ∷ [] → map (move start) after ≡ map (move start) before ++ p ∷ []
-  put_chunks start before after p l e =
-      ap (map (move start)) e ∙ (map-append (move start) before (counted_chunk start p ∷ []) ∙ ap (λ q. map (move start) before ++ q ∷ []) (move_counted start p l))
-
-  -- one more group after those of a builder, of which none grows
-  pub share_grouped : (done ended after : List (PlacedGroup T)) (start at : ℕ) (before none : List (Placed T)) (g : PlacedGroup T) → spread ended ≡ spread done ++ map (move start) before → none ≡ []
-      → after ≡ ended ++ g ∷ [] → spread after ++ map (move at) none ≡ spread done ++ map (move start) before ++ map (move g.start) g.group.value.chunks.items
-  share_grouped done ended after start at before none g e n a =
-      ap (λ rs. spread after ++ map (move at) rs) n
-      ∙ (append-nil (spread after) ∙ (ap spread a ∙ (spread-push ended g ∙ ap (λ rs. rs ++ map (move g.start) g.group.value.chunks.items) e)))
-
   pub length_moved : (by : ℕ) (ps : List (Placed T)) → length (flat (map (move by) ps)) ≡ length (flat ps)
   length_moved by ps = ap length (flat-moved by ps) ∙ length_shifted rules by (flat ps)
-
-  -- a chunk after others in order begins where they do or after
-  pub begin_by_chunk : (here : List (Placed T)) (p : Placed T) (rest : List (Placed T)) → AreChunks rules (p ∷ rest) → Ascend 0 (flat (here ++ p ∷ rest)) → BeginBy p.start (flat here)
-  begin_by_chunk here p rest h asc = at p.chunk.value.ranges.items h.0.1 h.0.0.first (subst (Ascend 0) (flat-append here (p ∷ rest)) asc)
-    where
-      at : (rs : List (Ranged T)) → 1 ≤ length rs → first_start rs ≡ 0 → Ascend 0 (flat here ++ (map (shift p.start) rs ++ flat rest)) → BeginBy p.start (flat here)
-      at [] some f a = absurd (omega arith)
-      at (r ∷ rs) some f a =
-          let e : r.from + p.start ≡ p.start = omega (arith, f) in
-          subst (λ n. BeginBy n (flat here)) e (begin_by-next 0 (flat here) (shift p.start r) (map (shift p.start) rs ++ flat rest) a)
-
-  -- the ranges of the first groups, and of the next one
-  pub groups_room : (gs : List (PlacedGroup T)) (i : ℕ) (g : PlacedGroup T) → i < length gs → g ≡ get_or gs i g
-      → length (flat (spread (take i gs))) + length (flat g.group.value.chunks.items) ≤ length (flat (spread gs))
-  groups_room [] i g l e = absurd (omega arith)
-  groups_room (q ∷ gs) zero g l e =
-      let a = ap length (flat-spread q gs) ∙ length-append (map (shift q.start) (flat q.group.value.chunks.items)) (flat (spread gs)) in
-      let b = length_shifted rules q.start (flat q.group.value.chunks.items) in
-      let c = ap (λ (x : PlacedGroup T). length (flat x.group.value.chunks.items)) e in
-      omega (arith, a, b, c)
-  groups_room (q ∷ gs) (suc i) g l e =
-      let k = groups_room gs i g (omega arith) e in
-      let a = ap length (flat-spread q gs) ∙ length-append (map (shift q.start) (flat q.group.value.chunks.items)) (flat (spread gs)) in
-      let b = ap length (flat-spread q (take i gs)) ∙ length-append (map (shift q.start) (flat q.group.value.chunks.items)) (flat (spread (take i gs))) in
-      omega (arith, k, a, b)
 
   nothing : (ps : List (Placed T)) → length ps ≡ 0 → ps ≡ []
   nothing [] h = refl

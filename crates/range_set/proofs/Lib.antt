@@ -16,7 +16,7 @@ pub mod UpdateLoops
 pub mod ClearChunks
 pub mod Cost
 pub mod Walked
-pub mod Parts
+pub mod ThreeParts
 pub mod WalkedGroups
 pub mod CarriedPages
 pub mod Still
@@ -25,3 +25,4 @@ pub mod Same
 pub mod Adding
 pub mod SharedBefore
 pub mod Opened
+pub mod PartedChunks

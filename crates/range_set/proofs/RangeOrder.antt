@@ -142,6 +142,14 @@ pub forward-append : {T : Type 0} (xs ys : List (Ranged T)) → AllForward xs �
 forward-append [] ys h k = k
 forward-append (x ∷ xs) ys h k = (h.0, forward-append xs ys h.1 k)
 
+pub forward_left : {T : Type 0} (xs ys : List (Ranged T)) → AllForward (xs ++ ys) → AllForward xs
+forward_left [] ys h = tt
+forward_left (x ∷ xs) ys h = (h.0, forward_left xs ys h.1)
+
+pub forward_right : {T : Type 0} (xs ys : List (Ranged T)) → AllForward (xs ++ ys) → AllForward ys
+forward_right [] ys h = h
+forward_right (x ∷ xs) ys h = forward_right xs ys h.1
+
 pub forward_at : {T : Type 0} (rs : List (Ranged T)) (i : ℕ) (r : Ranged T) → i < length rs → r ≡ get_or rs i r → AllForward rs → nat_lt r.to r.from ≡ false
 forward_at [] i r l e h = absurd (omega arith)
 forward_at {T} (q ∷ rs) zero r l e h = ap (λ (x : Ranged T). nat_lt x.to x.from) e ∙ h.0

@@ -13,7 +13,7 @@ use Rattle.range_set.specs.Ranking.{before-order}
 use Rattle.range_set.specs.PrivateChunks.{Ascend}
 use Rattle.range_set.specs.PrivateUpdates.{IsBeyond, KeepsPart, StandBefore, TakesBefore}
 use Rattle.range_set.specs.declared.ranged.Ranged.{Ranged}
-use Rattle.range_set.proofs.RangeOrder.{forward-append, forward_sort, no_fault_from}
+use Rattle.range_set.proofs.RangeOrder.{forward-append, forward_left, forward_right, forward_sort, no_fault_from}
 use Rattle.range_set.proofs.Under.{any_both, any_left, none_right, rises_across, rises_ascend, rises_left, rises_right, through}
 
 or_left : (a b : Bool) → (a || b) ≡ false → a ≡ false
@@ -33,14 +33,6 @@ both_false false false e = (refl, refl)
 both_false false true e = cc
 both_false true false e = cc
 both_false true true e = cc
-
-forward_left : {T : Type 0} (xs ys : List (Ranged T)) → AllForward (xs ++ ys) → AllForward xs
-forward_left [] ys h = tt
-forward_left (x ∷ xs) ys h = (h.0, forward_left xs ys h.1)
-
-forward_right : {T : Type 0} (xs ys : List (Ranged T)) → AllForward (xs ++ ys) → AllForward ys
-forward_right [] ys h = h
-forward_right (x ∷ xs) ys h = forward_right xs ys h.1
 
 none-turned : {T : Type 0} (xs : List (Ranged T)) → AllForward xs → list_any (λ (r : Ranged T). nat_lt r.to r.from) xs ≡ false
 none-turned [] h = refl

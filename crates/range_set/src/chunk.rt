@@ -1,10 +1,9 @@
-ghost use Rattle.std.specs.Prelude.{IfOk, false, [], map, ◌++◌, ◌+◌, ◌∷◌, ◌≡◌, ◌≤◌, ◌<◌, ◌^◌, length};
+ghost use Rattle.std.specs.Prelude.{false, [], map, ◌≡◌, ◌≤◌, ◌<◌, length};
 ghost use Rattle.range_set.specs.Order.{AllForward};
 ghost use Rattle.range_set.specs.PrivateChunks.{Ascend, IsChunk, first_start, shift};
 
 use crate::range_value::RangeValue;
 use crate::ranged::Ranged;
-use std::alloc::{AllocError, Global};
 use std::rc::Rc;
 
 /// The greatest number of ranges of a chunk that is made: a quarter of what the count of mapped ranges allows. A change maps each
@@ -40,19 +39,6 @@ pub(crate) struct Placed<T> {
 }
 
 impl<T: RangeValue> Chunk<T> {
-    /// The chunk without ranges.
-    pub(crate) fn empty(alloc: Global) -> Chunk<T>
-        ensures ranges { result.ranges.items ≡ [] }
-        ensures chunk { IsChunk T.rules 0 result }
-    {
-        Chunk {
-            ranges: Vec::new(alloc),
-            reach: 0,
-            is_turned: false,
-            has_point: false,
-        }
-    }
-
     /// The chunk of ranges in order at the place `start`, where the first of them starts.
     pub(crate) fn of(start: u32, mut ranges: Vec<Ranged<T>>) -> Chunk<T>
         requires few { length ranges.items ≤ 128 }
@@ -78,31 +64,6 @@ impl<T: RangeValue> Chunk<T> {
             is_turned,
             has_point,
         }
-    }
-
-    /// Puts a range after the others of a chunk at the place `start`. `Err`: out of memory.
-    pub(crate) fn put(&mut self, start: u32, range: Ranged<T>) -> Result<(), AllocError>
-        requires chunk { IsChunk T.rules start self.old }
-        requires room { length self.old.ranges.items < 128 }
-        requires after { start ≤ range.from }
-        requires forward { range.from ≤ range.to }
-        requires first { self.old.ranges.items ≡ [] → range.from ≡ start }
-        ensures chunk { IfOk result (λ _. IsChunk T.rules start self.new) }
-        ensures ranges { IfOk result (λ _. map (shift start) self.new.ranges.items ≡ map (shift start) self.old.ranges.items ++ range ∷ []) }
-    {
-        let is_turned = range.is_turned();
-        let is_point = range.value.is_point();
-        let from = range.from - start;
-        let to = range.to - start;
-        self.ranges.push(Ranged {
-            from,
-            to,
-            value: range.value,
-        })?;
-        self.reach = self.reach.max(to);
-        self.is_turned = self.is_turned || is_turned;
-        self.has_point = self.has_point || is_point;
-        Ok(())
     }
 }
 

@@ -1,9 +1,8 @@
-ghost use Rattle.std.specs.Prelude.{IfOk, [], map, ◌++◌, ◌∷◌, ◌+◌, ◌≡◌, ◌≤◌, ◌<◌, ◌^◌, length};
-ghost use Rattle.range_set.specs.PrivateChunks.{AreChunks, Ascend, IsChunk, IsGroup, first_start, flat, move};
+ghost use Rattle.std.specs.Prelude.{map, ◌≡◌, ◌≤◌, ◌<◌, ◌^◌, length};
+ghost use Rattle.range_set.specs.PrivateChunks.{AreChunks, Ascend, IsGroup, first_start, flat, move};
 
 use crate::chunk::Placed;
 use crate::range_value::RangeValue;
-use std::alloc::{AllocError, Global};
 use std::rc::Rc;
 
 /// The greatest number of chunks of a group that contracts allow.
@@ -18,13 +17,17 @@ const MAX_FULL: usize = 32;
 /// How many chunks make a group full in a set of so many pages: as many as there are pages, from 16 to 32. A change shares the pages
 /// that it doesn't meet, the groups of those that it does, and the chunks of the groups that it does, one by one, so none of them
 /// should be many.
-pub(crate) fn full_among(pages: usize) -> usize {
+pub(crate) fn full_among(pages: usize) -> usize
+    ensures { (1 ≤ result) × (result ≤ 64) }
+{
     pages.max(MIN_FULL).min(MAX_FULL)
 }
 
 /// How many chunks make a group full in a set of so many chunks whose groups are made at once: one for each 1,024 chunks, from 16 to
 /// 32, so that changes don't part these groups.
-pub(crate) fn full_for(chunks: usize) -> usize {
+pub(crate) fn full_for(chunks: usize) -> usize
+    ensures { (1 ≤ result) × (result ≤ 64) }
+{
     (chunks / 1_024).max(MIN_FULL).min(MAX_FULL)
 }
 
@@ -61,20 +64,6 @@ pub(crate) struct PlacedGroup<T> {
 }
 
 impl<T: RangeValue> Group<T> {
-    /// The group without ranges.
-    pub(crate) fn empty(alloc: Global) -> Group<T>
-        ensures chunks { result.chunks.items ≡ [] }
-        ensures group { IsGroup T.rules 0 result }
-    {
-        Group {
-            chunks: Vec::new(alloc),
-            count: 0,
-            reach: 0,
-            is_turned: false,
-            has_point: false,
-        }
-    }
-
     /// The group of chunks in order at the place `start`, where the first of them stands.
     pub(crate) fn of(start: u32, mut chunks: Vec<Placed<T>>) -> Group<T>
         requires few { length chunks.items ≤ 64 }
@@ -104,33 +93,5 @@ impl<T: RangeValue> Group<T> {
             is_turned,
             has_point,
         }
-    }
-
-    /// Puts a chunk after the others of a group at the place `start`. `Err`: out of memory.
-    pub(crate) fn put(&mut self, start: u32, placed: Placed<T>) -> Result<(), AllocError>
-        requires group { IsGroup T.rules start self.old }
-        requires chunk { IsChunk T.rules placed.start placed.chunk.value }
-        requires some { 1 ≤ length placed.chunk.value.ranges.items }
-        requires room { length (flat self.old.chunks.items) + length placed.chunk.value.ranges.items < 2 ^ 64 }
-        requires few { length self.old.chunks.items < 64 }
-        requires after { start ≤ placed.start }
-        requires first { self.old.chunks.items ≡ [] → placed.start ≡ start }
-        ensures group { IfOk result (λ _. IsGroup T.rules start self.new) }
-        ensures chunks { IfOk result (λ _. map (move start) self.new.chunks.items ≡ map (move start) self.old.chunks.items ++ placed ∷ []) }
-    {
-        let from = placed.start - start;
-        let count = placed.chunk.ranges.len();
-        let reach = from + placed.chunk.reach;
-        let is_turned = placed.chunk.is_turned;
-        let has_point = placed.chunk.has_point;
-        self.chunks.push(Placed {
-            start: from,
-            chunk: placed.chunk,
-        })?;
-        self.count += count;
-        self.reach = self.reach.max(reach);
-        self.is_turned = self.is_turned || is_turned;
-        self.has_point = self.has_point || has_point;
-        Ok(())
     }
 }

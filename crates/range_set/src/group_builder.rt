@@ -1,28 +1,26 @@
-ghost use Rattle.std.specs.Prelude.{IfOk, IsTrue, false, [], ◌++◌, ◌∷◌, ◌+◌, ◌≡◌, ◌≤◌, ◌<◌, ◌^◌, length, map};
+ghost use Rattle.std.specs.Prelude.{IfOk, [], ◌++◌, ◌+◌, ◌≡◌, ◌≤◌, ◌<◌, ◌^◌, length, map};
 ghost use Rattle.change_desc.specs.Meeting.{BeginAfter, EndsAtOrAfter};
-ghost use Rattle.range_set.specs.PrivateChunks.{FitCarried, AreChunks, AreGroups, AreGroupsOf, AreShared, Ascend, BeginBy, IsChunk, IsGroup, flat, move, spread};
+ghost use Rattle.range_set.specs.PrivateChunks.{FitCarried, AreChunks, AreGroupsOf, AreShared, Ascend, IsGroup, flat, move, spread};
 ghost use Rattle.range_set.specs.PrivateBuilders.{IsGroupBuilder, grouped};
 ghost use Rattle.range_set.specs.PrivatePages.{IsPage, further};
 ghost use Rattle.range_set.specs.PrivateUpdates.{AreSharedBefore};
 
 use crate::chunk::Placed;
-use crate::group::{Group, MAX_CHUNKS, PlacedGroup, few_of, full_among, full_for};
+use crate::group::{Group, PlacedGroup, few_of, full_among, full_for};
 use crate::group_cursor::GroupCursor;
 use crate::group_list::GroupList;
 use crate::page::{Page, PlacedPage};
 use crate::page_builder::PageBuilder;
+use crate::parts::{part_len, trim};
 use crate::range_value::RangeValue;
 use change_desc::{ChangedRange, first_meets};
 use std::alloc::{AllocError, Global};
-use std::mem;
 use std::rc::Rc;
 
-/// Cuts chunks that come in order into groups: those that are done, and one that is growing, at the place `start`.
+/// Groups that come in order, to which more are put, and how many ranges they have.
 #[derive(Drop)]
 pub(crate) struct GroupBuilder<T: RangeValue> {
     pub(crate) done: PageBuilder<T>,
-    pub(crate) start: u32,
-    pub(crate) growing: Group<T>,
     pub(crate) len: usize,
     /// How many chunks make a group full. No contract speaks of it: it only decides where groups are cut.
     pub(crate) full: usize,
@@ -36,8 +34,6 @@ impl<T: RangeValue> GroupBuilder<T> {
     {
         Ok(GroupBuilder {
             done: PageBuilder::with_capacity(alloc, pages.saturating_add(1))?,
-            start: 0,
-            growing: Group::empty(alloc),
             len: 0,
             full: full_among(pages),
         })
@@ -50,14 +46,12 @@ impl<T: RangeValue> GroupBuilder<T> {
     {
         Ok(GroupBuilder {
             done: PageBuilder::with_capacity(alloc, 0)?,
-            start: 0,
-            growing: Group::empty(alloc),
             len: 0,
             full: full_for(chunks),
         })
     }
 
-    /// Puts chunks in order after the others. `Err`: out of memory.
+    /// Cuts chunks that come in order into groups, and puts these after the others. `Err`: out of memory.
     pub(crate) fn put_all(&mut self, mut chunks: Vec<Placed<T>>) -> Result<(), AllocError>
         requires builder { IsGroupBuilder T.rules self.old }
         requires chunks { AreChunks T.rules chunks.items }
@@ -66,84 +60,36 @@ impl<T: RangeValue> GroupBuilder<T> {
         ensures builder { IfOk result (λ _. IsGroupBuilder T.rules self.new) }
         ensures ranges { IfOk result (λ _. grouped self.new ≡ grouped self.old ++ chunks.items) }
     {
-        if self.takes_whole(chunks.len()) {
-            chunks.shrink_to_fit();
-            self.put_whole(chunks);
-            return Ok(());
+        let part = part_len(chunks.len(), self.full, few_of(self.full));
+        if part < chunks.len() {
+            let rest = chunks.split_off(part)?;
+            self.put_all(chunks)?;
+            return self.put_all(rest);
         }
-        let mut left = chunks.len();
-        for placed in chunks {
-            self.push(placed, left)?;
-            left -= 1;
-        }
-        Ok(())
+        self.put_group(chunks)
     }
 
-    /// Whether so many chunks become the growing group as they are: whether none is growing, and they are no more than make one full.
-    /// `push` would put just these into one group too.
-    fn takes_whole(&self, len: usize) -> bool
-        ensures growing { IsTrue result → self.now.growing.chunks.items ≡ [] }
-        ensures few { IsTrue result → len ≤ 64 }
-    {
-        self.growing.chunks.is_empty() && len <= self.full && len <= MAX_CHUNKS
-    }
-
-    /// Makes chunks in order the growing group, where none is growing. It keeps their list.
-    fn put_whole(&mut self, chunks: Vec<Placed<T>>)
+    /// Puts chunks in order after the others, as one group. It keeps their list. `Err`: out of memory.
+    fn put_group(&mut self, mut chunks: Vec<Placed<T>>) -> Result<(), AllocError>
         requires builder { IsGroupBuilder T.rules self.old }
-        requires growing { self.old.growing.chunks.items ≡ [] }
         requires few { length chunks.items ≤ 64 }
         requires chunks { AreChunks T.rules chunks.items }
         requires room { length (flat (grouped self.old)) + length (flat chunks.items) < 2 ^ 64 }
         requires order { Ascend 0 (flat chunks.items) }
-        ensures builder { IsGroupBuilder T.rules self.new }
-        ensures ranges { grouped self.new ≡ grouped self.old ++ chunks.items }
-    {
-        if let Some(first) = chunks.first() {
-            let start = first.start;
-            let group = Group::of(start, chunks);
-            self.len += group.count;
-            self.start = start;
-            self.growing = group;
-        }
-    }
-
-    /// Puts a chunk after the others, the first of `left` that are still to come of a run. `Err`: out of memory.
-    fn push(&mut self, placed: Placed<T>, left: usize) -> Result<(), AllocError>
-        requires builder { IsGroupBuilder T.rules self.old }
-        requires chunk { IsChunk T.rules placed.start placed.chunk.value }
-        requires some { 1 ≤ length placed.chunk.value.ranges.items }
-        requires room { length (flat (grouped self.old)) + length placed.chunk.value.ranges.items < 2 ^ 64 }
-        requires after { BeginBy placed.start (flat (grouped self.old)) }
         ensures builder { IfOk result (λ _. IsGroupBuilder T.rules self.new) }
-        ensures ranges { IfOk result (λ _. grouped self.new ≡ grouped self.old ++ placed ∷ []) }
+        ensures ranges { IfOk result (λ _. grouped self.new ≡ grouped self.old ++ chunks.items) }
     {
-        self.make_room(placed.start, left)?;
-        let more = self.full.saturating_sub(self.growing.chunks.len());
-        self.growing.chunks.reserve(more.min(left))?;
-        let count = placed.chunk.ranges.len();
-        self.growing.put(self.start, placed)?;
+        let Some(first) = chunks.first() else {
+            return Ok(());
+        };
+        let start = first.start;
+        let alloc = *chunks.allocator();
+        trim(&mut chunks);
+        let group = Group::of(start, chunks);
+        let count = group.count;
+        let group = Rc::new(alloc, group)?;
+        self.done.push(PlacedGroup { start, group })?;
         self.len += count;
-        Ok(())
-    }
-
-    /// Makes the growing group one that a chunk can be put into that begins at `from`, the first of `left` that are still to
-    /// come of a run. `Err`: out of memory.
-    fn make_room(&mut self, from: u32, left: usize) -> Result<(), AllocError>
-        requires builder { IsGroupBuilder T.rules self.old }
-        requires after { BeginBy from (flat (grouped self.old)) }
-        ensures builder { IfOk result (λ _. IsGroupBuilder T.rules self.new) }
-        ensures ranges { IfOk result (λ _. grouped self.new ≡ grouped self.old) }
-        ensures few { IfOk result (λ _. length self.new.growing.chunks.items < 64) }
-        ensures after { IfOk result (λ _. self.new.start ≤ from) }
-        ensures first { IfOk result (λ _. self.new.growing.chunks.items ≡ [] → from ≡ self.new.start) }
-    {
-        if is_full(self.growing.chunks.len(), left, self.full) {
-            seal(&mut self.done, self.start, &mut self.growing)?;
-            self.start = from;
-        } else if self.growing.chunks.is_empty() {
-            self.start = from;
-        }
         Ok(())
     }
 
@@ -156,21 +102,6 @@ impl<T: RangeValue> GroupBuilder<T> {
         ensures builder { IfOk result (λ _. IsGroupBuilder T.rules self.new) }
         ensures ranges { IfOk result (λ _. grouped self.new ≡ grouped self.old ++ map (move start) group.now.value.chunks.items) }
     {
-        seal(&mut self.done, self.start, &mut self.growing)?;
-        self.put_shared(start, group)
-    }
-
-    /// Puts a group after those that are done, where none is growing, at a place of its own, and shares it. `Err`: out of memory.
-    fn put_shared(&mut self, start: u32, group: &Rc<Group<T>>) -> Result<(), AllocError>
-        requires builder { IsGroupBuilder T.rules self.old }
-        requires growing { self.old.growing.chunks.items ≡ [] }
-        requires group { IsGroup T.rules start group.now.value }
-        requires some { 1 ≤ length (flat group.now.value.chunks.items) }
-        requires room { length (flat (grouped self.old)) + length (flat group.now.value.chunks.items) < 2 ^ 64 }
-        ensures builder { IfOk result (λ _. IsGroupBuilder T.rules self.new) }
-        ensures growing { IfOk result (λ _. self.new.growing ≡ self.old.growing) }
-        ensures ranges { IfOk result (λ _. grouped self.new ≡ grouped self.old ++ map (move start) group.now.value.chunks.items) }
-    {
         let count = group.count;
         self.done.push(PlacedGroup {
             start,
@@ -180,16 +111,13 @@ impl<T: RangeValue> GroupBuilder<T> {
         Ok(())
     }
 
-    /// Puts the groups of a page after those that are done, where none is growing, the page at a place of its own, and shares it.
-    /// `Err`: out of memory.
+    /// Puts the groups of a page after the others, the page at a place of its own, and shares it. `Err`: out of memory.
     fn put_page(&mut self, start: u32, page: &Rc<Page<T>>) -> Result<(), AllocError>
         requires builder { IsGroupBuilder T.rules self.old }
-        requires growing { self.old.growing.chunks.items ≡ [] }
         requires page { IsPage T.rules start page.now.value }
         requires some { 1 ≤ length (flat (spread page.now.value.groups.items)) }
         requires room { length (flat (grouped self.old)) + length (flat (spread page.now.value.groups.items)) < 2 ^ 64 }
         ensures builder { IfOk result (λ _. IsGroupBuilder T.rules self.new) }
-        ensures growing { IfOk result (λ _. self.new.growing ≡ self.old.growing) }
         ensures ranges { IfOk result (λ _. grouped self.new ≡ grouped self.old ++ spread (map (further start) page.now.value.groups.items)) }
     {
         let count = page.count;
@@ -218,22 +146,25 @@ impl<T: RangeValue> GroupBuilder<T> {
         ensures builder { IfOk result (λ _. IsGroupBuilder T.rules self.new) }
         ensures shared { IfOk result (λ rest. AreShared from to changed.now groups.entry rest (flat (grouped self.old)) (flat (grouped self.new))) }
     {
-        seal(&mut self.done, self.start, &mut self.growing)?;
         let mut rest = self.share_carried_pages(groups, from, to, changed)?;
         while let Some((start, group, others)) = rest.split_first() {
             let end = start + group.reach;
             if group.is_turned || first_meets(changed, from, end) {
                 return Ok(rest);
             }
-            self.put_shared(start - from + to, group)?;
-            rest = self.share_carried_pages(others, from, to, changed)?;
+            self.share(start - from + to, group)?;
+            rest = if others.begins_page() {
+                self.share_carried_pages(others, from, to, changed)?
+            } else {
+                others
+            };
         }
         Ok(rest)
     }
 
-    /// Shares the first groups as `share_carried` does, where none is growing, but as pages alone: from the place where a page begins up
-    /// to the first that becomes one with groups before it, that ends at or after the start of a replaced range, or in which an empty
-    /// range has an end side less than its start side. `Err`: out of memory.
+    /// Shares the first groups as `share_carried` does, but as pages alone: from the place where a page begins up to the first that
+    /// becomes one with groups before it, that ends at or after the start of a replaced range, or in which an empty range has an end
+    /// side less than its start side. `Err`: out of memory.
     fn share_carried_pages<'a>(
         &mut self,
         groups: GroupCursor<'a, T>,
@@ -242,14 +173,12 @@ impl<T: RangeValue> GroupBuilder<T> {
         changed: &[ChangedRange],
     ) -> Result<GroupCursor<'a, T>, AllocError>
         requires builder { IsGroupBuilder T.rules self.old }
-        requires growing { self.old.growing.chunks.items ≡ [] }
         requires ascend { Ascend from (flat (spread groups)) }
         requires fits { FitCarried from to changed.now groups }
         requires order { BeginAfter 0 changed.now }
         requires first { EndsAtOrAfter from changed.now }
         requires room { length (flat (grouped self.old)) + length (flat (spread groups)) < 2 ^ 64 }
         ensures builder { IfOk result (λ _. IsGroupBuilder T.rules self.new) }
-        ensures growing { IfOk result (λ _. self.new.growing.chunks.items ≡ []) }
         ensures shared { IfOk result (λ rest. AreShared from to changed.now groups.entry rest (flat (grouped self.old)) (flat (grouped self.new))) }
     {
         let mut rest = groups;
@@ -281,7 +210,6 @@ impl<T: RangeValue> GroupBuilder<T> {
         ensures builder { IfOk result (λ _. IsGroupBuilder T.rules self.new) }
         ensures shared { IfOk result (λ rest. AreSharedBefore place groups.entry rest (grouped self.old) (grouped self.new)) }
     {
-        seal(&mut self.done, self.start, &mut self.growing)?;
         let mut rest = groups;
         loop {
             if let Some((placed, others)) = rest.split_page() {
@@ -296,7 +224,7 @@ impl<T: RangeValue> GroupBuilder<T> {
                     if !others.begins_before(place) {
                         return Ok(rest);
                     }
-                    self.put_shared(start, group)?;
+                    self.share(start, group)?;
                     rest = others;
                 }
                 None => return Ok(rest),
@@ -312,7 +240,6 @@ impl<T: RangeValue> GroupBuilder<T> {
         ensures builder { IfOk result (λ _. IsGroupBuilder T.rules self.new) }
         ensures ranges { IfOk result (λ _. grouped self.new ≡ grouped self.old ++ spread groups.entry) }
     {
-        seal(&mut self.done, self.start, &mut self.growing)?;
         let mut rest = groups;
         loop {
             if let Some((placed, others)) = rest.split_page() {
@@ -324,7 +251,7 @@ impl<T: RangeValue> GroupBuilder<T> {
             }
             match rest.split_first() {
                 Some((start, group, others)) => {
-                    self.put_shared(start, group)?;
+                    self.share(start, group)?;
                     rest = others;
                 }
                 None => return Ok(()),
@@ -338,44 +265,6 @@ impl<T: RangeValue> GroupBuilder<T> {
         ensures groups { IfOk result (λ made. AreGroupsOf T.rules made.0 made.1) }
         ensures ranges { IfOk result (λ made. spread made.0 ≡ grouped self) }
     {
-        seal(&mut self.done, self.start, &mut self.growing)?;
         Ok((self.done.finish()?, self.len))
     }
-}
-
-/// Whether a group of `len` chunks grows no more, where `left` are still to come of its run: it is full, or has half of those that
-/// would make a full group and a small one.
-fn is_full(len: usize, left: usize, full: usize) -> bool
-    requires { len ≤ 64 }
-    ensures { result ≡ false → len < 64 }
-{
-    len >= MAX_CHUNKS
-        || len >= full
-        || (left <= len && len + left > full && len + left <= full.saturating_add(few_of(full)))
-}
-
-/// Ends the growing group, if it has chunks, and begins one without chunks. `Err`: out of memory.
-fn seal<T: RangeValue>(
-    done: &mut PageBuilder<T>,
-    start: u32,
-    growing: &mut Group<T>,
-) -> Result<(), AllocError>
-    requires groups { AreGroups T.rules done.old }
-    requires group { IsGroup T.rules start growing.old }
-    requires room { length (flat (spread done.old)) + length (flat growing.old.chunks.items) < 2 ^ 64 }
-    ensures groups { IfOk result (λ _. AreGroups T.rules done.new) }
-    ensures ranges { IfOk result (λ _. spread done.new ≡ spread done.old ++ map (move start) growing.old.chunks.items) }
-    ensures opened { IfOk result (λ _. IsGroup T.rules start growing.new) }
-    ensures empty { IfOk result (λ _. growing.new.chunks.items ≡ []) }
-{
-    if growing.chunks.is_empty() {
-        return Ok(());
-    }
-    let alloc = done.alloc();
-    let group = mem::replace(growing, Group::empty(alloc));
-    done.push(PlacedGroup {
-        start,
-        group: Rc::new(alloc, group)?,
-    })?;
-    Ok(())
 }

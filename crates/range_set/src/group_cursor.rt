@@ -91,6 +91,11 @@ impl<'a, T: RangeValue> GroupCursor<'a, T> {
         Some((placed, GroupCursor::over(others)))
     }
 
+    /// Whether it stands before a page. No contract speaks of this: it only decides what is shared as a whole.
+    pub(crate) fn begins_page(&self) -> bool {
+        self.groups.is_empty()
+    }
+
     /// Whether a group follows that begins before a place. No contract says so of one that follows: it only decides what is shared.
     pub(crate) fn begins_before(&self, place: u32) -> bool
         ensures { IsTrue result → NextBegins T.rules place self.now }

@@ -21,6 +21,7 @@ mod moving;
 mod opening;
 mod page;
 mod page_builder;
+mod parts;
 mod points;
 mod range_error;
 mod range_ref;

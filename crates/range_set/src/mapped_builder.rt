@@ -46,7 +46,7 @@ impl<T: RangeValue> MappedBuilder<T> {
         ensures ranges { put_down self.new ≡ put_down self.old }
         ensures run { self.new.run ≡ self.old.run }
     {
-        self.chunks.done.reserve(chunks)
+        self.chunks.done.reserve_exact(chunks)
     }
 
     /// Whether a group of so many chunks is to become one with those that stand before it and aren't in a group yet: whether there are
@@ -109,7 +109,7 @@ impl<T: RangeValue> MappedBuilder<T> {
         }
         let alloc = *self.run.allocator();
         let chunks = mem::replace(&mut self.chunks, ChunkBuilder::new(alloc));
-        self.groups.put_all(chunks.finish()?)
+        self.groups.put_all(chunks.finish())
     }
 
     /// The groups of all ranges, and how many ranges there are. `Err`: out of memory.

@@ -181,7 +181,7 @@ fn map_each<'a, T: RangeValue, L: Ledger>(
     ensures cost { mapped.new ≤ mapped.old + length chunk.now.value.ranges.items }
 {
     let alloc = *run.allocator();
-    run.reserve(chunk.ranges.len())?;
+    run.reserve_exact(chunk.ranges.len())?;
     let mut left = changed;
     for range in &chunk.ranges {
         mapped.tick();

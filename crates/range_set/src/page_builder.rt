@@ -5,6 +5,7 @@ ghost use Rattle.range_set.specs.PrivatePages.{ArePages, IsPage, further, laid};
 use crate::group::PlacedGroup;
 use crate::group_list::GroupList;
 use crate::page::{MAX_GROUPS, Page, PlacedPage};
+use crate::parts::trim;
 use crate::range_value::RangeValue;
 use std::alloc::{AllocError, Global};
 use std::marker::Model;
@@ -115,7 +116,7 @@ fn seal<T: RangeValue>(
     }
     let alloc = *done.allocator();
     let mut page = mem::replace(growing, Page::empty(alloc));
-    page.groups.shrink_to_fit();
+    trim(&mut page.groups);
     done.push(PlacedPage {
         start,
         page: Rc::new(alloc, page)?,

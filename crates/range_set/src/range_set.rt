@@ -24,7 +24,6 @@ use crate::range_error::RangeError;
 use crate::range_ref::RangeRef;
 use crate::range_value::RangeValue;
 use crate::ranged::{Ranged, fault_in};
-use crate::sorting::put_all;
 use crate::updating::{added_groups, updated_chunks};
 use change_desc::Desc;
 use std::alloc::{AllocError, Global};
@@ -265,9 +264,8 @@ fn set_of<T: RangeValue>(ranges: Vec<Ranged<T>>) -> Result<RangeSet<T>, AllocErr
     let _len = ranges.len();
     let alloc = *ranges.allocator();
     let mut builder = ChunkBuilder::new(alloc);
-    put_all(ranges, &mut builder)?;
-    let chunks = builder.finish()?;
-    let (groups, len) = in_groups(alloc, chunks)?;
+    builder.put_all(ranges)?;
+    let (groups, len) = in_groups(alloc, builder.finish())?;
     Ok(RangeSet { groups, len })
 }
 

@@ -44,7 +44,7 @@ fn put_run<T: RangeValue>(
     let alloc = *run.allocator();
     let mut ranges = mem::replace(run, Vec::new(alloc));
     sort(&mut ranges)?;
-    put_all(ranges, builder)
+    builder.put_all(ranges)
 }
 
 /// Sorts ranges stably. Those that are in order, as most runs are, are left as they are, after one look. `Err`: out of memory.
@@ -55,28 +55,4 @@ fn sort<T: RangeValue>(ranges: &mut Vec<Ranged<T>>) -> Result<(), AllocError>
         None => Ok(()),
         Some(_) => sort_stably(ranges),
     }
-}
-
-/// Puts a run of ranges in order after those of a builder. `Err`: out of memory.
-pub(crate) fn put_all<T: RangeValue>(
-    mut ranges: Vec<Ranged<T>>,
-    builder: &mut ChunkBuilder<T>,
-) -> Result<(), AllocError>
-    requires builder { IsBuilder T.rules builder.old }
-    requires order { Ascend 0 (built builder.old ++ ranges.items) }
-    requires forward { AllForward ranges.items }
-    ensures builder { IfOk result (λ _. IsBuilder T.rules builder.new) }
-    ensures ranges { IfOk result (λ _. built builder.new ≡ built builder.old ++ ranges.items) }
-{
-    if builder.takes_whole(&ranges) {
-        ranges.shrink_to_fit();
-        builder.put_whole(ranges);
-        return Ok(());
-    }
-    let mut left = ranges.len();
-    for range in ranges {
-        builder.push(range, left)?;
-        left -= 1;
-    }
-    Ok(())
 }

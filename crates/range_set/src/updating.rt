@@ -1,7 +1,7 @@
 ghost use Rattle.std.specs.Prelude.{IfOk, IsTrue, None, true, filter, length, map, ◌++◌, ◌+◌, ◌-◌, ◌<◌, ◌≤◌, ◌^◌, ◌≡◌};
 ghost use Rattle.range_set.specs.Order.{before, first_fault};
-ghost use Rattle.range_set.specs.PrivateChunks.{AreChunks, AreGroups, AreGroupsOf, IsChunk, flat, shift, spread};
-ghost use Rattle.range_set.specs.PrivateUpdates.{IsBeyond, KeepsPart, TakesBefore};
+ghost use Rattle.range_set.specs.PrivateChunks.{AreChunks, AreGroups, AreGroupsOf, Ascend, IsChunk, flat, shift, spread};
+ghost use Rattle.range_set.specs.PrivateUpdates.{BeginPast, BeginUnder, IsBeyond, KeepsPart, TakesBefore};
 ghost use Rattle.range_set.specs.Updating.{AnswersAs, updated};
 
 use crate::chunk::{FEW_RANGES, MAX_RANGES, Placed, stands_alone};
@@ -47,7 +47,8 @@ pub(crate) fn added_groups<T: RangeValue>(
     builder.finish()
 }
 
-/// The chunks of the ranges of others and of added ones. `Err`: out of memory.
+/// The chunks of the ranges of others and of added ones. Only those around the added ones are looked at one by one. `Err`: out of
+/// memory.
 fn with_all<T: RangeValue>(
     alloc: Global,
     chunks: &[Placed<T>],
@@ -56,11 +57,65 @@ fn with_all<T: RangeValue>(
     requires chunks { AreChunks T.rules chunks.now }
     requires order { first_fault T.rules (flat chunks.now) ≡ None }
     requires added { first_fault T.rules add.items ≡ None }
+    requires some { 1 ≤ length add.items }
     ensures chunks { IfOk result (λ made. AreChunks T.rules made.items) }
     ensures order { IfOk result (λ made. first_fault T.rules (flat made.items) ≡ None) }
     ensures ranges { IfOk result (λ made. flat made.items ≡ updated T.rules (λ _. true) (flat chunks.now) add.items) }
 {
-    updated_chunks(alloc, chunks, add, &|_range: &RangeRef<'_, T>| true)
+    let (Some(first), Some(last)) = (add.first(), add.last()) else {
+        unreachable!()
+    };
+    let (before, rest) = parted_under(chunks, first.from);
+    let (around, after) = parted_past(rest, last.from);
+    let mut made = Vec::with_capacity(alloc, chunks.len().saturating_add(1))?;
+    share_each(before, &mut made)?;
+    let mut updated = updated_chunks(alloc, around, add, &|_range: &RangeRef<'_, T>| true)?;
+    made.append(&mut updated)?;
+    share_each(after, &mut made)?;
+    Ok(made)
+}
+
+/// Chunks, parted: the ranges of the first part begin before a place. The last chunk of which that is clear stands in the second
+/// part, since what is added may join it.
+fn parted_under<T: RangeValue>(chunks: &[Placed<T>], place: u32) -> (&[Placed<T>], &[Placed<T>])
+    requires chunks { AreChunks T.rules chunks.now }
+    requires ascend { Ascend 0 (flat chunks.now) }
+    ensures parts { chunks.now ≡ result.0.now ++ result.1.now }
+    ensures under { BeginUnder place (flat result.0.now) }
+{
+    let begun = chunks.partition_point(|placed| placed.start < place);
+    chunks.split_at(begun.saturating_sub(2))
+}
+
+/// Chunks, parted: the ranges of the second part begin after a place. The first chunk of which that is clear stands in the first
+/// part, since what is added may join it.
+fn parted_past<T: RangeValue>(chunks: &[Placed<T>], place: u32) -> (&[Placed<T>], &[Placed<T>])
+    requires chunks { AreChunks T.rules chunks.now }
+    requires ascend { Ascend 0 (flat chunks.now) }
+    ensures parts { chunks.now ≡ result.0.now ++ result.1.now }
+    ensures past { BeginPast place (flat result.1.now) }
+{
+    let begun = chunks.partition_point(|placed| placed.start <= place);
+    chunks.split_at(begun.saturating_add(1).min(chunks.len()))
+}
+
+/// Puts chunks after others, shared. `Err`: out of memory.
+fn share_each<T: RangeValue>(
+    chunks: &[Placed<T>],
+    made: &mut Vec<Placed<T>>,
+) -> Result<(), AllocError>
+    requires chunks { AreChunks T.rules chunks.now }
+    requires made { AreChunks T.rules made.old.items }
+    ensures chunks { IfOk result (λ _. AreChunks T.rules made.new.items) }
+    ensures ranges { IfOk result (λ _. flat made.new.items ≡ flat made.old.items ++ flat chunks.now) }
+{
+    for placed in chunks {
+        made.push(Placed {
+            start: placed.start,
+            chunk: placed.chunk.clone()?,
+        })?;
+    }
+    Ok(())
 }
 
 /// The chunks of the ranges of others that a test allows and of added ones, which stand in order.
@@ -99,7 +154,7 @@ pub(crate) fn updated_chunks<T: RangeValue, F: Fn(&RangeRef<'_, T>) -> bool>(
     let mut others = Vec::from(added);
     run.append(&mut others)?;
     put_sorted(&mut run, &mut builder)?;
-    builder.finish()
+    Ok(builder.finish())
 }
 
 /// Whether an added range belongs before a range of a chunk at a place.

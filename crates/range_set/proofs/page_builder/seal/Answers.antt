@@ -12,7 +12,7 @@ returns-clause-pages g c =
     let rules = g.T.RangeValue.rules in
     let growing = c.args.growing.now in
     let was = c.replace-page.ensures.value in
-    let items = c.shrink_to_fit.ensures.items ∙ ap (λ (x : Page g.row.T.Denot). x.groups.items) was in
+    let items = c.trim.ensures ∙ ap (λ (x : Page g.row.T.Denot). x.groups.items) was in
     let is = c.in_ok-new.ensures.ok in
     let some = nonempty _ _ (sym c.is_empty.ensures ∙ c.if-is_empty.false) growing.groups.ok.0 in
     let page = page_same rules c.args.start growing _ c.requires.page items (ap (λ (x : Page g.row.T.Denot). x.count) was) (ap (λ (x : Page g.row.T.Denot). x.reach) was) (ap (λ (x : Page g.row.T.Denot). x.is_turned) was)
@@ -25,7 +25,7 @@ returns-clause-pages g c =
 pub returns-clause-groups : goal.returns-clause-groups
 returns-clause-groups g c =
     let done = c.args.done.now.items in
-    let items = c.shrink_to_fit.ensures.items ∙ ap (λ (x : Page g.row.T.Denot). x.groups.items) c.replace-page.ensures.value in
+    let items = c.trim.ensures ∙ ap (λ (x : Page g.row.T.Denot). x.groups.items) c.replace-page.ensures.value in
     ap laid c.in_ok-push.ensures.items
     ∙ (laid-push done _
     ∙ (ap (λ (x : Page g.row.T.Denot). laid done ++ map (further c.args.start) x.groups.items) c.in_ok-new.ensures.ok

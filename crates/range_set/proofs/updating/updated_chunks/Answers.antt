@@ -1,6 +1,5 @@
-use Rattle.std.proofs.Common.{◌≡◌, ◌+◌, ◌++◌, ◌≤◌, Bool, List, [], None, drop, filter, length, map, ap, subst, sym, refl, ◌∙◌, arith}
+use Rattle.std.proofs.Common.{◌≡◌, ◌+◌, ◌++◌, Bool, List, [], None, drop, filter, length, map, ap, subst, sym, refl, ◌∙◌, arith}
 use Rattle.std.proofs.lemmas.List.{length-append}
-use Rattle.std.proofs.lemmas.Result.{IfOk-weaker}
 use Rattle.stable_order.specs.StableSort.{stable_sort}
 use Rattle.stable_order.proofs.StableSort.{length-stable_sort}
 use Rattle.range_set.specs.Order.{AllForward, before, first_fault}
@@ -169,8 +168,7 @@ returns-clause-order g c =
     let up = updating_end rules most done run added (subst (λ (qs : List (Placed g.row.T.Denot)). IsUpdating rules most done run (flat qs) added) none c.loop-placed.invariant.updating) in
     let all = c.in_ok-append.ensures.items ∙ ap (λ xs. run ++ xs) c.from-others.ensures.0 in
     let sorted = c.in_ok-put_sorted-2.ensures.ranges ∙ ap (λ xs. done ++ stable_sort (before rules) xs) all in
-    IfOk-weaker c.finish.result (λ made. flat made.items ≡ built c.put_sorted-2.new.builder) (λ made. first_fault rules (flat made.items) ≡ None)
-    (λ made e. ap (first_fault rules) (e ∙ sorted) ∙ no_fault_done rules most done (run ++ added) [] [] up) c.finish.ensures.ranges
+    ap (first_fault rules) (c.finish.ensures.ranges ∙ sorted) ∙ no_fault_done rules most done (run ++ added) [] [] up
 
 pub returns-clause-few : goal.returns-clause-few
 returns-clause-few g c =
@@ -188,8 +186,8 @@ returns-clause-few g c =
     let m = length-append done (stable_sort (before rules) (run ++ added)) in
     let k = length-stable_sort (before rules) (run ++ added) in
     let room = up.room in
-    IfOk-weaker c.finish.result (λ made. flat made.items ≡ built c.put_sorted-2.new.builder) (λ made. length (flat made.items) ≤ most)
-    (λ made e. let n = ap length (e ∙ sorted) in omega (arith, n, m, k, room)) c.finish.ensures.ranges
+    let n = ap length (c.finish.ensures.ranges ∙ sorted) in
+    omega (arith, n, m, k, room)
 
 pub returns-clause-ranges : goal.returns-clause-ranges
 returns-clause-ranges g c =
@@ -204,5 +202,4 @@ returns-clause-ranges g c =
     let up = updating_end rules most done run added (subst (λ (qs : List (Placed g.row.T.Denot)). IsUpdating rules most done run (flat qs) added) none c.loop-placed.invariant.updating) in
     let all = c.in_ok-append.ensures.items ∙ ap (λ xs. run ++ xs) c.from-others.ensures.0 in
     let sorted = c.in_ok-put_sorted-2.ensures.ranges ∙ ap (λ xs. done ++ stable_sort (before rules) xs) all in
-    IfOk-weaker c.finish.result (λ made. flat made.items ≡ built c.put_sorted-2.new.builder) (λ made. (q : _) → AnswersAs g.F.Fn c.args.keep.now q → flat made.items ≡ updated rules q (flat ps) c.args.add.items)
-    (λ made e q a. e ∙ (sorted ∙ sym (subst (λ (qs : List (Placed g.row.T.Denot)). updated rules q (flat ps) c.args.add.items ≡ done ++ stable_sort (before rules) (run ++ (filter q (flat qs) ++ added))) none (c.loop-placed.invariant.goes q a)))) c.finish.ensures.ranges
+    λ q a. c.finish.ensures.ranges ∙ (sorted ∙ sym (subst (λ (qs : List (Placed g.row.T.Denot)). updated rules q (flat ps) c.args.add.items ≡ done ++ stable_sort (before rules) (run ++ (filter q (flat qs) ++ added))) none (c.loop-placed.invariant.goes q a)))

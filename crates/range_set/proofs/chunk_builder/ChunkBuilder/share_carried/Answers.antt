@@ -25,11 +25,10 @@ loop-placed-preserved g c =
     let turned = sym (ap (λ (x : Chunk g.row.T.Denot). x.is_turned) c.deref-in-Some.ensures) ∙ c.if-deref.false in
     let met = ap (λ (x : Chunk g.row.T.Denot). list_any (meets from (p.start + x.reach)) c.args.changed.now) (sym c.deref.ensures) ∙ (sym c.first_meets.ensures ∙ c.if-first_meets.false) in
     record {
-      builder = c.in_ok-put_shared.ensures.builder;
-      growing = ap (λ x. x.ranges.items) c.in_ok-put_shared.ensures.growing ∙ at.growing;
+      builder = c.in_ok-share.ensures.builder;
       chunks = chunks.1;
       ascend = ascend-less from p.start (flat others) hull.0 hull.1;
       fits = (subst (FitCarriedChunks from to c.args.changed.now) is at.fits).1;
       shared = chunks_shared_more from to c.args.changed.now (map (move base) c.args.chunks.now) p others (built c.args.self.now) (built c.loop-placed.self) _
-          (subst (λ ps. AreChunksShared from to c.args.changed.now (map (move base) c.args.chunks.now) ps (built c.args.self.now) (built c.loop-placed.self)) is at.shared) turned met c.in_ok-put_shared.ensures.ranges;
+          (subst (λ ps. AreChunksShared from to c.args.changed.now (map (move base) c.args.chunks.now) ps (built c.args.self.now) (built c.loop-placed.self)) is at.shared) turned met c.in_ok-share.ensures.ranges;
     }

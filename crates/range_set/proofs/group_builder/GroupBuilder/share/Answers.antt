@@ -1,5 +1,35 @@
-use Rattle.range_set.proofs.Builders.{seal_room}
+use Rattle.std.proofs.Common.{◌++◌, ◌+◌, ◌≤◌, ◌<◌, ◌^◌, map, length, sym, ap, subst, ◌∙◌, refl, arith}
+use Rattle.range_set.specs.PrivateChunks.{IsGroup, flat, move, spread}
+use Rattle.range_set.specs.PrivateBuilders.{grouped}
+use Rattle.range_set.specs.declared.group.Group.{Group}
+use Rattle.range_set.proofs.Builders.{grown_one}
+use Rattle.range_set.proofs.Groups.{spread-push}
 use Rattle.range_set.proofs.group_builder.GroupBuilder.share.Goals as goal
 
-pub seal-requires-clause-room : goal.seal-requires-clause-room
-seal-requires-clause-room g c = seal_room g.T.RangeValue.rules c.args.self.now c.requires.builder
+pub push-requires : goal.push-requires
+push-requires g c =
+    let rules = g.T.RangeValue.rules in
+    let is = sym c.in_ok-clone.ensures.cases in
+    record {
+      group = subst (IsGroup rules c.args.start) is c.requires.group;
+      some = subst (λ (x : Group g.row.T.Denot). 1 ≤ length (flat x.chunks.items)) is c.requires.some;
+      room = subst (λ (x : Group g.row.T.Denot). length (flat (grouped c.args.self.now)) + length (flat x.chunks.items) < 2 ^ 64) is c.requires.room;
+    }
+
+pub returns-clause-builder : goal.returns-clause-builder
+returns-clause-builder g c =
+    let rules = g.T.RangeValue.rules in
+    let is = sym c.in_ok-clone.ensures.cases in
+    let n = ap (λ (x : Group g.row.T.Denot). x.count) c.deref.ensures in
+    let k = ap (λ (x : Group g.row.T.Denot). length (flat x.chunks.items)) is in
+    let count = c.requires.group.count in
+    grown_one rules c.args.self.now _ _ c.deref.result.now.count c.requires.builder c.in_ok-push.ensures refl refl (omega (arith, n, k, count))
+    (subst (IsGroup rules c.args.start) is c.requires.group)
+    (subst (λ (x : Group g.row.T.Denot). 1 ≤ length (flat x.chunks.items)) is c.requires.some)
+    (subst (λ (x : Group g.row.T.Denot). length (flat (grouped c.args.self.now)) + length (flat x.chunks.items) < 2 ^ 64) is c.requires.room)
+
+pub returns-clause-ranges : goal.returns-clause-ranges
+returns-clause-ranges g c =
+    let old = c.args.self.now in
+    ap spread c.in_ok-push.ensures
+    ∙ (spread-push old.done _ ∙ ap (λ (x : Group g.row.T.Denot). grouped old ++ map (move c.args.start) x.chunks.items) c.in_ok-clone.ensures.cases)

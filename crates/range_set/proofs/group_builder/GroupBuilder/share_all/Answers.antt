@@ -4,16 +4,12 @@ use Rattle.range_set.specs.PrivateChunks.{flat, move, shift, spread}
 use Rattle.range_set.specs.PrivateBuilders.{grouped}
 use Rattle.range_set.specs.PrivatePages.{further}
 use Rattle.range_set.specs.declared.group.PlacedGroup.{PlacedGroup}
-use Rattle.range_set.proofs.Builders.{seal_room}
 use Rattle.range_set.proofs.CarriedPages.{page_room}
 use Rattle.range_set.proofs.Chunks.{flat-append, length_shifted}
 use Rattle.range_set.proofs.Groups.{flat-spread, length_moved}
 use Rattle.range_set.proofs.Pages.{length_further}
 use Rattle.range_set.proofs.SharedBefore.{all_more}
 use Rattle.range_set.proofs.group_builder.GroupBuilder.share_all.Goals as goal
-
-pub seal-requires-clause-room : goal.seal-requires-clause-room
-seal-requires-clause-room g c = seal_room g.T.RangeValue.rules c.args.self.now c.requires.builder
 
 pub put_page-requires-clause-room : goal.put_page-requires-clause-room
 put_page-requires-clause-room g c =
@@ -37,13 +33,12 @@ loop-placed-preserved-then-not-joins g c =
     let l = length_further rules p.start p.page.value.groups.items in
     record {
       builder = c.in_ok-put_page.ensures.builder;
-      growing = ap (λ x. x.chunks.items) c.in_ok-put_page.ensures.growing ∙ at.growing;
       room = omega (arith, room, n, k, l);
       ranges = all_more c.loop-placed.rest gs others _ here _ c.in-Some.ensures.is put at.ranges;
     }
 
-pub put_shared-requires-clause-room : goal.put_shared-requires-clause-room
-put_shared-requires-clause-room g c =
+pub share-requires-clause-room : goal.share-requires-clause-room
+share-requires-clause-room g c =
     let p : PlacedGroup g.row.T.Denot = record { start = c.in-Some-split_first.start; group = c.in-Some-split_first.group.now } in
     let others = c.in-Some-split_first.others in
     let room = subst (λ gs. length (flat (grouped c.loop-placed.self)) + length (flat (spread gs)) < 2 ^ 64) c.in-Some-split_first.ensures.some.is c.loop-placed.invariant.room in
@@ -60,15 +55,14 @@ loop-placed-preserved g c =
     let here = grouped c.loop-placed.self in
     let at = c.loop-placed.invariant in
     let next = c.in-Some-split_first.ensures.some in
-    let put = c.in_ok-put_shared-in-Some-split_first.ensures.ranges in
+    let put = c.in_ok-share-in-Some-split_first.ensures.ranges in
     let room = subst (λ gs. length (flat here) + length (flat (spread gs)) < 2 ^ 64) next.is at.room in
     let n = ap length (flat-spread p others) ∙ length-append (map (shift p.start) (flat chunks)) (flat (spread others)) in
     let m = length_shifted rules p.start (flat chunks) in
     let k = ap (λ ps. length (flat ps)) put ∙ (ap length (flat-append here (map (move p.start) chunks)) ∙ length-append (flat here) (flat (map (move p.start) chunks))) in
     let l = length_moved rules p.start chunks in
     record {
-      builder = c.in_ok-put_shared-in-Some-split_first.ensures.builder;
-      growing = ap (λ x. x.chunks.items) c.in_ok-put_shared-in-Some-split_first.ensures.growing ∙ at.growing;
+      builder = c.in_ok-share-in-Some-split_first.ensures.builder;
       room = omega (arith, room, n, m, k, l);
       ranges = all_more c.loop-placed.rest (p ∷ []) others _ here _ next.is (put ∙ ap (λ ps. here ++ ps) (sym (append-nil (map (move p.start) chunks)))) at.ranges;
     }

@@ -4,16 +4,12 @@ use Rattle.range_set.specs.PrivateChunks.{Ascend, flat, move, shift, spread}
 use Rattle.range_set.specs.PrivateBuilders.{grouped}
 use Rattle.range_set.specs.PrivatePages.{further}
 use Rattle.range_set.specs.declared.group.PlacedGroup.{PlacedGroup}
-use Rattle.range_set.proofs.Builders.{seal_room}
 use Rattle.range_set.proofs.CarriedPages.{page_room}
 use Rattle.range_set.proofs.Chunks.{ascend-rest, flat-append, length_shifted}
 use Rattle.range_set.proofs.Groups.{flat-spread, flat-spread_append, length_moved}
 use Rattle.range_set.proofs.Pages.{length_further}
 use Rattle.range_set.proofs.SharedBefore.{before_more, under_next}
 use Rattle.range_set.proofs.group_builder.GroupBuilder.share_before.Goals as goal
-
-pub seal-requires-clause-room : goal.seal-requires-clause-room
-seal-requires-clause-room g c = seal_room g.T.RangeValue.rules c.args.self.now c.requires.builder
 
 pub put_page-requires-clause-room : goal.put_page-requires-clause-room
 put_page-requires-clause-room g c =
@@ -40,14 +36,13 @@ loop-placed-preserved-then-begins_before g c =
     let under = under_next rules place 0 (flat (spread gs)) others (c.begins_before.ensures c.if-begins_before.true) ascend in
     record {
       builder = c.in_ok-put_page.ensures.builder;
-      growing = ap (λ x. x.chunks.items) c.in_ok-put_page.ensures.growing ∙ at.growing;
       ascend = ascend-rest 0 (flat (spread gs)) (flat (spread others)) ascend;
       room = omega (arith, room, n, k, l);
       shared = before_more place c.args.groups c.loop-placed.rest gs others (grouped c.args.self.now) here _ at.shared c.in-Some.ensures.is under put;
     }
 
-pub put_shared-requires-clause-room : goal.put_shared-requires-clause-room
-put_shared-requires-clause-room g c =
+pub share-requires-clause-room : goal.share-requires-clause-room
+share-requires-clause-room g c =
     let p : PlacedGroup g.row.T.Denot = record { start = c.in-Some-split_first.start; group = c.in-Some-split_first.group.now } in
     let others = c.in-Some-split_first.others in
     let room = subst (λ gs. length (flat (grouped c.loop-placed.self)) + length (flat (spread gs)) < 2 ^ 64) c.in-Some-split_first.ensures.some.is c.loop-placed.invariant.room in
@@ -65,7 +60,7 @@ loop-placed-preserved g c =
     let here = grouped c.loop-placed.self in
     let at = c.loop-placed.invariant in
     let next = c.in-Some-split_first.ensures.some in
-    let put = c.in_ok-put_shared-in-Some-split_first.ensures.ranges in
+    let put = c.in_ok-share-in-Some-split_first.ensures.ranges in
     let room = subst (λ gs. length (flat here) + length (flat (spread gs)) < 2 ^ 64) next.is at.room in
     let n = ap length (flat-spread p others) ∙ length-append (map (shift p.start) (flat chunks)) (flat (spread others)) in
     let m = length_shifted rules p.start (flat chunks) in
@@ -74,8 +69,7 @@ loop-placed-preserved g c =
     let ascend = subst (Ascend 0) (flat-spread_append (p ∷ []) others) (subst (λ hs. Ascend 0 (flat (spread hs))) next.is at.ascend) in
     let under = under_next rules place 0 (flat (spread (p ∷ []))) others (c.begins_before-in-Some-split_first.ensures c.if-not-begins_before.false) ascend in
     record {
-      builder = c.in_ok-put_shared-in-Some-split_first.ensures.builder;
-      growing = ap (λ x. x.chunks.items) c.in_ok-put_shared-in-Some-split_first.ensures.growing ∙ at.growing;
+      builder = c.in_ok-share-in-Some-split_first.ensures.builder;
       ascend = ascend-rest 0 (flat (spread (p ∷ []))) (flat (spread others)) ascend;
       room = omega (arith, room, n, m, k, l);
       shared = before_more place c.args.groups c.loop-placed.rest (p ∷ []) others (grouped c.args.self.now) here _ at.shared next.is under (put ∙ ap (λ ps. here ++ ps) (sym (append-nil (map (move p.start) chunks))));

@@ -1,4 +1,4 @@
-use Rattle.std.proofs.Common.{◌≡◌, [], ◌+◌, ◌<◌, ◌^◌, length}
+use Rattle.std.proofs.Common.{◌+◌, ◌<◌, ◌^◌, length}
 use Rattle.range_set.specs.PrivateChunks.{Ascend, flat, spread}
 use Rattle.range_set.specs.PrivateBuilders.{IsGroupBuilder, grouped}
 use Rattle.range_set.specs.PrivateUpdates.{AreSharedBefore}
@@ -7,7 +7,6 @@ use Rattle.range_set.proofs.group_builder.GroupBuilder.share_before.Given as goa
 abbrev pub invariant-loop-placed : goal.invariant-loop-placed
 invariant-loop-placed g l = record {
   builder : IsGroupBuilder g.T.RangeValue.rules l.self;
-  growing : l.self.growing.chunks.items ≡ [];
   ascend : Ascend 0 (flat (spread l.rest));
   room : length (flat (grouped l.self)) + length (flat (spread l.rest)) < 2 ^ 64;
   shared : AreSharedBefore l.place l.fn.groups l.rest (grouped l.fn.self) (grouped l.self);

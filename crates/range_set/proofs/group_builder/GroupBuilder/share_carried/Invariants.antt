@@ -1,4 +1,4 @@
-use Rattle.std.proofs.Common.{◌≡◌, [], ◌+◌, ◌<◌, ◌^◌, length}
+use Rattle.std.proofs.Common.{◌+◌, ◌<◌, ◌^◌, length}
 use Rattle.range_set.specs.PrivateChunks.{FitCarried, AreShared, Ascend, flat, spread}
 use Rattle.range_set.specs.PrivateBuilders.{IsGroupBuilder, grouped}
 use Rattle.range_set.proofs.group_builder.GroupBuilder.share_carried.Given as goal
@@ -6,7 +6,6 @@ use Rattle.range_set.proofs.group_builder.GroupBuilder.share_carried.Given as go
 abbrev pub invariant-loop-start : goal.invariant-loop-start
 invariant-loop-start g l = record {
   builder : IsGroupBuilder g.T.RangeValue.rules l.self;
-  growing : l.self.growing.chunks.items ≡ [];
   ascend : Ascend l.from (flat (spread l.rest));
   fits : FitCarried l.from l.to l.changed l.rest;
   room : length (flat (grouped l.self)) + length (flat (spread l.rest)) < 2 ^ 64;

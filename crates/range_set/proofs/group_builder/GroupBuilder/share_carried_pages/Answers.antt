@@ -14,7 +14,6 @@ use Rattle.range_set.proofs.group_builder.GroupBuilder.share_carried_pages.Goals
 pub loop-placed-init : goal.loop-placed-init
 loop-placed-init g c = record {
   builder = c.requires.builder;
-  growing = c.requires.growing;
   ascend = c.requires.ascend;
   fits = c.requires.fits;
   room = c.requires.room;
@@ -73,7 +72,6 @@ loop-placed-preserved g c =
     let l = length_shifted rules (p.start - from + to) (flat (spread gs)) in
     record {
       builder = c.in_ok-put_page.ensures.builder;
-      growing = ap (λ x. x.chunks.items) c.in_ok-put_page.ensures.growing ∙ at.growing;
       ascend = carry.ascend;
       fits = carry.fits;
       room = omega (arith, room, n, k, l);

@@ -1,17 +1,14 @@
 use Rattle.std.proofs.Common.{◌++◌, ◌≤◌, map, length, sym, ap, subst, ◌∙◌}
-use Rattle.std.proofs.lemmas.List.{append-nil}
 use Rattle.range_set.specs.PrivateChunks.{IsChunk, flat, shift}
 use Rattle.range_set.specs.PrivateBuilders.{built}
 use Rattle.range_set.specs.declared.chunk.Chunk.{Chunk}
-use Rattle.range_set.proofs.Chunks.{AreChunks-push, share_built}
-use Rattle.range_set.proofs.chunk_builder.ChunkBuilder.put_shared.Goals as goal
+use Rattle.range_set.proofs.Chunks.{AreChunks-push, flat-push}
+use Rattle.range_set.proofs.chunk_builder.ChunkBuilder.share.Goals as goal
 
 pub returns-clause-ranges : goal.returns-clause-ranges
 returns-clause-ranges g c =
     let old = c.args.self.now in
-    let done = flat old.done.items in
-    let none = sym (ap (λ rs. done ++ map (shift old.start) rs) c.requires.growing ∙ append-nil done) in
-    share_built g.T.RangeValue.rules old.done.items old.done.items c.push.new.self.items old.start old.start old.growing.ranges.items old.growing.ranges.items _ none c.requires.growing c.in_ok-push.ensures.items
+    ap flat c.in_ok-push.ensures.items ∙ flat-push old.done.items _
     ∙ ap (λ (ch : Chunk g.row.T.Denot). built old ++ map (shift c.args.start) ch.ranges.items) c.in_ok-clone.ensures.cases
 
 pub returns-clause-builder : goal.returns-clause-builder
@@ -21,5 +18,4 @@ returns-clause-builder g c =
     record {
       chunks = rw c.in_ok-push.ensures.items (AreChunks-push rules c.args.self.now.done.items _ c.requires.builder.chunks
           (subst (IsChunk rules c.args.start) (sym e) c.requires.chunk) (subst (λ (ch : Chunk g.row.T.Denot). 1 ≤ length ch.ranges.items) (sym e) c.requires.some));
-      growing = c.requires.builder.growing;
     }

@@ -1,0 +1,28 @@
+ghost use Rattle.std.specs.Prelude.{◌≡◌, ◌≤◌};
+
+/// How many of `len` items come into the first part where they are cut into parts of about `most`: all, where they are no more than
+/// that; half of them, where they would make one such part and one of at most `few`.
+pub(crate) fn part_len(len: usize, most: usize, few: usize) -> usize
+    requires { 1 ≤ most }
+    ensures some { 1 ≤ len → 1 ≤ result }
+    ensures within { result ≤ len }
+    ensures few { result ≡ len → len ≤ most }
+{
+    if len <= most {
+        return len;
+    }
+    if len - most <= few {
+        return len / 2;
+    }
+    let parts = len / most;
+    (parts - parts / 2) * most
+}
+
+/// Gives back the free room of a list where half of its room or more is free.
+pub(crate) fn trim<T>(list: &mut Vec<T>)
+    ensures { list.new.items ≡ list.old.items }
+{
+    if list.len() <= list.capacity() / 2 {
+        list.shrink_to_fit();
+    }
+}
