@@ -1,22 +1,13 @@
 // Groups of chunks of points that stand ten characters apart, most of which refuse to be copied. A chunk has 32 points, a group here
 // 16 chunks at most: 6,400 points stand in 13 groups, 2,240 in four of 16 chunks and one of 6.
-use crate::numbered::{Numbered, described};
+use crate::numbered::{Copied, Numbered, is_among, mapped};
 use change_desc::Section;
 use range_set::{Iter, RangeSet, Ranged};
 use std::alloc::{AllocError, Global};
 use std::test::*;
 
-/// The first and the last number of points that may be copied, twice.
-type Copied = [(u32, u32); 2];
-
-fn may_be_copied(copied: &Copied, number: u32) -> bool {
-    copied
-        .iter()
-        .any(|(first, last)| *first <= number && number <= *last)
-}
-
 fn value(copied: &Copied, number: u32) -> Numbered {
-    let most = if may_be_copied(copied, number) {
+    let most = if is_among(copied, number) {
         u32::MAX
     } else {
         0
@@ -74,19 +65,6 @@ fn rows_stand(set: &RangeSet<Numbered>, rows: &[Row]) -> bool {
         }
     }
     ranges.next().is_none()
-}
-
-/// A set mapped over changes: `None` where it can't be, or out of memory.
-fn mapped(
-    alloc: Global,
-    set: &RangeSet<Numbered>,
-    sections: &[Section<u32>],
-) -> Result<Option<RangeSet<Numbered>>, AllocError> {
-    let changes = described(alloc, sections)?;
-    if !set.ends_within(changes.len()) {
-        return Ok(None);
-    }
-    Ok(set.map(&changes).ok())
 }
 
 /// So many points mapped over changes, one after another.

@@ -88,6 +88,29 @@ pub(crate) fn described(alloc: Global, sections: &[Section<u32>]) -> Result<Desc
     Ok(desc)
 }
 
+/// A set mapped over changes: `None` where it can't be, or out of memory.
+pub(crate) fn mapped(
+    alloc: Global,
+    set: &RangeSet<Numbered>,
+    sections: &[Section<u32>],
+) -> Result<Option<RangeSet<Numbered>>, AllocError> {
+    let changes = described(alloc, sections)?;
+    if !set.ends_within(changes.len()) {
+        return Ok(None);
+    }
+    Ok(set.map(&changes).ok())
+}
+
+/// The first and the last number of ranges that may be copied, twice.
+pub(crate) type Copied = [(u32, u32); 2];
+
+/// Whether a number is among these.
+pub(crate) fn is_among(copied: &Copied, number: u32) -> bool {
+    copied
+        .iter()
+        .any(|(first, last)| *first <= number && number <= *last)
+}
+
 /// Whether the set has ranges with these ends and numbers, in this order, and no others.
 pub(crate) fn shows(set: &RangeSet<Numbered>, want: &[(u32, u32, u32)]) -> bool {
     if set.len() != want.len() {

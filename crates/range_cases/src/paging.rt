@@ -1,6 +1,6 @@
 // Ranges of 257 characters, each of which has a chunk of its own. A group here has 16 chunks and a page 32 groups at most: 1,200 ranges
 // stand in pages of 32, 32 and 11 groups, of which the second begins with range 513 and the third with range 1025.
-use crate::numbered::{Numbered, described};
+use crate::numbered::{Copied, Numbered, is_among, mapped};
 use change_desc::Section;
 use range_set::{RangeRef, RangeSet, Ranged};
 use std::alloc::{AllocError, Global};
@@ -14,9 +14,6 @@ const LEN: u32 = 360_000;
 
 /// The number of a range that is added.
 const ADDED: u32 = 5_000;
-
-/// The first and the last number of ranges that may be copied, twice.
-type Copied = [(u32, u32); 2];
 
 const STILL: Copied = [(0, 0), (0, 0)];
 
@@ -37,12 +34,6 @@ fn value(number: u32, may_be_copied: bool, is_point: bool) -> Numbered {
         most,
         is_point,
     }
-}
-
-fn is_among(copied: &Copied, number: u32) -> bool {
-    copied
-        .iter()
-        .any(|(first, last)| *first <= number && number <= *last)
 }
 
 /// The ranges, of which the two with the numbers `points` stand for what they cover.
@@ -107,19 +98,6 @@ fn has_rows(set: &RangeSet<Numbered>, rows: &[Row]) -> bool {
         count = count.wrapping_add(1);
     }
     count == count_of(rows)
-}
-
-/// A set mapped over changes: `None` where it can't be, or out of memory.
-fn mapped(
-    alloc: Global,
-    set: &RangeSet<Numbered>,
-    sections: &[Section<u32>],
-) -> Result<Option<RangeSet<Numbered>>, AllocError> {
-    let changes = described(alloc, sections)?;
-    if !set.ends_within(changes.len()) {
-        return Ok(None);
-    }
-    Ok(set.map(&changes).ok())
 }
 
 /// The ranges mapped over changes, one after another.
