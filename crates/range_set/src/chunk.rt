@@ -67,14 +67,17 @@ impl<T: RangeValue> Chunk<T> {
     }
 }
 
-/// Whether a range of `len` characters doesn't share a chunk with some ranges, since it or the first of them is too long for that.
-pub(crate) fn stands_alone<T>(ranges: &[Ranged<T>], len: u32) -> bool
-    ensures { ranges.now ≡ [] → result ≡ false }
-{
+/// Whether ranges share no chunk with others, since the first of them is too long for that. No contract speaks of this: it only
+/// decides which chunks are shared.
+pub(crate) fn stands_alone<T>(ranges: &[Ranged<T>]) -> bool {
     match ranges.first() {
-        Some(first) => {
-            len > MAX_SHARED_LEN || first.to.saturating_sub(first.from) > MAX_SHARED_LEN
-        }
+        Some(first) => is_long(first),
         None => false,
     }
+}
+
+/// Whether a range shares no chunk with others, since it is longer than `MAX_SHARED_LEN`. No contract speaks of this: it only
+/// decides where chunks are cut.
+pub(crate) fn is_long<T>(range: &Ranged<T>) -> bool {
+    range.to.saturating_sub(range.from) > MAX_SHARED_LEN
 }

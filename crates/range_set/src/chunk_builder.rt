@@ -4,7 +4,7 @@ ghost use Rattle.change_desc.specs.Meeting.{BeginAfter, EndsAtOrAfter};
 ghost use Rattle.range_set.specs.PrivateChunks.{FitCarriedChunks, AreChunks, AreChunksShared, Ascend, IsChunk, flat, move, shift};
 ghost use Rattle.range_set.specs.PrivateBuilders.{IsBuilder, built};
 
-use crate::chunk::{Chunk, FEW_RANGES, MAX_RANGES, MAX_SHARED_LEN, Placed};
+use crate::chunk::{Chunk, FEW_RANGES, MAX_RANGES, Placed, is_long};
 use crate::parts::{part_len, trim};
 use crate::range_value::RangeValue;
 use crate::ranged::Ranged;
@@ -133,7 +133,8 @@ impl<T: RangeValue> ChunkBuilder<T> {
 }
 
 /// How many of some ranges come into the first part where they are cut: all, where they make one chunk. They do where they are one
-/// range, or at most `MAX_RANGES` of which none is longer than `MAX_SHARED_LEN`.
+/// range, or at most `MAX_RANGES` of which none is longer than `MAX_SHARED_LEN`. Where at most `MAX_RANGES` and `FEW_RANGES` are left,
+/// those before the first longer one do, or it alone where it stands first; else as many as `part_len` says.
 fn chunk_len<T>(ranges: &[Ranged<T>]) -> usize
     ensures some { 1 ≤ length ranges.now → 1 ≤ result }
     ensures within { result ≤ length ranges.now }
@@ -155,7 +156,7 @@ fn short_len<T>(ranges: &[Ranged<T>]) -> usize
 {
     let mut count = 0;
     for range in ranges {
-        if range.to.saturating_sub(range.from) > MAX_SHARED_LEN {
+        if is_long(range) {
             return count;
         }
         count += 1;

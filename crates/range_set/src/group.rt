@@ -5,9 +5,6 @@ use crate::chunk::Placed;
 use crate::range_value::RangeValue;
 use std::rc::Rc;
 
-/// The greatest number of chunks of a group that contracts allow.
-pub(crate) const MAX_CHUNKS: usize = 64;
-
 /// How many chunks make a group full in a small set.
 const MIN_FULL: usize = 16;
 

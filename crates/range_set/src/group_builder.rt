@@ -9,7 +9,7 @@ use crate::chunk::Placed;
 use crate::group::{Group, PlacedGroup, few_of, full_among, full_for};
 use crate::group_cursor::GroupCursor;
 use crate::group_list::GroupList;
-use crate::page::{Page, PlacedPage};
+use crate::page::Page;
 use crate::page_builder::PageBuilder;
 use crate::parts::{part_len, trim};
 use crate::range_value::RangeValue;
@@ -22,7 +22,7 @@ use std::rc::Rc;
 pub(crate) struct GroupBuilder<T: RangeValue> {
     pub(crate) done: PageBuilder<T>,
     pub(crate) len: usize,
-    /// How many chunks make a group full. No contract speaks of it: it only decides where groups are cut.
+    /// How many chunks make a group full, from 1 to 64. Beyond that it only decides where groups are cut.
     pub(crate) full: usize,
 }
 
@@ -260,7 +260,7 @@ impl<T: RangeValue> GroupBuilder<T> {
     }
 
     /// The groups of all ranges, and how many ranges there are. `Err`: out of memory.
-    pub(crate) fn finish(mut self) -> Result<(GroupList<T>, usize), AllocError>
+    pub(crate) fn finish(self) -> Result<(GroupList<T>, usize), AllocError>
         requires { IsGroupBuilder T.rules self }
         ensures groups { IfOk result (λ made. AreGroupsOf T.rules made.0 made.1) }
         ensures ranges { IfOk result (λ made. spread made.0 ≡ grouped self) }

@@ -9,6 +9,7 @@ use crate::chunk_builder::ChunkBuilder;
 use crate::group::{Group, joined_of};
 use crate::group_builder::GroupBuilder;
 use crate::group_list::GroupList;
+use crate::parts::reserve;
 use crate::range_value::RangeValue;
 use crate::ranged::Ranged;
 use crate::sorting::put_sorted;
@@ -46,7 +47,7 @@ impl<T: RangeValue> MappedBuilder<T> {
         ensures ranges { put_down self.new ≡ put_down self.old }
         ensures run { self.new.run ≡ self.old.run }
     {
-        self.chunks.done.reserve_exact(chunks)
+        reserve(&mut self.chunks.done, chunks)
     }
 
     /// Whether a group of so many chunks is to become one with those that stand before it and aren't in a group yet: whether there are

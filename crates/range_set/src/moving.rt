@@ -16,6 +16,7 @@ use crate::group::Group;
 use crate::group_cursor::GroupCursor;
 use crate::group_list::GroupList;
 use crate::mapped_builder::MappedBuilder;
+use crate::parts::reserve;
 use crate::range_ref::RangeRef;
 use crate::range_value::RangeValue;
 use crate::ranged::Ranged;
@@ -181,7 +182,7 @@ fn map_each<'a, T: RangeValue, L: Ledger>(
     ensures cost { mapped.new ≤ mapped.old + length chunk.now.value.ranges.items }
 {
     let alloc = *run.allocator();
-    run.reserve_exact(chunk.ranges.len())?;
+    reserve(run, chunk.ranges.len())?;
     let mut left = changed;
     for range in &chunk.ranges {
         mapped.tick();

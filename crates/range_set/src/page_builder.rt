@@ -45,11 +45,6 @@ impl<T: RangeValue> PageBuilder<T> {
         })
     }
 
-    /// What its pages take memory from.
-    pub(crate) fn alloc(&self) -> Global {
-        *self.done.allocator()
-    }
-
     /// Puts a group after the others. `Err`: out of memory.
     pub(crate) fn push(&mut self, placed: PlacedGroup<T>) -> Result<(), AllocError>
         requires group { IsGroup T.rules placed.start placed.group.value }

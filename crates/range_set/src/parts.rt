@@ -1,5 +1,7 @@
 ghost use Rattle.std.specs.Prelude.{◌≡◌, ◌≤◌};
 
+use std::alloc::AllocError;
+
 /// How many of `len` items come into the first part where they are cut into parts of about `most`: all, where they are no more than
 /// that; half of them, where they would make one such part and one of at most `few`.
 pub(crate) fn part_len(len: usize, most: usize, few: usize) -> usize
@@ -16,6 +18,17 @@ pub(crate) fn part_len(len: usize, most: usize, few: usize) -> usize
     }
     let parts = len / most;
     (parts - parts / 2) * most
+}
+
+/// Makes room for so many more items in a list: for just these, where there are none yet. `Err`: out of memory.
+pub(crate) fn reserve<T>(list: &mut Vec<T>, more: usize) -> Result<(), AllocError>
+    ensures { list.new.items ≡ list.old.items }
+{
+    if list.is_empty() {
+        list.reserve_exact(more)
+    } else {
+        list.reserve(more)
+    }
 }
 
 /// Gives back the free room of a list where half of its room or more is free.

@@ -4,7 +4,7 @@ ghost use Rattle.change_desc.specs.Sections.{counted, new_size, old_size};
 ghost use Rattle.range_set.specs.Order.{first_fault};
 ghost use Rattle.range_set.specs.Mapping.{is_turned, map_ranges, most_mapped, EndWithin};
 ghost use Rattle.range_set.specs.Points.{points_of};
-ghost use Rattle.range_set.specs.PrivateChunks.{AreChunks, AreGroups, AreGroupsOf, flat, greatest_end, shift, spread};
+ghost use Rattle.range_set.specs.PrivateChunks.{AreChunks, AreGroupsOf, flat, greatest_end, shift, spread};
 ghost use Rattle.range_set.specs.PrivatePages.{ArePages, laid};
 ghost use Rattle.range_set.specs.Seen.{seen};
 ghost use Rattle.range_set.specs.Updating.{AnswersAs, updated, overlaps};
@@ -161,8 +161,9 @@ impl<T: RangeValue> RangeSet<T> {
 
     /// The ranges and those of `add`, the old ones first where they tie (RangeSet.update without a filter). Groups of which each
     /// range begins before the first of `add`, or after the last one, are shared and not looked at further, but for one that
-    /// what is added joins; whole pages of such groups are shared as pages. `Err`: the first range of `add` that ends before it starts
-    /// or belongs before the one before it; or out of memory.
+    /// what is added joins; whole pages of such groups are shared as pages, and of the chunks of the other groups all but those among
+    /// which `add` belongs and one on either side. `Err`: the first range of `add` that ends before it starts or belongs before the
+    /// one before it; or out of memory.
     pub fn with_added(&self, add: Vec<Ranged<T>>) -> Result<RangeSet<T>, RangeError>
         ensures set { IfOk result (λ s. s ≡ updated T.rules (λ _. true) self.now add.items) }
         ensures in_order { IfOk result (λ s. first_fault T.rules add.items ≡ None) }

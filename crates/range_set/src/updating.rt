@@ -10,6 +10,7 @@ use crate::group_builder::GroupBuilder;
 use crate::group_cursor::GroupCursor;
 use crate::group_list::GroupList;
 use crate::opening::opened_by;
+use crate::parts::reserve;
 use crate::range_ref::RangeRef;
 use crate::range_value::RangeValue;
 use crate::ranged::Ranged;
@@ -212,7 +213,7 @@ fn is_joined<T: RangeValue>(
 ) -> bool {
     let is_open = !run.is_empty() && run.len() < MAX_RANGES;
     placed.chunk.ranges.len() <= FEW_RANGES
-        && !stands_alone(placed.chunk.ranges.as_slice(), 0)
+        && !stands_alone(placed.chunk.ranges.as_slice())
         && (is_open || is_within_next(added, next))
 }
 
@@ -267,7 +268,8 @@ fn keep_each<T: RangeValue, F: Fn(&RangeRef<'_, T>) -> bool>(
     ensures kept { IfOk result (λ _. (p : _) → AnswersAs F.Fn keep.now p → run.new.items ≡ run.old.items ++ filter p (map (shift placed.now.start) placed.now.chunk.value.ranges.items)) }
     ensures part { IfOk result (λ _. KeepsPart (map (shift placed.now.start) placed.now.chunk.value.ranges.items) run.old.items run.new.items) }
 {
-    run.reserve(placed.chunk.ranges.len())?;
+    // Mostly one range is added, and belongs among these or after them.
+    reserve(run, placed.chunk.ranges.len().saturating_add(1))?;
     for range in &placed.chunk.ranges {
         let range = RangeRef {
             from: range.from + placed.start,
