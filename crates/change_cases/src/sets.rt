@@ -458,3 +458,11 @@ fn a_set_is_copied(rt: HostRuntime) -> Result<(), Fail> {
     assert!(rt; set.len() == 4 && set.new_len() == 5 && set.sections().len() == 3);
     Ok(())
 }
+
+#[test]
+fn a_set_of_two_changes_is_copied(rt: HostRuntime) -> Result<(), Fail> {
+    let set = set(rt.alloc(), &[(1, 2, &['x']), (3, 3, &['y', 'z'])], 4)?;
+    assert!(rt; is_itself(rt.alloc(), &set)?);
+    assert!(rt; set.len() == 4 && set.new_len() == 6 && set.sections().len() == 5);
+    Ok(())
+}

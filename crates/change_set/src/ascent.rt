@@ -11,7 +11,7 @@ use crate::change::Change;
 use crate::change_set::ChangeSet;
 use crate::error::ChangesError;
 use crate::inserted_text::InsertedText;
-use crate::sections::push_section;
+use crate::sections::{Sections, push_section};
 use change_desc::Section;
 use smallvec::SmallVec;
 use std::alloc::{AllocError, Global};
@@ -20,7 +20,7 @@ use std::alloc::{AllocError, Global};
 /// one before. The sections go up to `end` in the document; all of it becomes `new_len` characters long.
 #[derive(Drop)]
 pub(crate) struct Ascent {
-    pub(crate) sections: SmallVec<Section<InsertedText>, 8>,
+    pub(crate) sections: Sections,
     pub(crate) end: u32,
     pub(crate) len: u32,
     pub(crate) new_len: u32,
@@ -28,7 +28,7 @@ pub(crate) struct Ascent {
 
 /// Puts after sections so many characters that are kept, and then so many that are replaced by a text.
 pub(crate) fn push_span(
-    sections: &mut SmallVec<Section<InsertedText>, 8>,
+    sections: &mut Sections,
     kept: u32,
     count: u32,
     insert: &InsertedText,

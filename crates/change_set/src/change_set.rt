@@ -24,7 +24,7 @@ use crate::half::Half;
 use crate::inserted_text::InsertedText;
 use crate::only_replace::only_replace;
 use crate::protection::joined;
-use crate::sections::{copied, measured, new_len, push_section, same_sections};
+use crate::sections::{Sections, copied, measured, new_len, push_section, same_sections};
 use crate::texts::{applied, filled, texts_between, turned, written};
 use change_desc::{Desc, Section};
 use line_tree::{Text, TextCursor};
@@ -33,10 +33,11 @@ use std::alloc::{AllocError, Global};
 use std::marker::Model;
 
 /// A set of changes over a document (Reference Manual: ChangeSet). Its sections cover the whole old document: so many
-/// characters kept, or so many replaced by a text. Lengths are in characters.
+/// characters kept, or so many replaced by a text. Lengths are in characters. Up to three sections lie in the set itself, more,
+/// and the texts, on the heap.
 #[derive(Drop)]
 pub struct ChangeSet {
-    pub(crate) sections: SmallVec<Section<InsertedText>, 8>,
+    pub(crate) sections: Sections,
 }
 
 impl Model for ChangeSet {

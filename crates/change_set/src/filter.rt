@@ -7,7 +7,7 @@ ghost use Rattle.change_set.specs.Protected.{Apart, HasEnded};
 use crate::half::Half;
 use crate::inserted_text::InsertedText;
 use crate::protection::{ended, is_inside, run_from};
-use crate::sections::push_section;
+use crate::sections::{Sections, push_section};
 use change_desc::Section;
 use line_tree::Text;
 use smallvec::SmallVec;
@@ -23,7 +23,7 @@ pub(crate) struct Filter<'a> {
 
 /// Puts a run of deleted characters after what is done of a half: their deletion with a text, or characters that are kept.
 fn push_run(
-    done: &mut SmallVec<Section<InsertedText>, 8>,
+    done: &mut Sections,
     is_taken: bool,
     count: u32,
     text: InsertedText,
@@ -44,7 +44,7 @@ fn push_run(
 /// put. So many ranges end at or before the first place; the answer is how many end at or before the second.
 fn push_runs(
     alloc: Global,
-    done: &mut SmallVec<Section<InsertedText>, 8>,
+    done: &mut Sections,
     by: Filter,
     known: usize,
     from: u32,
@@ -76,7 +76,7 @@ fn push_runs(
 /// end at or before the section; the answer is how many end at or before its end.
 fn push_deletion(
     alloc: Global,
-    done: &mut SmallVec<Section<InsertedText>, 8>,
+    done: &mut Sections,
     by: Filter,
     known: usize,
     at: u32,
@@ -106,7 +106,7 @@ fn push_deletion(
 /// many end at or before its end.
 fn push_filtered(
     alloc: Global,
-    done: &mut SmallVec<Section<InsertedText>, 8>,
+    done: &mut Sections,
     by: Filter,
     known: usize,
     at: u32,
@@ -148,7 +148,7 @@ pub(crate) fn filtered(
     ranges: &[(u32, u32)],
     len: u32,
     sections: &[Section<InsertedText>],
-) -> Result<SmallVec<Section<InsertedText>, 8>, AllocError>
+) -> Result<Sections, AllocError>
     requires apart { Apart 0 ranges.now }
     requires len { old_size sections.now ≡ len }
     requires room { HasRoom (half_from (taking half ranges.now len) [] 0 sections.now) }

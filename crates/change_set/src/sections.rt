@@ -7,6 +7,9 @@ use change_desc::Section;
 use smallvec::SmallVec;
 use std::alloc::AllocError;
 
+/// Sections of which three lie in the value itself, the most that one change makes; more lie on the heap.
+pub(crate) type Sections = SmallVec<Section<InsertedText>, 3>;
+
 /// How many characters a section gives to the new document.
 pub(crate) fn new_len(section: &Section<InsertedText>) -> u32
     ensures { result ≡ new_of spelled section.now }
@@ -129,7 +132,7 @@ fn joined(
 
 /// Puts a section after others in normal form.
 pub(crate) fn push_section(
-    sections: &mut SmallVec<Section<InsertedText>, 8>,
+    sections: &mut Sections,
     section: Section<InsertedText>,
 ) -> Result<(), AllocError>
     requires is_normal { normal spelled sections.old.items ≡ sections.old.items }

@@ -5,6 +5,7 @@ ghost use Rattle.change_set.specs.Walks.{given_by, turned_at};
 
 use crate::inserted_text::InsertedText;
 use crate::place::Place;
+use crate::sections::Sections;
 use change_desc::Section;
 use line_tree::{Text, TextBuilder, TextCursor};
 use smallvec::SmallVec;
@@ -39,7 +40,7 @@ pub(crate) fn filled(
     alloc: Global,
     lengths: &[Section<u32>],
     text: &Text,
-) -> Result<SmallVec<Section<InsertedText>, 8>, AllocError>
+) -> Result<Sections, AllocError>
     requires { text_total lengths.now ≡ length text.now.characters }
     ensures { IfOk result (λ sections. sections.items ≡ filled lengths.now text.now.characters) }
 {

@@ -60,9 +60,12 @@ fn is_its_copy(selection: &Selection) -> Result<bool, AllocError> {
 
 #[test]
 fn a_selection_is_copied_and_cut(rt: HostRuntime) -> Result<(), Fail> {
-    let selection = created(rt.alloc(), &[(0, 1), (3, 4)], 1)?;
-    assert!(rt; single_is(&selection, 3, 4)?);
-    assert!(rt; is_its_copy(&selection)?);
+    let cases: [&[(u32, u32)]; 3] = [&[(3, 4)], &[(0, 1), (3, 4)], &[(0, 1), (3, 4), (6, 6)]];
+    for ranges in cases {
+        let selection = created(rt.alloc(), ranges, ranges.len() / 2)?;
+        assert!(rt; single_is(&selection, 3, 4)?);
+        assert!(rt; is_its_copy(&selection)?);
+    }
     Ok(())
 }
 

@@ -1,11 +1,11 @@
 -- The normal form covers the places that its ranges cover, and its main range those of the given main range.
-use Rattle.std.proofs.Common.{◌≡◌, ℕ, zero, suc, ◌+◌, ◌≤◌, ◌<◌, max, Bool, true, false, ◌&&◌, ◌||◌, cond, eqb, leb, ltb, List, [], ◌∷◌, map, length, take, drop, refl, sym, ap, subst, ◌∙◌, arith}
+use Rattle.std.proofs.Common.{◌≡◌, ℕ, zero, suc, ◌+◌, ◌≤◌, ◌<◌, max, Bool, true, false, ◌&&◌, ◌||◌, cond, eqb, leb, ltb, List, [], ◌∷◌, map, length, refl, sym, ap, subst, ◌∙◌, arith}
 use Rattle.std.proofs.lemmas.Bool.Decides.{nat_tests}
 use Rattle.std.specs.List.{list_any}
 use Rattle.selection.specs.declared.range.Range.{Range}
 use Rattle.selection.specs.declared.marked.Marked.{Marked}
 use Rattle.stable_order.specs.StableSort.{insert_by, stable_sort}
-use Rattle.stable_order.proofs.StableSort.{NoneBelow, Rises, Rises-stable_sort, list_any-stable_sort}
+use Rattle.stable_order.proofs.StableSort.{Rises, Rises-stable_sort, list_any-stable_sort}
 use Rattle.selection.specs.Ranges.{low, high, covers, meet, joined_range}
 use Rattle.selection.specs.Selections.{all_joined, begins_before, is_covered, is_covered_at, joined, joined_from, main_of, marked_from, normal_form, range_of}
 use Rattle.selection.proofs.Normals.{has_main, high-joined, low-joined, low_high, normal-has_main, ranges-marked}

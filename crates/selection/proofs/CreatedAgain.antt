@@ -1,9 +1,9 @@
 -- A selection in normal form is its own normal form.
-use Rattle.std.proofs.Common.{◌≡◌, ℕ, zero, suc, ◌+◌, ◌≤◌, ◌<◌, Bool, true, false, not, ◌&&◌, ◌||◌, eqb, ltb, List, [], ◌∷◌, map, length, refl, sym, ap, ◌∙◌, arith}
+use Rattle.std.proofs.Common.{◌≡◌, ℕ, zero, suc, ◌+◌, ◌≤◌, ◌<◌, true, false, not, eqb, ltb, List, [], ◌∷◌, map, length, refl, sym, ap, ◌∙◌, arith}
 use Rattle.std.proofs.lemmas.Bool.Decides.{nat_tests}
 use Rattle.selection.specs.declared.range.Range.{Range}
 use Rattle.selection.specs.declared.marked.Marked.{Marked}
-use Rattle.selection.specs.Ranges.{low, high, is_empty, meet}
+use Rattle.selection.specs.Ranges.{low, meet}
 use Rattle.selection.specs.Selections.{IsSelection, SelectionView, all_joined, are_apart, begins_before, joined_from, main_of, marked_from, normal_form, range_of, selection_of}
 use Rattle.selection.proofs.Apart.{and_left, apart_rest, high_before, not_true}
 use Rattle.selection.proofs.Normals.{ranges-marked}

@@ -1,7 +1,8 @@
 ghost use Rattle.std.specs.Prelude.{IfOk, [], length, map, ◌++◌, ◌∷◌, ◌≡◌};
 ghost use Rattle.selection.specs.Selections.{all_joined, joined, main_of, marked_from, range_of};
 
-use crate::range::Range;
+use crate::range::{Range, Ranges};
+use smallvec::SmallVec;
 use stable_order::Ranked;
 use std::alloc::{AllocError, Global};
 use std::cmp::Ordering;
@@ -81,10 +82,10 @@ pub(crate) fn join_all(alloc: Global, ranges: &[Marked]) -> Result<Vec<Marked>, 
 }
 
 /// The ranges alone.
-pub(crate) fn ranges_of(alloc: Global, marks: &[Marked]) -> Result<Vec<Range>, AllocError>
+pub(crate) fn ranges_of(alloc: Global, marks: &[Marked]) -> Result<Ranges, AllocError>
     ensures { IfOk result (λ ranges. ranges.items ≡ map range_of marks.now) }
 {
-    let mut ranges = Vec::new(alloc);
+    let mut ranges = SmallVec::new(alloc);
     for mark in marks {
         ranges.push(mark.range)?;
     }

@@ -3,14 +3,19 @@ ghost use Rattle.change_desc.specs.Sections.{old_size};
 ghost use Rattle.selection.specs.Ranges.{high, is_backward, is_empty, low, meet, moved_range, ordered_range, joined_range};
 
 use change_desc::PositionWalker;
+use smallvec::SmallVec;
 
 /// A range of a selection, from where it began to where it ends now (Reference Manual, SelectionRange). Both are positions in
-/// a document, in characters; the head may lie before the anchor, and an empty range is a cursor.
-#[derive(Clone, Copy, PartialEq, Eq, Debug, Drop)]
+/// a document, in characters; the head may lie before the anchor, and an empty range is a cursor. The default, a cursor at 0,
+/// fills the unused places of a small vector.
+#[derive(Clone, Copy, PartialEq, Eq, Debug, Drop, Default)]
 pub struct Range {
     pub anchor: u32,
     pub head: u32,
 }
+
+/// Ranges of which two lie in the value itself; more lie on the heap.
+pub(crate) type Ranges = SmallVec<Range, 2>;
 
 impl Range {
     /// Its lesser end.

@@ -5,18 +5,27 @@ ghost use Rattle.selection.specs.Selections.{IsSelection, LieIn, SelectionView, 
 
 use crate::error::SelectionError;
 use crate::marked::{join_all, main_of, ranges_of, with_main};
-use crate::range::Range;
+use crate::range::{Range, Ranges};
 use change_desc::{Desc, PositionWalker};
+use smallvec::SmallVec;
 use stable_order::sort_stably;
 use std::alloc::{AllocError, Global};
 use std::marker::Model;
 
 /// A selection of a document: at least one range, in normal form, of which one is the main one (Reference Manual,
-/// EditorSelection). Its ranges stand in order, and no two overlap, or touch where one is empty.
-#[derive(Drop)]
+/// EditorSelection). Its ranges stand in order, and no two overlap, or touch where one is empty. Up to two ranges lie in
+/// the selection itself, more on the heap.
 pub struct Selection {
-    ranges: Vec<Range>,
+    ranges: Ranges,
     main: usize,
+}
+
+// Written by hand for proofs alone: those of what drops a selection then don't go into how its ranges are kept.
+impl Drop for Selection {
+    fn drop(self) {
+        let Selection { ranges, main: _ } = self;
+        drop(ranges);
+    }
 }
 
 impl Model for Selection {
@@ -73,7 +82,7 @@ impl Selection {
     pub fn single(alloc: Global, anchor: u32, head: u32) -> Result<Selection, AllocError>
         ensures { IfOk result (λ selection. selection ≡ record { ranges = record { anchor = anchor; head = head } ∷ []; main = 0 }) }
     {
-        let mut ranges = Vec::new(alloc);
+        let mut ranges = SmallVec::new(alloc);
         ranges.push(Range { anchor, head })?;
         Ok(Selection { ranges, main: 0 })
     }
@@ -105,7 +114,7 @@ impl Selection {
         ensures selection { IfOk result (λ selection. selection ≡ single_of self.now) }
         ensures inside { IfOk result (λ selection. (len : ℕ) → LieIn len self.now.ranges → LieIn len selection.ranges) }
     {
-        let mut ranges = Vec::new(*self.ranges.allocator());
+        let mut ranges = SmallVec::new(*self.ranges.allocator());
         ranges.push(self.main())?;
         Ok(Selection { ranges, main: 0 })
     }
@@ -155,8 +164,7 @@ impl Selection {
     pub fn try_copy(&self) -> Result<Selection, AllocError>
         ensures { IfOk result (λ copy. copy ≡ self.now) }
     {
-        let mut ranges = Vec::new(*self.ranges.allocator());
-        ranges.extend_from_slice(&self.ranges)?;
+        let ranges = SmallVec::from_slice(*self.ranges.allocator(), &self.ranges)?;
         Ok(Selection {
             ranges,
             main: self.main,
@@ -181,12 +189,12 @@ fn same_ranges(left: &[Range], right: &[Range]) -> bool
 
 /// The ranges, which stand in order, after changes to their document. Both of their ends are mapped in one pass over the
 /// changes.
-fn moved_ranges(alloc: Global, ranges: &[Range], changes: &Desc) -> Result<Vec<Range>, AllocError>
+fn moved_ranges(alloc: Global, ranges: &[Range], changes: &Desc) -> Result<Ranges, AllocError>
     requires inside { LieIn (old_size changes.now) ranges.now }
     requires apart { are_apart ranges.now ≡ true }
     ensures { IfOk result (λ moved. moved.items ≡ map (moved_range changes.now) ranges.now) }
 {
-    let mut moved = Vec::new(alloc);
+    let mut moved = SmallVec::with_capacity(alloc, ranges.len())?;
     let mut walker = PositionWalker::new(changes);
     for range in ranges {
         moved.push(range.map(&mut walker))?;

@@ -1,4 +1,4 @@
-use Rattle.std.proofs.Common.{ℕ, ◌+◌, List, get_or, drop, sym, ap, subst, ◌∙◌, arith}
+use Rattle.std.proofs.Common.{ℕ, ◌+◌, List, get_or, drop, sym, ap, subst, ◌∙◌}
 use Rattle.change_desc.specs.declared.section.Section.{Section}
 use Rattle.change_desc.specs.Walker.{Walk}
 use Rattle.selection.specs.declared.range.Range.{Range}
@@ -14,7 +14,7 @@ loop-range-preserved c =
     let before = c.loop-range.invariant in
     let moved = c.map.ensures.value ∙ ap (λ (d : List (Section ℕ)). moved_range d (get_or rs i first)) before.over in
     record {
-      moved = moved_more (moved_range c.args.changes.now) rs c.loop-range.moved.items c.push.new.self.items i first c.map.result c.loop-range-test.true before.moved moved c.in_ok-push.ensures.items;
+      moved = moved_more (moved_range c.args.changes.now) rs c.loop-range.moved.items c.push.new.self.items i first c.map.result c.loop-range-test.true before.moved moved c.in_ok-push.ensures.ok;
       inside = inside_at _ i rs c.loop-range-test.true before.inside;
       over = ap (λ (w : Walk). w.desc) c.map.ensures.walk ∙ before.over;
       follow = subst (λ (w : Walk). Follow w.reached (drop (i + 1) rs)) (sym c.map.ensures.walk)
@@ -23,7 +23,7 @@ loop-range-preserved c =
 
 pub loop-range-init : goal.loop-range-init
 loop-range-init c = record {
-  moved = c.new-moved.ensures.items;
+  moved = c.in_ok-moved.ensures.items;
   inside = c.requires.inside;
   over = ap (λ (w : Walk). w.desc) c.new-walker.ensures;
   follow = rw c.new-walker.ensures (follow_all c.args.ranges.now c.requires.apart);

@@ -1,5 +1,5 @@
-use Rattle.std.proofs.Common.{◌≡◌, sym, subst, ◌∙◌, arith}
-use Rattle.selection.specs.Selections.{SelectionView, is_covered, is_covered_at}
+use Rattle.std.proofs.Common.{◌∙◌, arith}
+use Rattle.selection.specs.Selections.{SelectionView}
 use Rattle.selection.proofs.Covered.{normal-covered, normal-main}
 use Rattle.selection.proofs.CreatedAgain.{created_again}
 use Rattle.selection.proofs.selection.Selection.create.Goals as goal

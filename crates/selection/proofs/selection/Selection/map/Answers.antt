@@ -10,15 +10,15 @@ pub returns-clause-inside : goal.returns-clause-inside
 returns-clause-inside c =
     let n = new_size counted c.args.changes.now in
     IfOk-weaker c.normal.result (λ s. (len : ℕ) → LieIn len c.deref-2.result.now → LieIn len s.ranges) (λ s. LieIn n s.ranges)
-    (λ s h. h n (subst (LieIn n) (sym (c.deref-2.ensures.value ∙ c.in_ok-moved.ensures)) (all_moved-inside c.args.changes.now c.deref.result.now)))
+    (λ s h. h n (subst (LieIn n) (sym (c.deref-2.ensures ∙ c.in_ok-moved.ensures)) (all_moved-inside c.args.changes.now c.deref.result.now)))
     c.normal.ensures.inside
 
 pub invariant_of-result : goal.invariant_of-result
-invariant_of-result c = alone-is_selection c.in_ok-moved.moved.items (sym c.in_ok-moved.moved.ok.0 ∙ sym c.len.ensures ∙ c.if-len-eq1.true)
+invariant_of-result c = alone-is_selection c.in_ok-moved.moved.items (sym c.len.ensures.value ∙ c.if-len-eq1.true)
 
 pub returns-then-len-eq1-clause-selection : goal.returns-then-len-eq1-clause-selection
 returns-then-len-eq1-clause-selection c =
-    alone-moved c.args.changes.now c.args.self.now c.deref.result.now c.in_ok-moved.moved.items (subst IsSelection c.self.view_is c.self.invariant) (c.deref.ensures.value ∙ ap (λ (s : SelectionView). s.ranges) c.self.view_is) c.in_ok-moved.ensures (sym c.in_ok-moved.moved.ok.0 ∙ sym c.len.ensures ∙ c.if-len-eq1.true)
+    alone-moved c.args.changes.now c.args.self.now c.deref.result.now c.in_ok-moved.moved.items (subst IsSelection c.self.view_is c.self.invariant) (c.deref.ensures ∙ ap (λ (s : SelectionView). s.ranges) c.self.view_is) c.in_ok-moved.ensures (sym c.len.ensures.value ∙ c.if-len-eq1.true)
 
 pub returns-then-len-eq1-clause-inside : goal.returns-then-len-eq1-clause-inside
 returns-then-len-eq1-clause-inside c =
