@@ -137,7 +137,7 @@ fn layers_come_back(alloc: Global) -> Result<bool, AllocError> {
 }
 
 fn history_comes_back(alloc: Global) -> Result<bool, AllocError> {
-    let given = History::empty(alloc);
+    let given = History::empty(alloc)?;
     let found = back(alloc, &given)?;
     Ok(found.same(&given))
 }
@@ -214,7 +214,7 @@ fn gets_history(
 fn has_history(alloc: Global, is_kept: bool) -> Result<bool, Fail> {
     let key = history_key(alloc)?;
     let kept = if is_kept {
-        Some(History::empty(alloc))
+        Some(History::empty(alloc)?)
     } else {
         None
     };

@@ -52,7 +52,7 @@ pub(crate) fn started(
     Ok(Player {
         document: text(alloc, characters)?,
         selection: Selection::single(alloc, selected.0, selected.1)?,
-        history: History::empty(alloc),
+        history: History::empty(alloc)?,
     })
 }
 

@@ -1,9 +1,9 @@
 -- What each step leaves of a history is one that leads from the new document.
-use Rattle.std.proofs.Common.{◌≡◌, ℕ, ◌≤◌, Bool, true, false, cond, ℤ, pos, List, [], ◌∷◌, drop, length, Option, None, refl, sym, subst, ap, ◌∙◌}
-use Rattle.std.specs.Prelude.{◌&&◌, ◌==◌, is_some, ◌||◌}
+use Rattle.std.proofs.Common.{◌≡◌, ℕ, Bool, true, false, cond, ℤ, pos, List, ◌∷◌, drop, length, None, refl, sym, subst, ◌∙◌}
+use Rattle.std.specs.Prelude.{◌&&◌, ◌==◌}
 use Rattle.std.proofs.lemmas.Bool.{and_parts, and_from}
 use Rattle.change_desc.specs.declared.section.Section.{Section}
-use Rattle.change_desc.specs.Sections.{spelled, lengths, old_size, new_size}
+use Rattle.change_desc.specs.Sections.{spelled, lengths, new_size}
 use Rattle.change_desc.specs.Ranges.{changes_nothing}
 use Rattle.change_desc.proofs.Merges.{old_size-lengths, new_size-lengths}
 use Rattle.history.specs.declared.case.Case.{Case}
@@ -14,12 +14,12 @@ use Rattle.history.specs.declared.group.Group.{Group}
 use Rattle.history.specs.declared.group.Group.TheVariants.{Closed}
 use Rattle.history.specs.declared.lists.Lists.{Lists}
 use Rattle.history.specs.declared.step_input.StepInput.{StepInput}
-use Rattle.history.specs.Histories.{AreItems, IsHistory, LeadOn, empty, leads, leads_from}
+use Rattle.history.specs.Histories.{IsHistory, LeadOn, empty, leads, leads_from}
 use Rattle.history.specs.Items.{begins_with_change, begins_with_select, keep_changes, keep_selects, most_selects}
 use Rattle.history.specs.Joining.{joins}
 use Rattle.history.specs.Moving.{items_over}
-use Rattle.history.specs.Selecting.{is_false, makes_select, with_left}
-use Rattle.history.specs.Steps.{IsStep, case_of, cut_to, goes_over, in_case, is_from, is_idle_step, is_newest, joined_to, kept_count, start_of, step, way_back}
+use Rattle.history.specs.Selecting.{makes_select, with_left}
+use Rattle.history.specs.Steps.{IsStep, case_of, cut_to, goes_over, in_case, is_from, is_newest, joined_to, kept_count, step, way_back}
 use Rattle.history.proofs.Leading.{joined-leads, keep_changes-leads, keep_selects-leads, leading, led, older-leads, rest-leads, way_back-leads, with_left-leads}
 use Rattle.history.proofs.Moved.{items_over-leads, nothing-sizes}
 

@@ -1,6 +1,6 @@
 -- Where the items of a list lead.
-use Rattle.std.proofs.Common.{◌≡◌, ℕ, zero, suc, ◌+◌, ◌≤◌, Bool, true, false, cond, List, [], ◌∷◌, take, drop, length, Option, Some, None, refl, sym, ap, subst, ◌∙◌, arith, length-take-le, length-drop}
-use Rattle.std.specs.Prelude.{is_none, ltb, ◌&&◌}
+use Rattle.std.proofs.Common.{◌≡◌, ℕ, zero, suc, ◌+◌, ◌≤◌, Bool, true, false, cond, List, [], ◌∷◌, drop, length, Some, refl, sym, ap, subst, ◌∙◌, arith, length-take-le, length-drop}
+use Rattle.std.specs.Prelude.{is_none, ltb}
 use Rattle.std.proofs.lemmas.Bool.{eqb-true, eq-eqb, and_parts, and_from, ltb-false, le-ltb}
 use Rattle.line_tree.specs.Text.{max_len}
 use Rattle.change_desc.specs.declared.section.Section.{Section}

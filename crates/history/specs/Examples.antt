@@ -1,5 +1,5 @@
 -- Worked examples of the definitions on short texts, each by computation. 97 is 'a', 98 is 'b'.
-use Rattle.std.specs.Prelude.{◌≡◌, ℕ, true, false, ℤ, pos, List, [], ◌∷◌, length, Some, None, option_map, refl}
+use Rattle.std.specs.Prelude.{◌≡◌, ℕ, false, ℤ, pos, List, [], ◌∷◌, length, Some, None, option_map, refl}
 use Rattle.change_desc.specs.declared.section.Section.{Section}
 use Rattle.change_desc.specs.Sections.{spelled}
 use Rattle.change_desc.specs.Of.{span}

@@ -13,6 +13,7 @@ use crate::restore::{Restore, restored_change, restored_item};
 use crate::step_input::StepInput;
 use std::alloc::{AllocError, Global};
 use std::marker::Model;
+use std::rc::Rc;
 
 /// What can be undone and what can be done again in a document, each newest first (Reference Manual, history): changes with
 /// their effects, and selections that were left. The newest changes that can be undone, which are also called a group, are open
@@ -20,7 +21,7 @@ use std::marker::Model;
 /// allocator.
 #[derive(Drop)]
 pub struct History {
-    lists: Lists,
+    lists: Rc<Lists>,
     alloc: Global,
 }
 
@@ -35,20 +36,20 @@ impl Model for History {
 
     ghost use Rattle.history.specs.Histories.{IsHistory};
 
-    ghost view = { λ h. h.lists };
+    ghost view = { λ h. h.lists.value };
 
-    ghost invariant = { λ h. IsHistory h.lists };
+    ghost invariant = { λ h. IsHistory h.lists.value };
 }
 
 impl History {
-    /// The history without items.
-    pub fn empty(alloc: Global) -> History
-        ensures { result ≡ empty }
+    /// The history without items. `Err`: out of memory.
+    pub fn empty(alloc: Global) -> Result<History, AllocError>
+        ensures { IfOk result (λ h. h ≡ empty) }
     {
-        History {
-            lists: Lists::empty(),
+        Ok(History {
+            lists: Rc::new(alloc, Lists::empty())?,
             alloc,
-        }
+        })
     }
 
     /// How many Changes can be undone, and how many can be done again (Reference Manual, undoDepth, redoDepth).
@@ -121,12 +122,12 @@ impl History {
         self.lists.same(&other.lists)
     }
 
-    /// The same history once more, without a copy of its items. `Err`: out of memory.
+    /// The same history once more, which shares its lists. `Err`: no further owner can be counted.
     pub fn try_copy(&self) -> Result<History, AllocError>
         ensures { IfOk result (λ copy. copy ≡ self.now) }
     {
         Ok(History {
-            lists: self.lists.shared()?,
+            lists: self.lists.clone()?,
             alloc: self.alloc,
         })
     }
@@ -149,7 +150,7 @@ impl History {
         if self.leads_from(input.document.len()) {
             return self.next(input);
         }
-        let start = History::empty(self.alloc);
+        let start = History::empty(self.alloc)?;
         start.next(input)
     }
 
@@ -159,9 +160,11 @@ impl History {
         requires leads { IsTrue (leads_from (length input.now.document.characters) self.now) }
         ensures { IfOk result (λ next. next ≡ cut_to input.now.min_depth (in_case (case_of self.now input.now) self.now input.now)) }
     {
-        let case = self.lists.case_of(input);
-        let next = self.lists.in_case(self.alloc, case, input)?;
+        let old: &Lists = &self.lists;
+        let case = old.case_of(input);
+        let next = old.in_case(self.alloc, case, input)?;
         let lists = next.cut(self.alloc, input.min_depth)?;
+        let lists = Rc::new(self.alloc, lists)?;
         Ok(History {
             lists,
             alloc: self.alloc,

@@ -58,17 +58,6 @@ impl Lists {
         self.group == other.group && self.done.same(&other.done) && self.undone.same(&other.undone)
     }
 
-    /// The same lists, whose items are shared.
-    pub(crate) fn shared(&self) -> Result<Lists, AllocError>
-        ensures { IfOk result (λ copy. copy ≡ self.now) }
-    {
-        Ok(Lists {
-            done: self.done.share()?,
-            undone: self.undone.share()?,
-            group: self.group,
-        })
-    }
-
     /// Which case a step is.
     pub(crate) fn case_of(&self, input: &StepInput) -> Case
         ensures { result ≡ case_of self.now input.now }

@@ -220,7 +220,7 @@ fn an_undo_gives_back_a_selection_and_an_effect(rt: HostRuntime) -> Result<(), F
 
 /// Whether an act restores something at first.
 fn restores_at_first(alloc: Global, act: Act) -> Result<bool, AllocError> {
-    let history = History::empty(alloc);
+    let history = History::empty(alloc)?;
     Ok(restored(&history, act)?.is_some())
 }
 
@@ -423,7 +423,7 @@ fn each_item_that_is_kept_is_undone(rt: HostRuntime) -> Result<(), Fail> {
 fn is_copied(alloc: Global) -> Result<bool, Fail> {
     let history = moved(alloc)?;
     let copy = history.try_copy()?;
-    Ok(history.same(&copy) && !history.same(&History::empty(alloc)))
+    Ok(history.same(&copy) && !history.same(&History::empty(alloc)?))
 }
 
 #[test]

@@ -142,7 +142,7 @@ pub(crate) fn acted(
 /// A document of these characters and without a history.
 fn start(alloc: Global, characters: &[char]) -> Result<Scene, Fail> {
     Ok(Scene {
-        history: History::empty(alloc),
+        history: History::empty(alloc)?,
         document: text(alloc, characters)?,
         selected: (0, 0),
         told: None,

@@ -19,7 +19,7 @@ pub fn create(alloc: Global, number: u32, deps: &Deps) -> Result<Val, AllocError
         3 => Ok(document_length(deps)),
         4 => Ok(empty_list(alloc)),
         5 => Ok(Val::Ranges(RangeSet::empty(alloc))),
-        6 => Ok(Val::History(History::empty(alloc))),
+        6 => Ok(Val::History(History::empty(alloc)?)),
         7 => first_plain(alloc, deps),
         _ => first_plain(alloc, deps),
     }

@@ -132,7 +132,7 @@ pub(crate) fn value_of(alloc: Global, value: Made<'_>) -> Result<Val, Fail> {
         Made::Ranges(places) => Ok(Val::Ranges(marks(alloc, places)?)),
         Made::Set(decos) => Ok(Val::Ranges(set(alloc, decos)?)),
         Made::Layers(places) => Ok(Val::Layers(layers(alloc, places)?)),
-        Made::History => Ok(Val::History(History::empty(alloc))),
+        Made::History => Ok(Val::History(History::empty(alloc)?)),
         plain => Ok(Val::Plain(plain_of(alloc, plain)?)),
     }
 }

@@ -31,8 +31,8 @@ returns-clause-leads c =
     let h = c.args.self.now in
     let i = c.args.input.now in
     let e : false ≡ leads_from (length i.document.characters) h = sym c.if-leads_from.false ∙ (c.leads_from.ensures ∙ ap (λ (n : ℕ). leads_from n h) c.len.ensures) in
-    let start : c.empty-start.result ≡ empty = c.empty-start.ensures in
-    IfOk-weaker c.next-2.result (λ n. n ≡ cut_to i.min_depth (in_case (case_of c.empty-start.result i) c.empty-start.result i)) (λ n. leads_from (new_size spelled i.changes) n ≡ true)
+    let start : c.in_ok-start.start ≡ empty = c.in_ok-start.ensures in
+    IfOk-weaker c.next-2.result (λ n. n ≡ cut_to i.min_depth (in_case (case_of c.in_ok-start.start i) c.in_ok-start.start i)) (λ n. leads_from (new_size spelled i.changes) n ≡ true)
     (λ n f. step-leads i (record { starts = c.requires.starts; short = c.requires.short; new_short = c.requires.new_short; inside = c.requires.inside }) h
     (subst IsHistory c.self.view_is c.self.invariant) false e n (f ∙ ap (λ (v : Lists). cut_to i.min_depth (in_case (case_of v i) v i)) start)) c.next-2.ensures
 
@@ -41,7 +41,7 @@ returns-clause-restores c =
     let h = c.args.self.now in
     let i = c.args.input.now in
     let e : false ≡ leads_from (length i.document.characters) h = sym c.if-leads_from.false ∙ (c.leads_from.ensures ∙ ap (λ (n : ℕ). leads_from n h) c.len.ensures) in
-    let start : c.empty-start.result ≡ empty = c.empty-start.ensures in
-    IfOk-weaker c.next-2.result (λ n. n ≡ cut_to i.min_depth (in_case (case_of c.empty-start.result i) c.empty-start.result i)) (Restores (start_of h i) i)
+    let start : c.in_ok-start.start ≡ empty = c.in_ok-start.ensures in
+    IfOk-weaker c.next-2.result (λ n. n ≡ cut_to i.min_depth (in_case (case_of c.in_ok-start.start i) c.in_ok-start.start i)) (Restores (start_of h i) i)
     (λ n f. next-restores i (record { starts = c.requires.starts; short = c.requires.short; new_short = c.requires.new_short; inside = c.requires.inside }) h false e n
     (f ∙ ap (λ (v : Lists). cut_to i.min_depth (in_case (case_of v i) v i)) start)) c.next-2.ensures
