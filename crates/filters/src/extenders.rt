@@ -20,78 +20,87 @@ use transaction::{Draft, TransactionError};
 use values::{Extension, Kit, Meanings, TrView, Val};
 
 /// A draft with what an extender adds.
-fn added(draft: Draft<Val>, extension: Extension) -> Result<Draft<Val>, AllocError>
-    ensures { IfOk result (λ d. d ≡ added extension draft) }
+fn added(
+    alloc: Global,
+    draft: Box<Draft<Val>>,
+    extension: Extension,
+) -> Result<Box<Draft<Val>>, AllocError>
+    ensures { IfOk result (λ d. d.value ≡ added extension draft.value) }
 {
+    let draft = Box::into_inner(draft);
     let effects = joined(draft.effects, extension.effects)?;
     let annotations = joined(draft.annotations, extension.annotations)?;
-    Ok(Draft {
+    let draft = Draft {
         changes: draft.changes,
         selection: draft.selection,
         effects,
         annotations,
         filter: draft.filter,
-    })
+    };
+    draft.boxed(alloc)
 }
 
 /// The same, unless an effect is refused.
 fn extended_with(
+    alloc: Global,
     start: &Start<'_>,
     extension: Extension,
-    draft: Draft<Val>,
-) -> Result<Draft<Val>, TransactionError>
-    requires { StartsIn (start_of start.now) draft }
-    ensures draft { IfOk result (λ d. extended_with (start_of start.now) extension draft ≡ Ok d) }
-    ensures starts { IfOk result (λ d. StartsIn (start_of start.now) d) }
-    ensures refused { IfErr result (λ error. error ≢ TransactionError.NoMemory → extended_with (start_of start.now) extension draft ≡ Err error) }
+    draft: Box<Draft<Val>>,
+) -> Result<Box<Draft<Val>>, TransactionError>
+    requires { StartsIn (start_of start.now) draft.value }
+    ensures draft { IfOk result (λ d. extended_with (start_of start.now) extension draft.value ≡ Ok d.value) }
+    ensures starts { IfOk result (λ d. StartsIn (start_of start.now) d.value) }
+    ensures refused { IfErr result (λ error. error ≢ TransactionError.NoMemory → extended_with (start_of start.now) extension draft.value ≡ Err error) }
 {
     match unknown_in(extension.effects.as_slice(), start.kinds) {
         Some(error) => Err(error),
-        None => Ok(added(draft, extension)?),
+        None => Ok(added(alloc, draft, extension)?),
     }
 }
 
 /// What the extender of a number makes of a draft.
 fn extended_by<M: Meanings>(
+    alloc: Global,
     kit: &Kit<M>,
     facets: &FilterFacets<'_>,
     start: &Start<'_>,
     transaction: &TrView,
     number: u32,
-    draft: Draft<Val>,
-) -> Result<Draft<Val>, TransactionError>
+    draft: Box<Draft<Val>>,
+) -> Result<Box<Draft<Val>>, TransactionError>
     requires whole { IsWhole M.rules kit.now }
     requires number { IsNumber M.rules.extenders number }
     requires in_range { IsInRange facets.now.filter_data.now }
-    requires draft { StartsIn (start_of start.now) draft }
-    ensures draft { IfOk result (λ d. extended_by M.rules (facets_of facets.now) (start_of start.now) transaction.now number draft ≡ Ok d) }
-    ensures starts { IfOk result (λ d. StartsIn (start_of start.now) d) }
-    ensures refused { IfErr result (λ error. error ≢ TransactionError.NoMemory → extended_by M.rules (facets_of facets.now) (start_of start.now) transaction.now number draft ≡ Err error) }
+    requires draft { StartsIn (start_of start.now) draft.value }
+    ensures draft { IfOk result (λ d. extended_by M.rules (facets_of facets.now) (start_of start.now) transaction.now number draft.value ≡ Ok d.value) }
+    ensures starts { IfOk result (λ d. StartsIn (start_of start.now) d.value) }
+    ensures refused { IfErr result (λ error. error ≢ TransactionError.NoMemory → extended_by M.rules (facets_of facets.now) (start_of start.now) transaction.now number draft.value ≡ Err error) }
 {
     let extension = kit.extender(number).call(transaction, facets.filter_data)?;
-    extended_with(start, extension, draft)
+    extended_with(alloc, start, extension, draft)
 }
 
 /// What comes of a draft by extenders, asked one after the other.
 fn extended_in_turn<M: Meanings>(
+    alloc: Global,
     kit: &Kit<M>,
     facets: &FilterFacets<'_>,
     start: &Start<'_>,
     transaction: &TrView,
     numbers: &[u32],
-    draft: Draft<Val>,
-) -> Result<Draft<Val>, TransactionError>
+    draft: Box<Draft<Val>>,
+) -> Result<Box<Draft<Val>>, TransactionError>
     requires whole { IsWhole M.rules kit.now }
     requires numbers { All (IsNumber M.rules.extenders) numbers.now }
     requires in_range { IsInRange facets.now.filter_data.now }
-    requires draft { StartsIn (start_of start.now) draft }
-    ensures draft { IfOk result (λ d. in_turn (extended_by M.rules (facets_of facets.now) (start_of start.now) transaction.now) numbers.now draft ≡ Ok d) }
-    ensures starts { IfOk result (λ d. StartsIn (start_of start.now) d) }
-    ensures refused { IfErr result (λ error. error ≢ TransactionError.NoMemory → in_turn (extended_by M.rules (facets_of facets.now) (start_of start.now) transaction.now) numbers.now draft ≡ Err error) }
+    requires draft { StartsIn (start_of start.now) draft.value }
+    ensures draft { IfOk result (λ d. in_turn (extended_by M.rules (facets_of facets.now) (start_of start.now) transaction.now) numbers.now draft.value ≡ Ok d.value) }
+    ensures starts { IfOk result (λ d. StartsIn (start_of start.now) d.value) }
+    ensures refused { IfErr result (λ error. error ≢ TransactionError.NoMemory → in_turn (extended_by M.rules (facets_of facets.now) (start_of start.now) transaction.now) numbers.now draft.value ≡ Err error) }
 {
     let mut draft = draft;
     for number in numbers {
-        match extended_by(kit, facets, start, transaction, *number, draft) {
+        match extended_by(alloc, kit, facets, start, transaction, *number, draft) {
             Ok(next) => draft = next,
             Err(error) => return Err(error),
         }
@@ -108,15 +117,15 @@ pub fn apply_extenders<M: Meanings>(
     kit: &Kit<M>,
     facets: &FilterFacets<'_>,
     start: &Start<'_>,
-    draft: Draft<Val>,
-) -> Result<Draft<Val>, TransactionError>
+    draft: Box<Draft<Val>>,
+) -> Result<Box<Draft<Val>>, TransactionError>
     requires whole { IsWhole M.rules kit.now }
     requires facets { AreFacets M.rules (facets_of facets.now) }
     requires start { IsStart (start_of start.now) }
-    requires draft { StartsIn (start_of start.now) draft }
-    ensures draft { IfOk result (λ d. extended M.rules (facets_of facets.now) (start_of start.now) draft ≡ Ok d) }
-    ensures starts { IfOk result (λ d. StartsIn (start_of start.now) d) }
-    ensures refused { IfErr result (λ error. error ≢ TransactionError.NoMemory → extended M.rules (facets_of facets.now) (start_of start.now) draft ≡ Err error) }
+    requires draft { StartsIn (start_of start.now) draft.value }
+    ensures draft { IfOk result (λ d. extended M.rules (facets_of facets.now) (start_of start.now) draft.value ≡ Ok d.value) }
+    ensures starts { IfOk result (λ d. StartsIn (start_of start.now) d.value) }
+    ensures refused { IfErr result (λ error. error ≢ TransactionError.NoMemory → extended M.rules (facets_of facets.now) (start_of start.now) draft.value ≡ Err error) }
 {
     let numbers = lowest_first(alloc, facets.transaction_extender)?;
     if numbers.is_empty() {
@@ -124,5 +133,5 @@ pub fn apply_extenders<M: Meanings>(
     }
     facets.filter_data.known();
     let transaction = shown(alloc, start, Listed::empty(alloc), &draft)?;
-    extended_in_turn(kit, facets, start, &transaction, &numbers, draft)
+    extended_in_turn(alloc, kit, facets, start, &transaction, &numbers, draft)
 }

@@ -48,12 +48,12 @@ fn replaced<M: Meanings>(
     kit: &Kit<M>,
     start: &Start<'_>,
     specs: Vec<Spec<Val>>,
-) -> Result<Draft<Val>, TransactionError>
+) -> Result<Box<Draft<Val>>, TransactionError>
     requires whole { IsWhole M.rules kit.now }
     requires maps { HasMaps M.rules.effect_maps start.now.kinds.now.maps }
     requires start { IsStart (start_of start.now) }
-    ensures draft { IfOk result (λ d. unless (specs_refusal (length start.now.document.now.characters) start.now.max start.now.kinds.now None specs.items) (merged start.now.kinds.now M.rules.map_effect (length start.now.document.now.characters) specs.items) ≡ Ok d) }
-    ensures starts { IfOk result (λ d. StartsIn (start_of start.now) d) }
+    ensures draft { IfOk result (λ d. unless (specs_refusal (length start.now.document.now.characters) start.now.max start.now.kinds.now None specs.items) (merged start.now.kinds.now M.rules.map_effect (length start.now.document.now.characters) specs.items) ≡ Ok d.value) }
+    ensures starts { IfOk result (λ d. StartsIn (start_of start.now) d.value) }
     ensures refused { IfErr result (λ error. error ≢ TransactionError.NoMemory → unless (specs_refusal (length start.now.document.now.characters) start.now.max start.now.kinds.now None specs.items) (merged start.now.kinds.now M.rules.map_effect (length start.now.document.now.characters) specs.items) ≡ Err error) }
 {
     let frame = Frame {
@@ -62,7 +62,8 @@ fn replaced<M: Meanings>(
         kinds: start.kinds,
         maps: kit,
     };
-    resolve(alloc, specs, &frame)
+    let draft = resolve(alloc, specs, &frame)?;
+    Ok(draft.boxed(alloc)?)
 }
 
 /// What comes of a draft by an answer.
@@ -71,15 +72,15 @@ fn answered<M: Meanings>(
     kit: &Kit<M>,
     start: &Start<'_>,
     answer: Filtering,
-    draft: Draft<Val>,
-) -> Result<Draft<Val>, TransactionError>
+    draft: Box<Draft<Val>>,
+) -> Result<Box<Draft<Val>>, TransactionError>
     requires whole { IsWhole M.rules kit.now }
     requires maps { HasMaps M.rules.effect_maps start.now.kinds.now.maps }
     requires start { IsStart (start_of start.now) }
-    requires draft { StartsIn (start_of start.now) draft }
-    ensures draft { IfOk result (λ d. answered M.rules (start_of start.now) answer draft ≡ Ok d) }
-    ensures starts { IfOk result (λ d. StartsIn (start_of start.now) d) }
-    ensures refused { IfErr result (λ error. error ≢ TransactionError.NoMemory → answered M.rules (start_of start.now) answer draft ≡ Err error) }
+    requires draft { StartsIn (start_of start.now) draft.value }
+    ensures draft { IfOk result (λ d. answered M.rules (start_of start.now) answer draft.value ≡ Ok d.value) }
+    ensures starts { IfOk result (λ d. StartsIn (start_of start.now) d.value) }
+    ensures refused { IfErr result (λ error. error ≢ TransactionError.NoMemory → answered M.rules (start_of start.now) answer draft.value ≡ Err error) }
 {
     match answer {
         Filtering::Keep => Ok(draft),
@@ -95,16 +96,16 @@ fn filtered_by<M: Meanings>(
     facets: &FilterFacets<'_>,
     start: &Start<'_>,
     number: u32,
-    draft: Draft<Val>,
-) -> Result<Draft<Val>, TransactionError>
+    draft: Box<Draft<Val>>,
+) -> Result<Box<Draft<Val>>, TransactionError>
     requires whole { IsWhole M.rules kit.now }
     requires maps { HasMaps M.rules.effect_maps start.now.kinds.now.maps }
     requires number { IsNumber M.rules.transaction_filters number }
     requires start { IsStart (start_of start.now) }
-    requires draft { StartsIn (start_of start.now) draft }
-    ensures draft { IfOk result (λ d. filtered_by M.rules (facets_of facets.now) (start_of start.now) number draft ≡ Ok d) }
-    ensures starts { IfOk result (λ d. StartsIn (start_of start.now) d) }
-    ensures refused { IfErr result (λ error. error ≢ TransactionError.NoMemory → filtered_by M.rules (facets_of facets.now) (start_of start.now) number draft ≡ Err error) }
+    requires draft { StartsIn (start_of start.now) draft.value }
+    ensures draft { IfOk result (λ d. filtered_by M.rules (facets_of facets.now) (start_of start.now) number draft.value ≡ Ok d.value) }
+    ensures starts { IfOk result (λ d. StartsIn (start_of start.now) d.value) }
+    ensures refused { IfErr result (λ error. error ≢ TransactionError.NoMemory → filtered_by M.rules (facets_of facets.now) (start_of start.now) number draft.value ≡ Err error) }
 {
     let answer = answer_of(alloc, kit, facets, start, number, &draft)?;
     answered(alloc, kit, start, answer, draft)
@@ -117,16 +118,16 @@ fn filtered_in_turn<M: Meanings>(
     facets: &FilterFacets<'_>,
     start: &Start<'_>,
     numbers: &[u32],
-    draft: Draft<Val>,
-) -> Result<Draft<Val>, TransactionError>
+    draft: Box<Draft<Val>>,
+) -> Result<Box<Draft<Val>>, TransactionError>
     requires whole { IsWhole M.rules kit.now }
     requires maps { HasMaps M.rules.effect_maps start.now.kinds.now.maps }
     requires numbers { All (IsNumber M.rules.transaction_filters) numbers.now }
     requires start { IsStart (start_of start.now) }
-    requires draft { StartsIn (start_of start.now) draft }
-    ensures draft { IfOk result (λ d. in_turn (filtered_by M.rules (facets_of facets.now) (start_of start.now)) numbers.now draft ≡ Ok d) }
-    ensures starts { IfOk result (λ d. StartsIn (start_of start.now) d) }
-    ensures refused { IfErr result (λ error. error ≢ TransactionError.NoMemory → in_turn (filtered_by M.rules (facets_of facets.now) (start_of start.now)) numbers.now draft ≡ Err error) }
+    requires draft { StartsIn (start_of start.now) draft.value }
+    ensures draft { IfOk result (λ d. in_turn (filtered_by M.rules (facets_of facets.now) (start_of start.now)) numbers.now draft.value ≡ Ok d.value) }
+    ensures starts { IfOk result (λ d. StartsIn (start_of start.now) d.value) }
+    ensures refused { IfErr result (λ error. error ≢ TransactionError.NoMemory → in_turn (filtered_by M.rules (facets_of facets.now) (start_of start.now)) numbers.now draft.value ≡ Err error) }
 {
     let mut draft = draft;
     for number in numbers {
@@ -144,16 +145,16 @@ fn transaction_filtered<M: Meanings>(
     kit: &Kit<M>,
     facets: &FilterFacets<'_>,
     start: &Start<'_>,
-    draft: Draft<Val>,
-) -> Result<Draft<Val>, TransactionError>
+    draft: Box<Draft<Val>>,
+) -> Result<Box<Draft<Val>>, TransactionError>
     requires whole { IsWhole M.rules kit.now }
     requires maps { HasMaps M.rules.effect_maps start.now.kinds.now.maps }
     requires numbers { ListsNumbers M.rules.transaction_filters facets.now.transaction_filter.now }
     requires start { IsStart (start_of start.now) }
-    requires draft { StartsIn (start_of start.now) draft }
-    ensures draft { IfOk result (λ d. transaction_filtered M.rules (facets_of facets.now) (start_of start.now) draft ≡ Ok d) }
-    ensures starts { IfOk result (λ d. StartsIn (start_of start.now) d) }
-    ensures refused { IfErr result (λ error. error ≢ TransactionError.NoMemory → transaction_filtered M.rules (facets_of facets.now) (start_of start.now) draft ≡ Err error) }
+    requires draft { StartsIn (start_of start.now) draft.value }
+    ensures draft { IfOk result (λ d. transaction_filtered M.rules (facets_of facets.now) (start_of start.now) draft.value ≡ Ok d.value) }
+    ensures starts { IfOk result (λ d. StartsIn (start_of start.now) d.value) }
+    ensures refused { IfErr result (λ error. error ≢ TransactionError.NoMemory → transaction_filtered M.rules (facets_of facets.now) (start_of start.now) draft.value ≡ Err error) }
 {
     let numbers = lowest_first(alloc, facets.transaction_filter)?;
     filtered_in_turn(alloc, kit, facets, start, &numbers, draft)
@@ -170,16 +171,16 @@ pub fn apply_filters<M: Meanings>(
     kit: &Kit<M>,
     facets: &FilterFacets<'_>,
     start: &Start<'_>,
-    draft: Draft<Val>,
-) -> Result<Draft<Val>, TransactionError>
+    draft: Box<Draft<Val>>,
+) -> Result<Box<Draft<Val>>, TransactionError>
     requires whole { IsWhole M.rules kit.now }
     requires maps { HasMaps M.rules.effect_maps start.now.kinds.now.maps }
     requires facets { AreFacets M.rules (facets_of facets.now) }
     requires start { IsStart (start_of start.now) }
-    requires draft { StartsIn (start_of start.now) draft }
-    ensures draft { IfOk result (λ d. filtered M.rules (facets_of facets.now) (start_of start.now) draft ≡ Ok d) }
-    ensures starts { IfOk result (λ d. StartsIn (start_of start.now) d) }
-    ensures refused { IfErr result (λ error. error ≢ TransactionError.NoMemory → filtered M.rules (facets_of facets.now) (start_of start.now) draft ≡ Err error) }
+    requires draft { StartsIn (start_of start.now) draft.value }
+    ensures draft { IfOk result (λ d. filtered M.rules (facets_of facets.now) (start_of start.now) draft.value ≡ Ok d.value) }
+    ensures starts { IfOk result (λ d. StartsIn (start_of start.now) d.value) }
+    ensures refused { IfErr result (λ error. error ≢ TransactionError.NoMemory → filtered M.rules (facets_of facets.now) (start_of start.now) draft.value ≡ Err error) }
 {
     if !draft.filter {
         return Ok(draft);

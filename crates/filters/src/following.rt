@@ -18,16 +18,16 @@ fn merged_with<M: Meanings>(
     alloc: Global,
     kit: &Kit<M>,
     start: &Start<'_>,
-    draft: Draft<Val>,
+    draft: Box<Draft<Val>>,
     specs: Vec<Spec<Val>>,
-) -> Result<Draft<Val>, TransactionError>
+) -> Result<Box<Draft<Val>>, TransactionError>
     requires whole { IsWhole M.rules kit.now }
     requires maps { HasMaps M.rules.effect_maps start.now.kinds.now.maps }
     requires start { IsStart (start_of start.now) }
-    requires draft { StartsIn (start_of start.now) draft }
-    requires accepted { specs_refusal (length start.now.document.now.characters) start.now.max start.now.kinds.now (Some draft.changes) specs.items ≡ None }
-    ensures draft { IfOk result (λ d. d ≡ followed_by M.rules (start_of start.now) draft specs.items) }
-    ensures starts { IfOk result (λ d. StartsIn (start_of start.now) d) }
+    requires draft { StartsIn (start_of start.now) draft.value }
+    requires accepted { specs_refusal (length start.now.document.now.characters) start.now.max start.now.kinds.now (Some draft.value.changes) specs.items ≡ None }
+    ensures draft { IfOk result (λ d. d.value ≡ followed_by M.rules (start_of start.now) draft.value specs.items) }
+    ensures starts { IfOk result (λ d. StartsIn (start_of start.now) d.value) }
     ensures memory { IfErr result (λ error. error ≡ TransactionError.NoMemory) }
 {
     let frame = Frame {
@@ -36,14 +36,14 @@ fn merged_with<M: Meanings>(
         kinds: start.kinds,
         maps: kit,
     };
-    let mut draft = draft;
+    let mut draft = Box::into_inner(draft);
     for spec in specs {
         match merge(alloc, draft, spec, &frame) {
             Ok(next) => draft = next,
             Err(error) => return Err(error),
         }
     }
-    Ok(draft)
+    Ok(draft.boxed(alloc)?)
 }
 
 /// A draft and then specs. `Err`: why the specs are refused, or out of memory.
@@ -51,16 +51,16 @@ pub(crate) fn followed_by<M: Meanings>(
     alloc: Global,
     kit: &Kit<M>,
     start: &Start<'_>,
-    draft: Draft<Val>,
+    draft: Box<Draft<Val>>,
     specs: Vec<Spec<Val>>,
-) -> Result<Draft<Val>, TransactionError>
+) -> Result<Box<Draft<Val>>, TransactionError>
     requires whole { IsWhole M.rules kit.now }
     requires maps { HasMaps M.rules.effect_maps start.now.kinds.now.maps }
     requires start { IsStart (start_of start.now) }
-    requires draft { StartsIn (start_of start.now) draft }
-    ensures draft { IfOk result (λ d. unless (specs_refusal (length start.now.document.now.characters) start.now.max start.now.kinds.now (Some draft.changes) specs.items) (followed_by M.rules (start_of start.now) draft specs.items) ≡ Ok d) }
-    ensures starts { IfOk result (λ d. StartsIn (start_of start.now) d) }
-    ensures refused { IfErr result (λ error. error ≢ TransactionError.NoMemory → unless (specs_refusal (length start.now.document.now.characters) start.now.max start.now.kinds.now (Some draft.changes) specs.items) (followed_by M.rules (start_of start.now) draft specs.items) ≡ Err error) }
+    requires draft { StartsIn (start_of start.now) draft.value }
+    ensures draft { IfOk result (λ d. unless (specs_refusal (length start.now.document.now.characters) start.now.max start.now.kinds.now (Some draft.value.changes) specs.items) (followed_by M.rules (start_of start.now) draft.value specs.items) ≡ Ok d.value) }
+    ensures starts { IfOk result (λ d. StartsIn (start_of start.now) d.value) }
+    ensures refused { IfErr result (λ error. error ≢ TransactionError.NoMemory → unless (specs_refusal (length start.now.document.now.characters) start.now.max start.now.kinds.now (Some draft.value.changes) specs.items) (followed_by M.rules (start_of start.now) draft.value specs.items) ≡ Err error) }
 {
     match check(
         alloc,

@@ -88,15 +88,15 @@ fn guarded<M: Meanings>(
     kit: &Kit<M>,
     start: &Start<'_>,
     said: Guarding,
-    draft: Draft<Val>,
-) -> Result<Draft<Val>, TransactionError>
+    draft: Box<Draft<Val>>,
+) -> Result<Box<Draft<Val>>, TransactionError>
     requires whole { IsWhole M.rules kit.now }
     requires maps { HasMaps M.rules.effect_maps start.now.kinds.now.maps }
     requires start { IsStart (start_of start.now) }
-    requires draft { StartsIn (start_of start.now) draft }
-    ensures draft { IfOk result (λ d. guarded M.rules (start_of start.now) said draft ≡ Ok d) }
-    ensures starts { IfOk result (λ d. StartsIn (start_of start.now) d) }
-    ensures refused { IfErr result (λ error. error ≢ TransactionError.NoMemory → guarded M.rules (start_of start.now) said draft ≡ Err error) }
+    requires draft { StartsIn (start_of start.now) draft.value }
+    ensures draft { IfOk result (λ d. guarded M.rules (start_of start.now) said draft.value ≡ Ok d.value) }
+    ensures starts { IfOk result (λ d. StartsIn (start_of start.now) d.value) }
+    ensures refused { IfErr result (λ error. error ≢ TransactionError.NoMemory → guarded M.rules (start_of start.now) said draft.value ≡ Err error) }
 {
     match said {
         Guarding::All => Ok(draft),
@@ -117,16 +117,16 @@ pub(crate) fn change_filtered<M: Meanings>(
     kit: &Kit<M>,
     facets: &FilterFacets<'_>,
     start: &Start<'_>,
-    draft: Draft<Val>,
-) -> Result<Draft<Val>, TransactionError>
+    draft: Box<Draft<Val>>,
+) -> Result<Box<Draft<Val>>, TransactionError>
     requires whole { IsWhole M.rules kit.now }
     requires maps { HasMaps M.rules.effect_maps start.now.kinds.now.maps }
     requires numbers { ListsNumbers M.rules.change_guards facets.now.change_filter.now }
     requires start { IsStart (start_of start.now) }
-    requires draft { StartsIn (start_of start.now) draft }
-    ensures draft { IfOk result (λ d. change_filtered M.rules (facets_of facets.now) (start_of start.now) draft ≡ Ok d) }
-    ensures starts { IfOk result (λ d. StartsIn (start_of start.now) d) }
-    ensures refused { IfErr result (λ error. error ≢ TransactionError.NoMemory → change_filtered M.rules (facets_of facets.now) (start_of start.now) draft ≡ Err error) }
+    requires draft { StartsIn (start_of start.now) draft.value }
+    ensures draft { IfOk result (λ d. change_filtered M.rules (facets_of facets.now) (start_of start.now) draft.value ≡ Ok d.value) }
+    ensures starts { IfOk result (λ d. StartsIn (start_of start.now) d.value) }
+    ensures refused { IfErr result (λ error. error ≢ TransactionError.NoMemory → change_filtered M.rules (facets_of facets.now) (start_of start.now) draft.value ≡ Err error) }
 {
     let said = said_of(alloc, kit, facets, start, &draft)?;
     guarded(alloc, kit, start, said, draft)

@@ -62,24 +62,26 @@ fn reduced<M: Meanings>(
     start: &Start<'_>,
     kept: ChangeSet,
     back: &Desc,
-    draft: Draft<Val>,
-) -> Result<Draft<Val>, AllocError>
+    draft: Box<Draft<Val>>,
+) -> Result<Box<Draft<Val>>, AllocError>
     requires whole { IsWhole M.rules kit.now }
     requires maps { HasMaps M.rules.effect_maps start.now.kinds.now.maps }
     requires within { AreWithin back.now }
-    requires inside { SelectionIn (old_size back.now) draft.selection }
-    ensures value { IfOk result (λ d. d ≡ reduced M.rules (start_of start.now) kept back.now draft) }
-    ensures inside { IfOk result (λ d. SelectionIn (new_size counted back.now) d.selection) }
+    requires inside { SelectionIn (old_size back.now) draft.value.selection }
+    ensures value { IfOk result (λ d. d.value ≡ reduced M.rules (start_of start.now) kept back.now draft.value) }
+    ensures inside { IfOk result (λ d. SelectionIn (new_size counted back.now) d.value.selection) }
 {
+    let draft = Box::into_inner(draft);
     let selection = moved(draft.selection, back)?;
     let effects = moved_effects(alloc, kit, start.kinds, back, draft.effects)?;
-    Ok(Draft {
+    let draft = Draft {
         changes: kept,
         selection,
         effects,
         annotations: draft.annotations,
         filter: draft.filter,
-    })
+    };
+    draft.boxed(alloc)
 }
 
 /// A draft of whose changes these parts are made. It is refused where the kept ones lead to a document that is too long.
@@ -88,16 +90,16 @@ pub(crate) fn with_parts<M: Meanings>(
     kit: &Kit<M>,
     start: &Start<'_>,
     parts: Filtered,
-    draft: Draft<Val>,
-) -> Result<Draft<Val>, TransactionError>
+    draft: Box<Draft<Val>>,
+) -> Result<Box<Draft<Val>>, TransactionError>
     requires whole { IsWhole M.rules kit.now }
     requires maps { HasMaps M.rules.effect_maps start.now.kinds.now.maps }
     requires start { IsStart (start_of start.now) }
-    requires draft { StartsIn (start_of start.now) draft }
-    requires parts { AreParts draft.changes parts.kept parts.dropped }
-    ensures draft { IfOk result (λ d. with_parts M.rules (start_of start.now) parts.kept parts.dropped draft ≡ Ok d) }
-    ensures starts { IfOk result (λ d. StartsIn (start_of start.now) d) }
-    ensures refused { IfErr result (λ error. error ≢ TransactionError.NoMemory → with_parts M.rules (start_of start.now) parts.kept parts.dropped draft ≡ Err error) }
+    requires draft { StartsIn (start_of start.now) draft.value }
+    requires parts { AreParts draft.value.changes parts.kept parts.dropped }
+    ensures draft { IfOk result (λ d. with_parts M.rules (start_of start.now) parts.kept parts.dropped draft.value ≡ Ok d.value) }
+    ensures starts { IfOk result (λ d. StartsIn (start_of start.now) d.value) }
+    ensures refused { IfErr result (λ error. error ≢ TransactionError.NoMemory → with_parts M.rules (start_of start.now) parts.kept parts.dropped draft.value ≡ Err error) }
 {
     let len = parts.kept.new_len();
     if len > start.max {

@@ -127,11 +127,11 @@ fn draft(
     kit: &Kit<Shipped>,
     start: &Start<'_>,
     done: Done,
-) -> Result<Draft<Val>, Fail>
+) -> Result<Box<Draft<Val>>, Fail>
     requires whole { IsWhole shipped kit.now }
     requires maps { HasMaps shipped.effect_maps start.now.kinds.now.maps }
     requires start { IsStart (start_of start.now) }
-    ensures { IfOk result (λ d. StartsIn (start_of start.now) d) }
+    ensures { IfOk result (λ d. StartsIn (start_of start.now) d.value) }
 {
     let mut specs = Vec::new(alloc);
     specs.push(spec(alloc, done)?)?;
@@ -141,7 +141,8 @@ fn draft(
         kinds: start.kinds,
         maps: kit,
     };
-    Ok(resolve(alloc, specs, &frame)?)
+    let draft = resolve(alloc, specs, &frame)?;
+    Ok(draft.boxed(alloc)?)
 }
 
 /// What filters and extenders make of a draft.
@@ -150,14 +151,14 @@ fn made(
     kit: &Kit<Shipped>,
     facets: &FilterFacets<'_>,
     start: &Start<'_>,
-    draft: Draft<Val>,
-) -> Result<Draft<Val>, TransactionError>
+    draft: Box<Draft<Val>>,
+) -> Result<Box<Draft<Val>>, TransactionError>
     requires whole { IsWhole shipped kit.now }
     requires maps { HasMaps shipped.effect_maps start.now.kinds.now.maps }
     requires facets { AreFacets shipped (facets_of facets.now) }
     requires start { IsStart (start_of start.now) }
-    requires draft { StartsIn (start_of start.now) draft }
-    ensures { IfOk result (λ d. StartsIn (start_of start.now) d) }
+    requires draft { StartsIn (start_of start.now) draft.value }
+    ensures { IfOk result (λ d. StartsIn (start_of start.now) d.value) }
 {
     match apply_filters(alloc, kit, facets, start, draft) {
         Ok(filtered) => apply_extenders(alloc, kit, facets, start, filtered),

@@ -13,9 +13,8 @@ ghost use Rattle.state.specs.PrivateStepping.{IsEntered};
 
 use crate::cutting::{config_allows_several, cut};
 use crate::extensions::Extensions;
-use crate::reconfigured::resolved;
+use crate::reconfigured::{resolved, shared_config};
 use crate::state_error::StateError;
-use crate::stepped::shared_config;
 use configuration::Config;
 use ext_tree::ExtId;
 use facet_slots::{Slots, shared_defs};

@@ -27,12 +27,12 @@ fn merged<M: Meanings>(
     kit: &Kit<M>,
     start: &Start<'_>,
     specs: Vec<Spec<Val>>,
-) -> Result<Draft<Val>, TransactionError>
+) -> Result<Box<Draft<Val>>, TransactionError>
     requires whole { IsWhole M.rules kit.now }
     requires maps { HasMaps M.rules.effect_maps start.now.kinds.now.maps }
     requires start { IsStart (start_of start.now) }
-    ensures draft { IfOk result (λ d. merged_in M.rules (start_of start.now) specs.items ≡ Ok d) }
-    ensures starts { IfOk result (λ d. StartsIn (start_of start.now) d) }
+    ensures draft { IfOk result (λ d. merged_in M.rules (start_of start.now) specs.items ≡ Ok d.value) }
+    ensures starts { IfOk result (λ d. StartsIn (start_of start.now) d.value) }
     ensures refused { IfErr result (λ error. error ≢ TransactionError.NoMemory → merged_in M.rules (start_of start.now) specs.items ≡ Err error) }
 {
     let frame = Frame {
@@ -41,7 +41,8 @@ fn merged<M: Meanings>(
         kinds: start.kinds,
         maps: kit,
     };
-    resolve(alloc, specs, &frame)
+    let draft = resolve(alloc, specs, &frame)?;
+    Ok(draft.boxed(alloc)?)
 }
 
 /// What filters and then extenders make of a draft.
@@ -50,16 +51,16 @@ fn rewritten<M: Meanings>(
     kit: &Kit<M>,
     facets: &FilterFacets<'_>,
     start: &Start<'_>,
-    draft: Draft<Val>,
-) -> Result<Draft<Val>, TransactionError>
+    draft: Box<Draft<Val>>,
+) -> Result<Box<Draft<Val>>, TransactionError>
     requires whole { IsWhole M.rules kit.now }
     requires maps { HasMaps M.rules.effect_maps start.now.kinds.now.maps }
     requires facets { AreFacets M.rules (facets_of facets.now) }
     requires start { IsStart (start_of start.now) }
-    requires draft { StartsIn (start_of start.now) draft }
-    ensures draft { IfOk result (λ d. rewritten_in M.rules (facets_of facets.now) (start_of start.now) draft ≡ Ok d) }
-    ensures starts { IfOk result (λ d. StartsIn (start_of start.now) d) }
-    ensures refused { IfErr result (λ error. error ≢ TransactionError.NoMemory → rewritten_in M.rules (facets_of facets.now) (start_of start.now) draft ≡ Err error) }
+    requires draft { StartsIn (start_of start.now) draft.value }
+    ensures draft { IfOk result (λ d. rewritten_in M.rules (facets_of facets.now) (start_of start.now) draft.value ≡ Ok d.value) }
+    ensures starts { IfOk result (λ d. StartsIn (start_of start.now) d.value) }
+    ensures refused { IfErr result (λ error. error ≢ TransactionError.NoMemory → rewritten_in M.rules (facets_of facets.now) (start_of start.now) draft.value ≡ Err error) }
 {
     match apply_filters(alloc, kit, facets, start, draft) {
         Ok(filtered) => apply_extenders(alloc, kit, facets, start, filtered),
@@ -74,13 +75,13 @@ fn drafted_in<M: Meanings>(
     facets: &FilterFacets<'_>,
     start: &Start<'_>,
     specs: Vec<Spec<Val>>,
-) -> Result<Draft<Val>, TransactionError>
+) -> Result<Box<Draft<Val>>, TransactionError>
     requires whole { IsWhole M.rules kit.now }
     requires maps { HasMaps M.rules.effect_maps start.now.kinds.now.maps }
     requires facets { AreFacets M.rules (facets_of facets.now) }
     requires start { IsStart (start_of start.now) }
-    ensures draft { IfOk result (λ d. drafted_in M.rules (facets_of facets.now) (start_of start.now) specs.items ≡ Ok d) }
-    ensures starts { IfOk result (λ d. StartsIn (start_of start.now) d) }
+    ensures draft { IfOk result (λ d. drafted_in M.rules (facets_of facets.now) (start_of start.now) specs.items ≡ Ok d.value) }
+    ensures starts { IfOk result (λ d. StartsIn (start_of start.now) d.value) }
     ensures refused { IfErr result (λ error. error ≢ TransactionError.NoMemory → drafted_in M.rules (facets_of facets.now) (start_of start.now) specs.items ≡ Err error) }
 {
     match merged(alloc, kit, start, specs) {
@@ -97,11 +98,11 @@ pub fn drafted<M: Meanings>(
     registry: &Registry<M>,
     slots: &Slots<M>,
     specs: Vec<Spec<Val>>,
-) -> Result<Draft<Val>, StateError>
+) -> Result<Box<Draft<Val>>, StateError>
     requires whole { IsWhole M.rules kit.now }
     requires predeclared { IsGrown (definitions predeclared) slots.now.setup.defs }
-    ensures draft { IfOk result (λ d. draft_of M.rules registry.now (plain slots.now) specs.items ≡ Ok d) }
-    ensures starts { IfOk result (λ d. StartsIn (start_in registry.now (plain slots.now)) d) }
+    ensures draft { IfOk result (λ d. draft_of M.rules registry.now (plain slots.now) specs.items ≡ Ok d.value) }
+    ensures starts { IfOk result (λ d. StartsIn (start_in registry.now (plain slots.now)) d.value) }
     ensures refused { IfErr result (λ error. error ≢ StateError.NoMemory → option_map of_transaction_error (result_err (draft_of M.rules registry.now (plain slots.now) specs.items)) ≡ Some error) }
 {
     let facets = filter_facets(slots);

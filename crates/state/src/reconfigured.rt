@@ -10,7 +10,8 @@ use crate::extensions::Extensions;
 use crate::state_error::StateError;
 use configuration::{Config, ConfigError};
 use registry::Registry;
-use std::alloc::Global;
+use std::alloc::{AllocError, Global};
+use std::rc::Rc;
 use transaction::Effect;
 use values::{Meanings, Val};
 
@@ -101,5 +102,15 @@ pub fn reconfigured<M: Meanings>(
         Ok(Some(config))
     } else {
         Ok(None)
+    }
+}
+
+/// A configuration to be shared by states. `Err`: out of memory.
+pub fn shared_config(alloc: Global, config: Config) -> Result<Rc<Config>, AllocError>
+    ensures { IfOk result (λ shared. shared.value ≡ config) }
+{
+    match Rc::new(alloc, config) {
+        Ok(shared) => Ok(shared),
+        Err(_) => Err(AllocError),
     }
 }

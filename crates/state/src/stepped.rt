@@ -1,5 +1,6 @@
 // One step of the values.
-ghost use Rattle.std.specs.Prelude.{◌≡◌, ◌<◌, ◌≤◌, ◌+◌, length, IfOk, Some};
+ghost use Rattle.std.specs.Prelude.{◌≡◌, ◌<◌, ◌≤◌, ◌+◌, length, IfOk, Some, option_map};
+ghost use Rattle.std.specs.Rc.{rc_value};
 ghost use Rattle.values.specs.Whole.{IsWhole};
 ghost use Rattle.registry.specs.declared.predeclared.TheConstants.{ALLOW_MULTIPLE_SELECTIONS};
 ghost use Rattle.facet_slots.specs.Agreement.{IsGrown};
@@ -27,16 +28,6 @@ use std::sync::ledger::Ledger;
 use steps::Steps;
 use transaction::Draft;
 use values::{Kit, Meanings, TrView, Val};
-
-/// A configuration to be shared by states. `Err`: out of memory.
-pub fn shared_config(alloc: Global, config: Config) -> Result<Rc<Config>, AllocError>
-    ensures { IfOk result (λ shared. shared.value ≡ config) }
-{
-    match Rc::new(alloc, config) {
-        Ok(shared) => Ok(shared),
-        Err(_) => Err(AllocError),
-    }
-}
 
 /// The slots after the fields entered a configuration and a transaction was made in it.
 fn entered<M: Meanings, L: Ledger>(
@@ -67,25 +58,22 @@ fn stepped<M: Meanings, L: Ledger>(
     kit: &Kit<M>,
     registry: &Registry<M>,
     slots: &Slots<M>,
-    config: Option<Config>,
+    config: Option<Rc<Config>>,
     transaction: &TrView,
     calls: &mut Steps<L>,
 ) -> Result<Slots<M>, AllocError>
     requires whole { IsWhole M.rules kit.now }
     requires grown { IsGrown slots.now.setup.defs (definitions registry.now) }
-    requires config { IsEntered registry.now config }
+    requires config { IsEntered registry.now (option_map rc_value config) }
     requires made { IsMade slots.now.scene transaction.now }
-    ensures state { IfOk result (λ s. plain s ≡ step M.rules (plain slots.now) (entered_target registry.now slots.now.setup.config config) transaction.now) }
-    ensures cost { calls.new ≤ calls.old + step_calls M.rules (plain slots.now) (entered_target registry.now slots.now.setup.config config) transaction.now }
+    ensures state { IfOk result (λ s. plain s ≡ step M.rules (plain slots.now) (entered_target registry.now slots.now.setup.config (option_map rc_value config)) transaction.now) }
+    ensures cost { calls.new ≤ calls.old + step_calls M.rules (plain slots.now) (entered_target registry.now slots.now.setup.config (option_map rc_value config)) transaction.now }
 {
     slots.known();
     let defs = definitions_now(alloc, slots.defs(), registry.defs())?;
     match config {
         None => slots.update(alloc, kit, defs, transaction, calls),
-        Some(config) => {
-            let config = shared_config(alloc, config)?;
-            entered(alloc, kit, slots, defs, config, transaction, calls)
-        }
+        Some(config) => entered(alloc, kit, slots, defs, config, transaction, calls),
     }
 }
 
@@ -96,17 +84,17 @@ pub fn after_draft<M: Meanings, L: Ledger>(
     kit: &Kit<M>,
     registry: &Registry<M>,
     slots: &Slots<M>,
-    config: Option<Config>,
+    config: Option<Rc<Config>>,
     draft: &Draft<Val>,
     calls: &mut Steps<L>,
 ) -> Result<Slots<M>, AllocError>
     requires whole { IsWhole M.rules kit.now }
     requires grown { IsGrown slots.now.setup.defs (definitions registry.now) }
     requires several { ALLOW_MULTIPLE_SELECTIONS < length slots.now.setup.defs.facets }
-    requires config { IsEntered registry.now config }
+    requires config { IsEntered registry.now (option_map rc_value config) }
     requires starts { StartsIn (start_in registry.now (plain slots.now)) draft.now }
-    ensures state { IfOk result (λ s. plain s ≡ step M.rules (plain slots.now) (entered_target registry.now slots.now.setup.config config) (transaction_of registry.now (plain slots.now) draft.now)) }
-    ensures cost { calls.new ≤ calls.old + step_calls M.rules (plain slots.now) (entered_target registry.now slots.now.setup.config config) (transaction_of registry.now (plain slots.now) draft.now) }
+    ensures state { IfOk result (λ s. plain s ≡ step M.rules (plain slots.now) (entered_target registry.now slots.now.setup.config (option_map rc_value config)) (transaction_of registry.now (plain slots.now) draft.now)) }
+    ensures cost { calls.new ≤ calls.old + step_calls M.rules (plain slots.now) (entered_target registry.now slots.now.setup.config (option_map rc_value config)) (transaction_of registry.now (plain slots.now) draft.now) }
 {
     let transaction = transaction_of(alloc, registry, slots, draft)?;
     stepped(alloc, kit, registry, slots, config, &transaction, calls)

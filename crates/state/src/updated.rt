@@ -1,5 +1,6 @@
 // The values after an update.
 ghost use Rattle.std.specs.Prelude.{◌≡◌, ◌≢◌, Err, IfErr, IfOk, Ok, option_map};
+ghost use Rattle.std.specs.Rc.{rc_value};
 ghost use Rattle.values.specs.Whole.{IsWhole};
 ghost use Rattle.registry.specs.Predeclared.{predeclared};
 ghost use Rattle.facet_slots.specs.Agreement.{IsGrown};
@@ -10,31 +11,35 @@ ghost use Rattle.state.specs.Steps.{IsStepPaid, IsStepTo};
 ghost use Rattle.state.specs.PrivateFound.{IsConfigFound};
 
 use crate::drafted::drafted;
-use crate::reconfigured::reconfigured;
+use crate::reconfigured::{reconfigured, shared_config};
 use crate::state_error::StateError;
 use crate::stepped::after_draft;
 use configuration::Config;
 use facet_slots::Slots;
 use registry::Registry;
 use std::alloc::Global;
+use std::rc::Rc;
 use std::sync::ledger::Ledger;
 use steps::Steps;
 use transaction::{Draft, Spec};
 use values::{Kit, Meanings, Val};
 
-/// The configuration that takes the place of that of a state by the effects of a draft, none where no effect is on the
-/// configuration; or why there is none after them.
+/// The configuration that takes the place of a state's by the effects of a draft, to be shared by states. None where no effect
+/// is on the configuration. `Err`: why there is none after them, or out of memory.
 fn found_after<M: Meanings>(
     alloc: Global,
     registry: &Registry<M>,
     slots: &Slots<M>,
     draft: &Draft<Val>,
-) -> Result<Option<Config>, StateError>
-    ensures config { IfOk result (λ found. IsConfigFound registry.now slots.now.setup.config draft.now.effects found) }
-    ensures found { IfOk result (λ found. config_after registry.now slots.now.setup.config draft.now.effects ≡ Ok (option_map unordered_config found)) }
+) -> Result<Option<Rc<Config>>, StateError>
+    ensures config { IfOk result (λ found. IsConfigFound registry.now slots.now.setup.config draft.now.effects (option_map rc_value found)) }
+    ensures found { IfOk result (λ found. config_after registry.now slots.now.setup.config draft.now.effects ≡ Ok (option_map unordered_config (option_map rc_value found))) }
     ensures refused { IfErr result (λ error. error ≢ StateError.NoMemory → config_after registry.now slots.now.setup.config draft.now.effects ≡ Err error) }
 {
-    reconfigured(alloc, registry, slots.config(), draft.effects.as_slice())
+    match reconfigured(alloc, registry, slots.config(), draft.effects.as_slice())? {
+        Some(config) => Ok(Some(shared_config(alloc, config)?)),
+        None => Ok(None),
+    }
 }
 
 /// The slots after an update, or why there are none.
@@ -56,8 +61,9 @@ pub fn updated<M: Meanings, L: Ledger>(
     ensures uncalled { IfErr result (λ error. error ≢ StateError.NoMemory → calls.new ≡ calls.old) }
     ensures paid { IsStepPaid M.rules registry.now (plain slots.now) specs.items calls.old calls.new }
 {
-    let draft = drafted(alloc, kit, registry, slots, specs)?;
-    let config = found_after(alloc, registry, slots, &draft)?;
-    let slots = after_draft(alloc, kit, registry, slots, config, &draft, calls)?;
+    let boxed = drafted(alloc, kit, registry, slots, specs)?;
+    let draft = &*boxed;
+    let config = found_after(alloc, registry, slots, draft)?;
+    let slots = after_draft(alloc, kit, registry, slots, config, draft, calls)?;
     Ok(slots)
 }

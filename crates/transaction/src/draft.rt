@@ -46,6 +46,13 @@ impl<V: Drop> Draft<V> {
         })
     }
 
+    /// The draft in a box, so that passing it on copies a pointer. `Err`: out of memory.
+    pub fn boxed(self, alloc: Global) -> Result<Box<Draft<V>>, AllocError>
+        ensures { IfOk result (λ boxed. boxed.value ≡ self) }
+    {
+        Ok(Box::new(alloc, self)?)
+    }
+
     /// What it has beside its changes.
     fn extras(self) -> Extras<V>
         ensures { result ≡ extras_of self }

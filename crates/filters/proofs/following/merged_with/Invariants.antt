@@ -1,7 +1,6 @@
-use Rattle.std.proofs.Common.{length}
 use Rattle.filters.specs.PrivateSteps.{Follow}
 use Rattle.filters.specs.Starts.{start_of}
 use Rattle.filters.proofs.following.merged_with.Given as goal
 
 abbrev pub invariant-loop-spec : goal.invariant-loop-spec
-invariant-loop-spec g l = Follow g.M.Meanings.rules (start_of l.start) l.fn.draft l.fn.specs.items l.draft l.spec-iterator.rest.items
+invariant-loop-spec g l = Follow g.M.Meanings.rules (start_of l.start) l.fn.draft.value l.fn.specs.items l.draft l.spec-iterator.rest.items
