@@ -36,7 +36,7 @@ fn values_read(
 ) -> Result<Listed<Option<Val>>, AllocError>
     ensures { IfOk result (λ vs. vs ≡ map (held shelf.now.facets.items shelf.now.fields.items) (vertices_of reads.now)) }
 {
-    let mut values = Listed::empty(alloc);
+    let mut values = Vec::with_capacity(alloc, reads.len())?;
     for read in reads {
         match *read {
             Dependency::Doc => {}
@@ -45,7 +45,7 @@ fn values_read(
             Dependency::Field(field) => values.push(copy_at(alloc, &shelf.fields, field)?)?,
         }
     }
-    Ok(values)
+    Ok(Listed::new(values))
 }
 
 /// Whether the document is declared.

@@ -67,14 +67,14 @@ pub fn first_kept<M: Meanings, L: Ledger>(
     setup: &Setup,
     scene: Scene,
     calls: &mut Steps<L>,
-) -> Result<Kept, AllocError>
+) -> Result<Box<Kept>, AllocError>
     requires whole { IsWhole M.rules kit.now }
     requires resolved { IsResolved (setup_of setup.now) }
     requires lawful { IsLawful M.rules (setup_of setup.now) }
     requires is_scene { IsScene (scene_of scene) }
-    ensures scene { IfOk result (λ kept. scene_in kept ≡ scene_of scene) }
-    ensures values { IfOk result (λ kept. values_in kept ≡ (creation M.rules (setup_of setup.now) (scene_of scene)).values) }
-    ensures kept { IfOk result (λ kept. IsKept M.rules (setup_of setup.now) (scene_in kept) kept.shelf.facets.items kept.shelf.fields.items kept.inputs.items) }
+    ensures scene { IfOk result (λ kept. scene_in kept.value ≡ scene_of scene) }
+    ensures values { IfOk result (λ kept. values_in kept.value ≡ (creation M.rules (setup_of setup.now) (scene_of scene)).values) }
+    ensures kept { IfOk result (λ kept. IsKept M.rules (setup_of setup.now) (scene_in kept.value) kept.value.shelf.facets.items kept.value.shelf.fields.items kept.value.inputs.items) }
     ensures cost { calls.new ≤ calls.old + transition_calls M.rules Enter (empty_state (scene_of scene)) (setup_of setup.now) }
 {
     let copy = scene_copy(&scene)?;

@@ -24,7 +24,7 @@ use values::{Kit, Meanings, Scene, TrView, Val};
 pub struct Slots<M: Meanings> {
     defs: Rc<Defs<Val>>,
     config: Rc<Config>,
-    kept: Kept,
+    kept: Box<Kept>,
     meanings: PhantomData<M>,
 }
 
@@ -38,9 +38,9 @@ impl<M: Meanings> Model for Slots<M> {
 
     ghost coded = { Prim.hlevel (codes, coded_datum) };
 
-    ghost view = { λ s. record { setup = record { defs = defs_of s.defs.value; config = s.config.value }; scene = scene_in s.kept; facets = s.kept.shelf.facets.items; fields = s.kept.shelf.fields.items } };
+    ghost view = { λ s. record { setup = record { defs = defs_of s.defs.value; config = s.config.value }; scene = scene_in s.kept.value; facets = s.kept.value.shelf.facets.items; fields = s.kept.value.shelf.fields.items } };
 
-    ghost invariant = { λ s. AreSlots M.rules (record { defs = defs_of s.defs.value; config = s.config.value }) (scene_in s.kept) s.kept.shelf.facets.items s.kept.shelf.fields.items s.kept.inputs.items };
+    ghost invariant = { λ s. AreSlots M.rules (record { defs = defs_of s.defs.value; config = s.config.value }) (scene_in s.kept.value) s.kept.value.shelf.facets.items s.kept.value.shelf.fields.items s.kept.value.inputs.items };
 }
 
 /// A configuration over its definitions, lent.
@@ -122,13 +122,14 @@ impl<M: Meanings> Slots<M> {
         ensures state { IfOk result (λ s. plain s ≡ mid M.rules (plain self.now) (record { defs = defs_of defs.value; config = config.value })) }
         ensures cost { calls.new ≤ calls.old + transition_calls M.rules Enter (plain self.now) (record { defs = defs_of defs.value; config = config.value }) }
     {
-        let scene = scene_copy(&self.kept.scene)?;
+        let old: &Kept = &self.kept;
+        let scene = scene_copy(&old.scene)?;
         let kept = kept_after(
             alloc,
             kit,
             &Transition::Enter,
             &lent(&self.defs, &self.config),
-            &self.kept,
+            old,
             &lent(&defs, &config),
             scene,
             calls,

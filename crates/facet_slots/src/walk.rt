@@ -160,7 +160,8 @@ fn moved(transition: &Transition) -> SceneFlags
     }
 }
 
-/// What is kept of the state after a transition, where only what is due is found anew. `Err`: out of memory.
+/// What is kept of the state after a transition, where only what is due is found anew. It is in a box, so that passing it on
+/// copies a pointer. `Err`: out of memory.
 pub fn kept_after<M: Meanings, L: Ledger>(
     alloc: Global,
     kit: &Kit<M>,
@@ -170,7 +171,7 @@ pub fn kept_after<M: Meanings, L: Ledger>(
     setup: &Setup,
     scene: Scene,
     calls: &mut Steps<L>,
-) -> Result<Kept, AllocError>
+) -> Result<Box<Kept>, AllocError>
     requires whole { IsWhole M.rules kit.now }
     requires old_scene { IsScene (scene_in old.now) }
     requires is_scene { IsScene (scene_of scene) }
@@ -182,9 +183,9 @@ pub fn kept_after<M: Meanings, L: Ledger>(
     requires lawful { IsLawful M.rules (setup_of setup.now) }
     requires follows { Follows (transition_of transition.now) (setup_of old_setup.now) (setup_of setup.now) }
     requires kept { IsKeptIn M.rules old_setup.now old.now }
-    ensures scene { IfOk result (λ kept. scene_in kept ≡ scene_of scene) }
-    ensures values { IfOk result (λ kept. values_in kept ≡ values_of M.rules (setup_of setup.now) (scene_of scene) (rule_of M.rules (transition_of transition.now) (state_in old_setup.now old.now))) }
-    ensures kept { IfOk result (λ kept. IsKeptIn M.rules setup.now kept) }
+    ensures scene { IfOk result (λ kept. scene_in kept.value ≡ scene_of scene) }
+    ensures values { IfOk result (λ kept. values_in kept.value ≡ values_of M.rules (setup_of setup.now) (scene_of scene) (rule_of M.rules (transition_of transition.now) (state_in old_setup.now old.now))) }
+    ensures kept { IfOk result (λ kept. IsKeptIn M.rules setup.now kept.value) }
     ensures cost { calls.new ≤ calls.old + transition_calls M.rules (transition_of transition.now) (state_in old_setup.now old.now) (setup_of setup.now) }
 {
     let mut draft = empty(alloc, setup, scene, moved(transition))?;
@@ -195,5 +196,5 @@ pub fn kept_after<M: Meanings, L: Ledger>(
         )?;
         store(setup, &mut draft, vertex, next);
     }
-    Ok(draft.kept)
+    Ok(Box::new(alloc, draft.kept)?)
 }

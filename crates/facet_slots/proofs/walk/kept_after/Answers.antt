@@ -10,7 +10,8 @@ use Rattle.facet_slots.specs.Keeping.{held_inputs, IsKept}
 use Rattle.facet_slots.specs.Flags.{change_of, flags_of}
 use Rattle.facet_slots.specs.Due.{calls_due}
 use Rattle.facet_slots.specs.Nexts.{next_calls}
-use Rattle.facet_slots.specs.Lent.{flags_in, scene_in, setup_of, state_in, transition_of, values_in}
+use Rattle.facet_slots.specs.declared.kept.Kept.{Kept}
+use Rattle.facet_slots.specs.Lent.{flags_in, scene_in, setup_of, state_in, transition_of, values_in, IsKeptIn}
 use Rattle.facet_slots.specs.Found.{scene_of}
 use Rattle.facet_slots.proofs.Places.{all-at, sum-more}
 use Rattle.facet_slots.proofs.Still.{scene-kept}
@@ -74,17 +75,19 @@ loop-place-preserved g c =
 pub returns-clause-values : goal.returns-clause-values
 returns-clause-values g c =
     let all : length (order_of (setup_of c.args.setup.now)) ≤ c.loop-place.place = omega (arith, c.order_len-place-end.ensures, c.loop-place-test.false) in
-    drafted-values g.M.Meanings.rules g.met.M.Meanings.lawful (transition_of c.args.transition.now) (setup_of c.args.old_setup.now) (scene_in c.args.old.now) c.args.old.now.shelf.facets.items c.args.old.now.shelf.fields.items c.args.old.now.inputs.items c.requires.kept (setup_of c.args.setup.now) c.requires.ordered c.requires.lawful c.requires.follows.agree (scene-kept (scene_in c.args.old.now) c.requires.old_scene (transition_of c.args.transition.now) c.requires.made)
+    ap (λ (k : Kept). values_in k) c.in_ok-new.ensures.ok
+    ∙ drafted-values g.M.Meanings.rules g.met.M.Meanings.lawful (transition_of c.args.transition.now) (setup_of c.args.old_setup.now) (scene_in c.args.old.now) c.args.old.now.shelf.facets.items c.args.old.now.shelf.fields.items c.args.old.now.inputs.items c.requires.kept (setup_of c.args.setup.now) c.requires.ordered c.requires.lawful c.requires.follows.agree (scene-kept (scene_in c.args.old.now) c.requires.old_scene (transition_of c.args.transition.now) c.requires.made)
     (scene_in c.loop-place.draft.kept) c.loop-place.draft.marks.moved c.loop-place.draft.kept.shelf.facets.items c.loop-place.draft.kept.shelf.fields.items c.loop-place.draft.kept.inputs.items (flags_in c.loop-place.draft.marks) c.loop-place.place all c.loop-place.invariant.drafted c.loop-place.invariant.room
     ∙ ap (λ (s : SceneView). values_of g.M.Meanings.rules (setup_of c.args.setup.now) s (rule_of g.M.Meanings.rules (transition_of c.args.transition.now) (state_in c.args.old_setup.now c.args.old.now))) (sym c.requires.scene)
 
 pub returns-clause-kept : goal.returns-clause-kept
 returns-clause-kept g c =
     let all : length (order_of (setup_of c.args.setup.now)) ≤ c.loop-place.place = omega (arith, c.order_len-place-end.ensures, c.loop-place-test.false) in
-    subst (λ (s : SceneView). IsKept g.M.Meanings.rules (setup_of c.args.setup.now) s c.loop-place.draft.kept.shelf.facets.items c.loop-place.draft.kept.shelf.fields.items c.loop-place.draft.kept.inputs.items) (sym c.loop-place.invariant.drafted.scene_is)
+    subst (λ (k : Kept). IsKeptIn g.M.Meanings.rules c.args.setup.now k) (sym c.in_ok-new.ensures.ok)
+    (subst (λ (s : SceneView). IsKept g.M.Meanings.rules (setup_of c.args.setup.now) s c.loop-place.draft.kept.shelf.facets.items c.loop-place.draft.kept.shelf.fields.items c.loop-place.draft.kept.inputs.items) (sym c.loop-place.invariant.drafted.scene_is)
     (drafted-kept g.M.Meanings.rules g.met.M.Meanings.lawful (transition_of c.args.transition.now) (setup_of c.args.old_setup.now) (scene_in c.args.old.now) c.args.old.now.shelf.facets.items c.args.old.now.shelf.fields.items c.args.old.now.inputs.items c.requires.kept (setup_of c.args.setup.now) c.requires.ordered c.requires.lawful c.requires.follows.agree (scene-kept (scene_in c.args.old.now) c.requires.old_scene (transition_of c.args.transition.now) c.requires.made)
     (scene_in c.loop-place.draft.kept) c.loop-place.draft.marks.moved c.loop-place.draft.kept.shelf.facets.items c.loop-place.draft.kept.shelf.fields.items c.loop-place.draft.kept.inputs.items (flags_in c.loop-place.draft.marks) c.loop-place.place all c.loop-place.invariant.drafted c.loop-place.invariant.room
-    (subst IsScene c.requires.scene c.requires.is_scene) c.requires.made c.requires.follows)
+    (subst IsScene c.requires.scene c.requires.is_scene) c.requires.made c.requires.follows))
 
 pub returns-clause-scene : goal.returns-clause-scene
-returns-clause-scene g c = c.loop-place.invariant.drafted.scene_is ∙ sym c.requires.scene
+returns-clause-scene g c = ap (λ (k : Kept). scene_in k) c.in_ok-new.ensures.ok ∙ c.loop-place.invariant.drafted.scene_is ∙ sym c.requires.scene
