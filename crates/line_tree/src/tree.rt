@@ -1,4 +1,4 @@
-ghost use Rattle.std.specs.Prelude.{◌≡◌, ◌++◌, ◌+◌, ◌^◌, ◌<◌, ◌≤◌, length, IfOk, OnOk};
+ghost use Rattle.std.specs.Prelude.{◌≡◌, ◌++◌, ◌+◌, ◌^◌, ◌<◌, ◌≤◌, length, IfOk, OnOk, IsTrue, IsFalse};
 ghost use Rattle.line_tree.specs.Breaks.{count_breaks};
 ghost use Rattle.line_tree.specs.Parts.{joined, HaveHeight};
 ghost use Rattle.line_tree.specs.Places.{AddsTexts};
@@ -8,6 +8,14 @@ use crate::parts::{breaks_of, len_of};
 use crate::text::{Branch, Node, Text};
 use std::alloc::{AllocError, Global};
 use std::rc::Rc;
+
+/// The greatest number of characters of a leaf of several lines that isn't cut: so many take less than the C library keeps at
+/// hand by size, and an edit copies no more. No contract speaks of it.
+const SHORT_LEN: u32 = 256;
+
+/// The greatest number of parts of a text that isn't cut. No contract speaks of it: an edit copies the parts of each node above
+/// it.
+const FEW_PARTS: usize = 20;
 
 /// The text of a leaf of at most 64 lines.
 pub(crate) fn make_leaf(alloc: Global, leaf: Leaf) -> Result<Text, AllocError>
@@ -42,13 +50,22 @@ pub(crate) fn make_branch(alloc: Global, parts: Vec<Text>, height: u32) -> Resul
     Ok(Text { node })
 }
 
+/// Whether a leaf is cut in two: where it has more lines than a leaf may have, or several lines and many characters.
+fn is_cut(leaf: &Leaf) -> bool
+    ensures few { IsFalse result → count_breaks leaf.now < 64 }
+    ensures several { IsTrue result → 1 ≤ count_breaks leaf.now }
+{
+    let breaks = leaf.breaks();
+    breaks > 0 && (breaks >= 64 || leaf.len() > SHORT_LEN)
+}
+
 /// Adds one or two leaves of these characters, which have at most 127 lines.
 pub(crate) fn add_lines(alloc: Global, leaf: Leaf, out: &mut Vec<Text>) -> Result<(), AllocError>
     requires few { count_breaks leaf < 127 }
     requires fits { length leaf < 2 ^ 32 }
     ensures { OnOk result (AddsTexts 0 leaf out.old.items out.new.items) }
 {
-    if leaf.breaks() < 64 {
+    if !is_cut(&leaf) {
         out.push(make_leaf(alloc, leaf)?)?;
         return Ok(());
     }
@@ -73,7 +90,7 @@ pub(crate) fn add_level(
     requires fits { length (joined parts.items) < 2 ^ 32 }
     ensures { OnOk result (AddsTexts (height + 1) (joined parts.items) out.old.items out.new.items) }
 {
-    if parts.len() <= 32 {
+    if parts.len() <= FEW_PARTS {
         out.push(make_branch(alloc, parts, height)?)?;
         return Ok(());
     }

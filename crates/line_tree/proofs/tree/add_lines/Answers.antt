@@ -7,7 +7,7 @@ pub make_leaf-requires-3-clause-few : goal.make_leaf-requires-3-clause-few
 make_leaf-requires-3-clause-few c =
     let k = cut_at c.args.leaf _ _ c.break_place-place.ensures in
     let suffix : c.in_ok-suffix.suffix ≡ drop (c.break_place-place.result + 1) c.args.leaf = c.in_ok-suffix.ensures ∙ rw c.len.ensures k.rest in
-    rw suffix (omega (arith, k.second, c.requires.few, c.breaks-2.ensures, c.breaks.ensures))
+    rw suffix (omega (arith, k.second, c.requires.few, c.breaks.ensures))
 
 pub returns : goal.returns
 returns c =
