@@ -14,6 +14,7 @@ mod filter_len;
 mod filtered;
 mod half;
 mod inserted_text;
+mod meeting;
 mod only_replace;
 mod place;
 mod protected_range;

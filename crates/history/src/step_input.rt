@@ -195,11 +195,7 @@ impl StepInput {
     {
         match items.first_change() {
             None => Ok(false),
-            Some(change) => {
-                let own = self.changes.desc()?;
-                let other = change.changes.desc()?;
-                own.meets(&other)
-            }
+            Some(change) => self.changes.meets(&change.changes),
         }
     }
 }
