@@ -134,6 +134,37 @@ fn changes_of_one_document(rt: HostRuntime) -> Result<(), Fail> {
     Ok(())
 }
 
+/// Whether sets of changes of one document of ten characters meet.
+fn meet(
+    alloc: Global,
+    spans: &[(u32, u32, &'static [char])],
+    others: &[(u32, u32, &'static [char])],
+) -> Result<bool, ChangesError> {
+    let first = set(alloc, spans, 10)?;
+    let second = set(alloc, others, 10)?;
+    Ok(first.meets(&second)?)
+}
+
+#[test]
+fn sets_meet_where_ranges_touch(rt: HostRuntime) -> Result<(), Fail> {
+    let cases: [(
+        &[(u32, u32, &'static [char])],
+        &[(u32, u32, &'static [char])],
+        bool,
+    ); 6] = [
+        (&[(2, 4, &['x'])], &[(4, 6, &[])], true),
+        (&[(2, 4, &[])], &[(5, 6, &['y'])], false),
+        (&[(0, 0, &['x'])], &[(0, 0, &['y'])], true),
+        (&[(1, 2, &[]), (8, 9, &[])], &[(5, 6, &[])], false),
+        (&[(1, 2, &[]), (8, 9, &[])], &[(9, 10, &[])], true),
+        (&[], &[(0, 10, &[])], false),
+    ];
+    for (spans, others, want) in cases {
+        assert!(rt; meet(rt.alloc(), spans, others)? == want);
+    }
+    Ok(())
+}
+
 #[test]
 fn a_set_that_changes_nothing(rt: HostRuntime) -> Result<(), Fail> {
     let old = ['a', 'b', 'c', 'd'];

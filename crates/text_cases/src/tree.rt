@@ -123,15 +123,34 @@ fn a_leaf_with_more_lines_than_it_may_have_becomes_two(rt: HostRuntime) -> Resul
     Ok(())
 }
 
-/// How many parts the text of 4,095 breaks, which has two parts of 16 leaves and a last one of 32, has once 63 breaks more stand
-/// at a place.
+/// How many parts the text of 3,839 breaks, which has four parts of 10 leaves and a last one of 20, has once 63 breaks more
+/// stand at a place.
 fn parts_of_grown(alloc: Global, at: u32) -> Result<usize, AllocError> {
-    Ok(grown(alloc, 4095, at)?.parts().len())
+    Ok(grown(alloc, 3839, at)?.parts().len())
 }
 
 #[test]
 fn a_branch_with_more_parts_than_it_may_have_becomes_two(rt: HostRuntime) -> Result<(), Fail> {
-    assert!(rt; parts_of_grown(rt.alloc(), 1000)? == 3);
-    assert!(rt; parts_of_grown(rt.alloc(), 3000)? == 4);
+    assert!(rt; parts_of_grown(rt.alloc(), 1000)? == 5);
+    assert!(rt; parts_of_grown(rt.alloc(), 3000)? == 6);
+    Ok(())
+}
+
+/// A text of three lines of 100 characters each, with one character more at its start.
+fn lengthened(alloc: Global) -> Result<Text, AllocError> {
+    let mut characters = ['a'; 302];
+    characters[100] = '\n';
+    characters[201] = '\n';
+    replaced(&text(alloc, &characters)?, 0, 0, &text(alloc, &['b'])?)
+}
+
+#[test]
+fn an_edited_leaf_of_several_lines_and_many_characters_becomes_two(
+    rt: HostRuntime,
+) -> Result<(), Fail> {
+    let text = lengthened(rt.alloc())?;
+    assert!(rt; text.len() == 303);
+    assert!(rt; text.lines() == 3);
+    assert!(rt; text.parts().len() == 2);
     Ok(())
 }
