@@ -6,7 +6,7 @@ ghost use Rattle.range_set.specs.PrivatePages.{IsPage, further};
 ghost use Rattle.range_set.specs.PrivateUpdates.{AreSharedBefore};
 
 use crate::chunk::Placed;
-use crate::group::{Group, PlacedGroup, few_of, full_among, full_for};
+use crate::group::{Group, MIN_FULL, PlacedGroup, few_of, full_among, full_for};
 use crate::group_cursor::GroupCursor;
 use crate::group_list::GroupList;
 use crate::page::Page;
@@ -27,13 +27,18 @@ pub(crate) struct GroupBuilder<T: RangeValue> {
 }
 
 impl<T: RangeValue> GroupBuilder<T> {
-    /// A builder without ranges for what becomes of a set of so many pages. It has room for them and one more. `Err`: out of memory.
-    pub(crate) fn for_pages(alloc: Global, pages: usize) -> Result<GroupBuilder<T>, AllocError>
+    /// A builder without ranges for what becomes of a set of so many pages, of which the first has so many groups. It has room for
+    /// them and one more. `Err`: out of memory.
+    pub(crate) fn for_pages(
+        alloc: Global,
+        pages: usize,
+        groups: usize,
+    ) -> Result<GroupBuilder<T>, AllocError>
         ensures builder { IfOk result (IsGroupBuilder T.rules) }
         ensures ranges { IfOk result (λ builder. grouped builder ≡ []) }
     {
         Ok(GroupBuilder {
-            done: PageBuilder::with_capacity(alloc, pages.saturating_add(1))?,
+            done: PageBuilder::with_capacity(alloc, pages.saturating_add(1), groups)?,
             len: 0,
             full: full_among(pages),
         })
@@ -45,7 +50,7 @@ impl<T: RangeValue> GroupBuilder<T> {
         ensures ranges { IfOk result (λ builder. grouped builder ≡ []) }
     {
         Ok(GroupBuilder {
-            done: PageBuilder::with_capacity(alloc, 0)?,
+            done: PageBuilder::with_capacity(alloc, 0, chunks / MIN_FULL)?,
             len: 0,
             full: full_for(chunks),
         })

@@ -48,6 +48,14 @@ impl<'a, T: RangeValue> GroupCursor<'a, T> {
         self.pages.len()
     }
 
+    /// How many groups the first page that begins after it has. No contract speaks of this: it only says how much room to make.
+    pub(crate) fn groups_next(&self) -> usize {
+        match self.pages.first() {
+            Some(placed) => placed.page.groups.len(),
+            None => 0,
+        }
+    }
+
     /// The next group, its place, and the place after it.
     pub(crate) fn split_first(&self) -> Option<(u32, &'a Rc<Group<T>>, GroupCursor<'a, T>)>
         ensures some { IfSome result (λ x. PlacesFirst T.rules self.now x.0 x.1.now x.2) }

@@ -27,27 +27,34 @@ pub(crate) struct MappedBuilder<T: RangeValue> {
 }
 
 impl<T: RangeValue> MappedBuilder<T> {
-    /// A builder without ranges for what becomes of a set of so many pages. `Err`: out of memory.
-    pub(crate) fn for_pages(alloc: Global, pages: usize) -> Result<MappedBuilder<T>, AllocError>
+    /// A builder without ranges for what becomes of a set of so many pages, of which the first has so many groups. `Err`: out of
+    /// memory.
+    pub(crate) fn for_pages(
+        alloc: Global,
+        pages: usize,
+        groups: usize,
+    ) -> Result<MappedBuilder<T>, AllocError>
         ensures builder { IfOk result (IsMappedBuilder T.rules) }
         ensures ranges { IfOk result (λ builder. put_down builder ≡ []) }
         ensures none { IfOk result (λ builder. builder.run.items ≡ []) }
     {
         Ok(MappedBuilder {
-            groups: GroupBuilder::for_pages(alloc, pages)?,
+            groups: GroupBuilder::for_pages(alloc, pages, groups)?,
             chunks: ChunkBuilder::new(alloc),
             run: Vec::new(alloc),
         })
     }
 
-    /// Makes room for so many chunks. `Err`: out of memory.
-    pub(crate) fn reserve(&mut self, chunks: usize) -> Result<(), AllocError>
+    /// Makes room for so many chunks, and where there are none yet, for so many more, or as many as make a group full, if those are
+    /// more. `Err`: out of memory.
+    pub(crate) fn reserve(&mut self, chunks: usize, more: usize) -> Result<(), AllocError>
         requires builder { IsMappedBuilder T.rules self.old }
         ensures builder { IsMappedBuilder T.rules self.new }
         ensures ranges { put_down self.new ≡ put_down self.old }
         ensures run { self.new.run ≡ self.old.run }
     {
-        reserve(&mut self.chunks.done, chunks)
+        let expected = chunks.saturating_add(more).max(self.groups.full);
+        reserve(&mut self.chunks.done, chunks, expected)
     }
 
     /// Whether a group of so many chunks is to become one with those that stand before it and aren't in a group yet: whether there are

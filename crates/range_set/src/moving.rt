@@ -10,7 +10,7 @@ ghost use Rattle.range_set.specs.Order.{first_fault};
 ghost use Rattle.range_set.specs.PrivateMoving.{IsClearWalk};
 ghost use Rattle.range_set.specs.PrivateChunks.{AreGroups, AreGroupsOf, Ascend, IsChunk, flat, shift, spread};
 
-use crate::chunk::Chunk;
+use crate::chunk::{Chunk, Placed};
 use crate::clear_walk::ClearWalk;
 use crate::group::Group;
 use crate::group_cursor::GroupCursor;
@@ -75,7 +75,7 @@ fn map_all<'a, T: RangeValue, L: Ledger>(
     let _new_len = changes.new_len();
     let mut left = changed;
     let mut walk = ClearWalk::new(changes);
-    let mut builder = MappedBuilder::for_pages(alloc, groups.pages_left())?;
+    let mut builder = MappedBuilder::for_pages(alloc, groups.pages_left(), groups.groups_next())?;
     // What lies before the first replaced range stays in place, and is shared here: the loop makes the page anew of each group that it
     // takes.
     let mut rest = builder.groups.share_carried(groups, 0, 0, changed)?;
@@ -83,7 +83,7 @@ fn map_all<'a, T: RangeValue, L: Ledger>(
         left = ranges_from(left, base);
         rest = others;
         if is_opened(base, group, left, &builder) {
-            builder.reserve(group.chunks.len())?;
+            builder.reserve(group.chunks.len(), chunks_met(&rest, left))?;
             let mut chunks = group.chunks.as_slice();
             while let Some((inner, more)) = chunks.split_first() {
                 let start = inner.start + base;
@@ -96,6 +96,7 @@ fn map_all<'a, T: RangeValue, L: Ledger>(
                         left,
                         &mut walk,
                         index,
+                        ranges_met(base, more, left),
                         &mut builder.run,
                         mapped,
                     )?;
@@ -156,14 +157,49 @@ fn is_affected<T: RangeValue>(start: u32, chunk: &Rc<Chunk<T>>, changed: &[Chang
     chunk.is_turned || first_meets(changed, start, start + chunk.reach)
 }
 
-/// Puts the ranges of a chunk at the place `start` that the changes of a walk keep, moved, after a run of others. The ranges that the
-/// changes replace are given from the first on that may meet the chunk. `Err`: out of memory.
+/// How many chunks the next group has, if the first of some replaced ranges meets it. No contract speaks of this: it only says how
+/// much room to make.
+fn chunks_met<T: RangeValue>(groups: &GroupCursor<'_, T>, changed: &[ChangedRange]) -> usize {
+    match (groups.split_first(), changed.first()) {
+        (Some((start, group, _)), Some(first)) if is_met(start, group.reach, first) => {
+            group.chunks.len()
+        }
+        _ => 0,
+    }
+}
+
+/// Whether a replaced range meets the hull that runs from a place so far. No contract speaks of this: it only says how much room to
+/// make.
+fn is_met(start: u32, reach: u32, changed: &ChangedRange) -> bool {
+    start <= changed.to_a && changed.from_a <= start.saturating_add(reach)
+}
+
+/// How many ranges the first of some chunks have, those that the first of some replaced ranges meets. No contract speaks of this: it only
+/// says how much room to make.
+fn ranges_met<T>(base: u32, chunks: &[Placed<T>], changed: &[ChangedRange]) -> usize {
+    let Some(first) = changed.first() else {
+        return 0;
+    };
+    let mut len: usize = 0;
+    for placed in chunks {
+        let start = placed.start.saturating_add(base);
+        if !is_met(start, placed.chunk.reach, first) {
+            return len;
+        }
+        len = len.saturating_add(placed.chunk.ranges.len());
+    }
+    len
+}
+
+/// Puts the ranges of a chunk at the place `start` that the changes of a walk keep, moved, after a run of others, and makes room for
+/// so many more. The ranges that the changes replace are given from the first on that may meet the chunk. `Err`: out of memory.
 fn map_each<'a, T: RangeValue, L: Ledger>(
     start: u32,
     chunk: &Rc<Chunk<T>>,
     changed: &'a [ChangedRange],
     walk: &mut ClearWalk<'a>,
     index: &PositionIndex,
+    more: usize,
     run: &mut Vec<Ranged<T>>,
     mapped: &mut Steps<L>,
 ) -> Result<(), AllocError>
@@ -182,7 +218,8 @@ fn map_each<'a, T: RangeValue, L: Ledger>(
     ensures cost { mapped.new ≤ mapped.old + length chunk.now.value.ranges.items }
 {
     let alloc = *run.allocator();
-    reserve(run, chunk.ranges.len())?;
+    let len = chunk.ranges.len();
+    reserve(run, len, len.saturating_add(more))?;
     let mut left = changed;
     for range in &chunk.ranges {
         mapped.tick();

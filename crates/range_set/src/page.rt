@@ -10,6 +10,9 @@ use std::rc::Rc;
 /// The greatest number of groups of a page that is made of groups. No contract speaks of it: it only decides where pages are cut.
 pub(crate) const MAX_GROUPS: usize = 32;
 
+/// For how many more groups a page that is begun has room than the one that it stands for has: a change parts a group or two.
+pub(crate) const MORE_GROUPS: usize = 2;
+
 /// Groups in order, whose places count from the start of the first range.
 #[derive(Drop)]
 pub(crate) struct Page<T> {

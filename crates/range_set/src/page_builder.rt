@@ -4,7 +4,7 @@ ghost use Rattle.range_set.specs.PrivatePages.{ArePages, IsPage, further, laid};
 
 use crate::group::PlacedGroup;
 use crate::group_list::GroupList;
-use crate::page::{MAX_GROUPS, Page, PlacedPage};
+use crate::page::{MAX_GROUPS, MORE_GROUPS, Page, PlacedPage};
 use crate::parts::trim;
 use crate::range_value::RangeValue;
 use std::alloc::{AllocError, Global};
@@ -19,6 +19,8 @@ pub(crate) struct PageBuilder<T: RangeValue> {
     done: Vec<PlacedPage<T>>,
     start: u32,
     growing: Page<T>,
+    /// For how many groups a page that is begun has room at first.
+    room: usize,
 }
 
 impl<T: RangeValue> Model for PageBuilder<T> {
@@ -34,14 +36,19 @@ impl<T: RangeValue> Model for PageBuilder<T> {
 }
 
 impl<T: RangeValue> PageBuilder<T> {
-    /// A builder without groups, with room for so many pages.
-    pub(crate) fn with_capacity(alloc: Global, pages: usize) -> Result<PageBuilder<T>, AllocError>
+    /// A builder without groups, with room for so many pages of about so many groups. `Err`: out of memory.
+    pub(crate) fn with_capacity(
+        alloc: Global,
+        pages: usize,
+        groups: usize,
+    ) -> Result<PageBuilder<T>, AllocError>
         ensures { IfOk result (λ builder. builder ≡ []) }
     {
         Ok(PageBuilder {
             done: Vec::with_capacity(alloc, pages)?,
             start: 0,
             growing: Page::empty(alloc),
+            room: groups.saturating_add(MORE_GROUPS).min(MAX_GROUPS),
         })
     }
 
@@ -57,7 +64,7 @@ impl<T: RangeValue> PageBuilder<T> {
             seal(&mut self.done, self.start, &mut self.growing)?;
         }
         if self.growing.groups.is_empty() {
-            self.growing.groups.reserve(MAX_GROUPS)?;
+            self.growing.groups.reserve_exact(self.room)?;
             self.start = placed.start;
         }
         self.growing.put(self.start, placed)

@@ -20,22 +20,23 @@ pub(crate) fn part_len(len: usize, most: usize, few: usize) -> usize
     (parts - parts / 2) * most
 }
 
-/// Makes room for so many more items in a list: for just these, where there are none yet. `Err`: out of memory.
-pub(crate) fn reserve<T>(list: &mut Vec<T>, more: usize) -> Result<(), AllocError>
+/// Makes room for so many more items in a list: for as many as are expected, if those are more, where there are none yet. `Err`: out
+/// of memory.
+pub(crate) fn reserve<T>(list: &mut Vec<T>, more: usize, expected: usize) -> Result<(), AllocError>
     ensures { list.new.items ≡ list.old.items }
 {
     if list.is_empty() {
-        list.reserve_exact(more)
+        list.reserve_exact(more.max(expected))
     } else {
         list.reserve(more)
     }
 }
 
-/// Gives back the free room of a list where half of its room or more is free.
+/// Gives back the free room of a list where more than half of its room is free: a list that is cut in half keeps its room.
 pub(crate) fn trim<T>(list: &mut Vec<T>)
     ensures { list.new.items ≡ list.old.items }
 {
-    if list.len() <= list.capacity() / 2 {
+    if list.len() < list.capacity() / 2 {
         list.shrink_to_fit();
     }
 }

@@ -39,7 +39,7 @@ pub(crate) fn added_groups<T: RangeValue>(
         unreachable!()
     };
     let (first, last) = (first.from, last.from);
-    let mut builder = GroupBuilder::for_pages(alloc, groups.pages_left())?;
+    let mut builder = GroupBuilder::for_pages(alloc, groups.pages_left(), groups.groups_next())?;
     let rest = builder.share_before(groups, first)?;
     let (chunks, rest) = opened_by(alloc, rest, last)?;
     let chunks = with_all(alloc, chunks.as_slice(), add)?;
@@ -269,7 +269,7 @@ fn keep_each<T: RangeValue, F: Fn(&RangeRef<'_, T>) -> bool>(
     ensures part { IfOk result (λ _. KeepsPart (map (shift placed.now.start) placed.now.chunk.value.ranges.items) run.old.items run.new.items) }
 {
     // Mostly one range is added, and belongs among these or after them.
-    reserve(run, placed.chunk.ranges.len().saturating_add(1))?;
+    reserve(run, placed.chunk.ranges.len().saturating_add(1), 0)?;
     for range in &placed.chunk.ranges {
         let range = RangeRef {
             from: range.from + placed.start,

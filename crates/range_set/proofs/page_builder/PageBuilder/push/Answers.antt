@@ -5,7 +5,7 @@ use Rattle.range_set.specs.PrivatePages.{further, laid}
 use Rattle.range_set.proofs.Groups.{flat-spread_append}
 use Rattle.range_set.proofs.Pages.{length_further}
 use Rattle.range_set.proofs.page_builder.PageBuilder.push.Goals as goal
-use Rattle.range_set.proofs.page_builder.PageBuilder.push.Goals.{then-len-ge-MAX_GROUPS+in_ok-seal, else-len-ge-MAX_GROUPS+else-placed-self, then-is_empty+in_ok-reserve, else-is_empty}
+use Rattle.range_set.proofs.page_builder.PageBuilder.push.Goals.{then-len-ge-MAX_GROUPS+in_ok-seal, else-len-ge-MAX_GROUPS+else-placed-self, then-is_empty+in_ok-reserve_exact, else-is_empty}
 
 pub put-requires-clause-room : goal.put-requires-clause-room
 put-requires-clause-room g c =
@@ -22,7 +22,7 @@ put-requires-clause-room g c =
           omega (arith, same, whole, parts, moved)
     ] in
     let same : length (flat (spread c.if-is_empty.self-inside.growing.groups.items)) ≡ length (flat (spread c.if-len-ge-MAX_GROUPS.self-inside.growing.groups.items)) = elim c.if-is_empty.branch [
-      | then-is_empty+in_ok-reserve w ↦ ap (λ x. length (flat (spread x.growing.groups.items))) w.self-inside-is ∙ ap (λ gs. length (flat (spread gs))) w.reserve.ensures.items
+      | then-is_empty+in_ok-reserve_exact w ↦ ap (λ x. length (flat (spread x.growing.groups.items))) w.self-inside-is ∙ ap (λ gs. length (flat (spread gs))) w.reserve_exact.ensures.items
       | else-is_empty w ↦ ap (λ x. length (flat (spread x.growing.groups.items))) w.self-inside-is
     ] in
     let room = c.requires.room in
