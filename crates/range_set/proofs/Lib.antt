@@ -26,3 +26,4 @@ pub mod Adding
 pub mod SharedBefore
 pub mod Opened
 pub mod PartedChunks
+pub mod MovedBack

@@ -32,7 +32,7 @@ impl<T: RangeValue> Ranked for Ranged<T> {
 
 impl<T: RangeValue> Ranged<T> {
     /// Whether it belongs before another: by its start, then by its start side.
-    fn is_before(&self, other: &Ranged<T>) -> bool
+    pub(crate) fn is_before(&self, other: &Ranged<T>) -> bool
         ensures { result ≡ before T.rules self.now other.now }
     {
         self.from < other.from

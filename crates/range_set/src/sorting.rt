@@ -5,6 +5,7 @@ ghost use Rattle.range_set.specs.PrivateBuilders.{IsBuilder, built};
 ghost use Rattle.stable_order.specs.StableSort.{stable_sort};
 
 use crate::chunk_builder::ChunkBuilder;
+use crate::range_error::RangeError;
 use crate::range_value::RangeValue;
 use crate::ranged::{Ranged, fault_in};
 use stable_order::sort_stably;
@@ -47,12 +48,41 @@ fn put_run<T: RangeValue>(
     builder.put_all(ranges)
 }
 
-/// Sorts ranges stably. Those that are in order, as most runs are, are left as they are, after one look. `Err`: out of memory.
+/// Sorts ranges stably. Those that are in order, as most runs are, are left as they are, after one look. Where one range stands too
+/// late, as an added one mostly does, it is moved, and a second look tells that they are in order. `Err`: out of memory.
 fn sort<T: RangeValue>(ranges: &mut Vec<Ranged<T>>) -> Result<(), AllocError>
     ensures { IfOk result (λ _. ranges.new.items ≡ stable_sort (before T.rules) ranges.old.items) }
 {
     match fault_in(ranges) {
         None => Ok(()),
+        Some(RangeError::NotSorted { index }) => {
+            move_back(ranges, index);
+            sort_unless_sorted(ranges)
+        }
         Some(_) => sort_stably(ranges),
+    }
+}
+
+/// Sorts ranges stably, unless they are in order. `Err`: out of memory.
+fn sort_unless_sorted<T: RangeValue>(ranges: &mut Vec<Ranged<T>>) -> Result<(), AllocError>
+    ensures { IfOk result (λ _. ranges.new.items ≡ stable_sort (before T.rules) ranges.old.items) }
+{
+    match fault_in(ranges) {
+        None => Ok(()),
+        Some(_) => sort_stably(ranges),
+    }
+}
+
+/// Moves the range at an index before those before it that it belongs before, up to the first that it doesn't.
+fn move_back<T: RangeValue>(ranges: &mut Vec<Ranged<T>>, index: usize)
+    ensures { stable_sort (before T.rules) ranges.new.items ≡ stable_sort (before T.rules) ranges.old.items }
+{
+    if index >= ranges.len() {
+        return;
+    }
+    let mut at = index;
+    while at > 0 && ranges[at].is_before(&ranges[at - 1]) {
+        ranges.swap(at - 1, at);
+        at -= 1;
     }
 }
