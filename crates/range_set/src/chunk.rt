@@ -22,13 +22,13 @@ pub(crate) const MAX_SHARED_LEN: u32 = 256;
 /// Up to 128 ranges in order, whose places count from the start of the first.
 #[derive(Drop)]
 pub(crate) struct Chunk<T> {
-    pub(crate) ranges: Vec<Ranged<T>>,
     /// Their greatest end: the hull of the chunk runs from its place to its place and this.
     pub(crate) reach: u32,
     /// Whether one of them is empty with an end side less than its start side.
     pub(crate) is_turned: bool,
     /// Whether one of them stands for what it covers.
     pub(crate) has_point: bool,
+    pub(crate) ranges: Vec<Ranged<T>>,
 }
 
 /// A chunk, which sets share, at its place: the start of its first range, in characters.

@@ -42,7 +42,6 @@ pub(crate) fn joined_of(full: usize) -> usize {
 /// Up to 64 chunks in order, whose places count from the start of the first range.
 #[derive(Drop)]
 pub(crate) struct Group<T> {
-    pub(crate) chunks: Vec<Placed<T>>,
     /// How many ranges they have.
     pub(crate) count: usize,
     /// The greatest end of their ranges: the hull of the group runs from its place to its place and this.
@@ -51,6 +50,7 @@ pub(crate) struct Group<T> {
     pub(crate) is_turned: bool,
     /// Whether one of their ranges stands for what it covers.
     pub(crate) has_point: bool,
+    pub(crate) chunks: Vec<Placed<T>>,
 }
 
 /// A group, which sets share, at its place: the start of its first range, in characters.

@@ -16,7 +16,6 @@ pub(crate) const MORE_GROUPS: usize = 2;
 /// Groups in order, whose places count from the start of the first range.
 #[derive(Drop)]
 pub(crate) struct Page<T> {
-    pub(crate) groups: Vec<PlacedGroup<T>>,
     /// How many ranges they have.
     pub(crate) count: usize,
     /// The greatest end of their ranges: the hull of the page runs from its place to its place and this.
@@ -25,6 +24,7 @@ pub(crate) struct Page<T> {
     pub(crate) is_turned: bool,
     /// Whether one of their ranges stands for what it covers.
     pub(crate) has_point: bool,
+    pub(crate) groups: Vec<PlacedGroup<T>>,
 }
 
 /// A page, which sets share, at its place: the start of its first range, in characters.

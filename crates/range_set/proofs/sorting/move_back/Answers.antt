@@ -1,4 +1,4 @@
-use Rattle.std.proofs.Common.{◌≡◌, ℕ, suc, ◌+◌, ◌-◌, ◌<◌, length, true, get_or, sym, ap, ◌∙◌, arith}
+use Rattle.std.proofs.Common.{◌≡◌, suc, ◌-◌, length, get_or, sym, ap, ◌∙◌, arith}
 use Rattle.stable_order.specs.StableSort.{stable_sort}
 use Rattle.range_set.specs.Order.{before}
 use Rattle.range_set.specs.Ranking.{before-order}
