@@ -164,7 +164,7 @@ abbrev pub Low : ℕ → List LineRange → Type 0
 Low n [] = Unit {0}
 Low n (r ∷ rs) = (n ≤ r.first) × Low n rs
 
-or_parts : (a b : Bool) → (a || b) ≡ false → (a ≡ false) × (b ≡ false)
+pub or_parts : (a b : Bool) → (a || b) ≡ false → (a ≡ false) × (b ≡ false)
 or_parts true b e = cc
 or_parts false b e = (refl, e)
 

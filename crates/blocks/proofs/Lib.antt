@@ -5,3 +5,4 @@ pub mod Finding
 pub mod Merging
 pub mod Covered
 pub mod Apart
+pub mod Plain

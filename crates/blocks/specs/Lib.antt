@@ -1,2 +1,3 @@
 pub mod Hiding
 pub mod Joins
+pub mod Points

@@ -11,7 +11,9 @@ mod blocks;
 mod collecting;
 mod joins;
 mod line_range;
+mod points;
 mod searching;
 
 pub use block::Block;
 pub use blocks::Blocks;
+pub use points::has_points;

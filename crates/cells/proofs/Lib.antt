@@ -1,2 +1,3 @@
 pub mod Layouts
+pub mod Printable
 pub mod Widths

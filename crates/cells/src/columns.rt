@@ -2,12 +2,25 @@
 ghost use Rattle.std.specs.Prelude.{◌≡◌, ◌+◌, ◌*◌, ◌<◌, ◌≤◌, length, chars};
 ghost use Rattle.cells.specs.Layout.{cells_of, cluster_cells};
 
-use crate::cluster::{char_count, has_control, is_tab};
+use crate::cluster::{char_count, has_control, is_printable, is_tab};
 use unicode_segmentation::UnicodeSegmentation;
 use unicode_width::UnicodeWidthStr;
 
 /// How many columns the text takes from column `start` on, where tabs stop at multiples of `tab` columns.
 pub fn columns_of(text: &str, tab: u8, start: u128) -> u128
+    requires positive { 0 < tab }
+    requires small { tab ≤ 16 }
+    ensures value { result ≡ length (cells_of tab start (chars text.now)) }
+    ensures bound { result ≤ 16 * length text.now }
+{
+    if is_printable(text) {
+        return text.len() as u128;
+    }
+    columns_of_clusters(text, tab, start)
+}
+
+/// The same of any text, cluster by cluster.
+fn columns_of_clusters(text: &str, tab: u8, start: u128) -> u128
     requires positive { 0 < tab }
     requires small { tab ≤ 16 }
     ensures value { result ≡ length (cells_of tab start (chars text.now)) }

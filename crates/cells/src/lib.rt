@@ -11,5 +11,6 @@ mod columns;
 mod layout;
 
 pub use cell::Cell;
+pub use cluster::{char_count, is_printable};
 pub use columns::columns_of;
 pub use layout::{cells_of, text_of};

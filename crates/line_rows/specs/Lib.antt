@@ -2,6 +2,7 @@ pub mod Row
 pub mod Groups
 pub mod Parts
 pub mod Column
+pub mod Place
 pub mod Run
 pub use Rattle.pieces.specs.Piece
 pub use Rattle.pieces.specs.Widths
@@ -9,3 +10,4 @@ pub use Rattle.pieces.specs.Edge
 pub use Rattle.pieces.specs.Standing
 pub use Rattle.pieces.specs.Styles
 pub use Rattle.blocks.specs.Hiding
+pub use Rattle.blocks.specs.Points

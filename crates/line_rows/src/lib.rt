@@ -8,12 +8,14 @@
 
 mod columns;
 mod cursor;
+mod places;
 mod rows;
 mod runs;
 
-pub use blocks::{Block, Blocks};
+pub use blocks::{Block, Blocks, has_points};
 pub use columns::column_of;
 pub use cursor::Cursor;
 pub use pieces::{Edge, Piece, Pieces, piece_at, pieces, same_style, shown_pieces};
+pub use places::place_in_line;
 pub use rows::{StyledCell, row};
 pub use runs::{Run, runs_of};

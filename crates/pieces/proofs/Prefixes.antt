@@ -174,7 +174,7 @@ take-append-more (suc m) n (x ∷ xs) =
     ap (λ (k : ℕ). take k (x ∷ xs)) more ∙ ap (λ (r : List ℕ). x ∷ r) (take-append-more m n xs)
 
 -- the characters up to a place, and those from there on
-slice-both : (at stop end : ℕ) (text : List ℕ) → at ≤ stop → stop ≤ end → slice at end text ≡ slice at stop text ++ slice stop end text
+pub slice-both : (at stop end : ℕ) (text : List ℕ) → at ≤ stop → stop ≤ end → slice at end text ≡ slice at stop text ++ slice stop end text
 slice-both at stop end text before after =
     let long : end - at ≡ stop - at + (end - stop) = omega arith in
     let place : stop - at + at ≡ stop = omega arith in

@@ -330,8 +330,8 @@ fn push_some(
     push_clusters(alloc, filling, block, text.as_str(), at - block.from)
 }
 
-/// The characters from one place to another, in UTF-8.
-fn slice_text(text: &Text, from: u32, to: u32) -> Result<String, AllocError>
+/// The characters from one place to another, in UTF-8. `Err`: out of memory.
+pub fn slice_text(text: &Text, from: u32, to: u32) -> Result<String, AllocError>
     requires order { from ≤ to }
     requires within { to ≤ length text.now.characters }
     ensures { IfOk result (λ s. chars (string_bytes s) ≡ slice from to text.now.characters) }

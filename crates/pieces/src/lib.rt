@@ -19,7 +19,7 @@ mod shading;
 mod style_range;
 mod styles;
 
-pub use block_pieces::{piece_at, pieces, shown_pieces};
+pub use block_pieces::{piece_at, pieces, shown_pieces, slice_text};
 pub use edge::Edge;
 pub use piece::{Piece, Pieces};
 pub use styles::same_style;

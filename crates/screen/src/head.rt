@@ -1,14 +1,15 @@
 // Where the main range's head stands, and the window that shows it.
-ghost use Rattle.std.specs.Prelude.{◌≡◌, ◌<◌, ◌≤◌, length, IfOk, Some};
+ghost use Rattle.std.specs.Prelude.{◌≡◌, ◌<◌, ◌≤◌, false, length, IfOk, IfSome, Some};
 ghost use Rattle.selection.specs.Selections.{LieIn};
 ghost use Rattle.viewport.specs.Reveal.{Shows};
 ghost use Rattle.blocks.specs.Hiding.{blocks_of};
+ghost use Rattle.blocks.specs.Points.{has_points};
 ghost use Rattle.screen.specs.Screen.{shown_view};
 ghost use Rattle.screen.specs.Head.{ShowsHead, head_place, place_from};
 ghost use Rattle.screen.specs.Reveal.{moved_to, revealed_window};
 
 use crate::view::View;
-use line_rows::{Blocks, Cursor, column_of, piece_at};
+use line_rows::{Blocks, Cursor, column_of, has_points, piece_at, place_in_line};
 use std::alloc::{AllocError, Global};
 use viewport::Viewport;
 
@@ -30,9 +31,49 @@ pub fn reveal(alloc: Global, view: &View<'_>) -> Result<Viewport, AllocError>
     ensures value { IfOk result (λ window. window ≡ revealed_window (shown_view view.now)) }
     ensures shows { IfOk result (λ window. ShowsHead (record (shown_view view.now) { window = window })) }
 {
-    let blocks = Blocks::of(alloc, view.doc, view.layers)?;
-    let place = head_place(alloc, view, &blocks)?;
+    let place = place_of_head(alloc, view)?;
     Ok(moved(view.window, place))
+}
+
+/// Where the main range's head stands in the document. `Err`: out of memory.
+fn place_of_head(alloc: Global, view: &View<'_>) -> Result<HeadPlace, AllocError>
+    requires positive { 0 < (shown_view view.now).tab }
+    requires small { (shown_view view.now).tab ≤ 16 }
+    requires inside { LieIn (length (shown_view view.now).text) (shown_view view.now).selection.ranges }
+    ensures value { IfOk result (λ place. head_place (shown_view view.now) ≡ Some place) }
+    ensures some { IfOk result (λ place. 1 ≤ place.width) }
+{
+    if !has_points(view.layers) {
+        if let Some(place) = place_in_line_of(view)? {
+            return Ok(place);
+        }
+    }
+    let blocks = Blocks::of(alloc, view.doc, view.layers)?;
+    head_place(alloc, view, &blocks)
+}
+
+/// The same where each line is a block of which its characters alone are shown. `None`: those up to the one after the head
+/// don't tell.
+fn place_in_line_of(view: &View<'_>) -> Result<Option<HeadPlace>, AllocError>
+    requires plain { has_points (shown_view view.now).layers ≡ false }
+    requires positive { 0 < (shown_view view.now).tab }
+    requires small { (shown_view view.now).tab ≤ 16 }
+    requires inside { LieIn (length (shown_view view.now).text) (shown_view view.now).selection.ranges }
+    ensures value { IfOk result (λ found. IfSome found (λ place. head_place (shown_view view.now) ≡ Some place)) }
+    ensures some { IfOk result (λ found. IfSome found (λ place. 1 ≤ place.width)) }
+{
+    let main = view.selection.main();
+    let line = view.doc.line_at(main.head);
+    let pos = main.head - line.from;
+    let found = place_in_line(view.doc, line.from, line.to, view.tab, pos)?;
+    match found {
+        Some((column, width)) => Ok(Some(HeadPlace {
+            number: line.number,
+            column,
+            width,
+        })),
+        None => Ok(None),
+    }
 }
 
 /// The window moved to show a block and the piece that stands there.

@@ -3,7 +3,7 @@ use Rattle.std.specs.List.{concat}
 use Rattle.std.specs.Str.{chars}
 use Rattle.unicode_segmentation.specs.Iter.{graphemes_left}
 use Rattle.cells.specs.Layout.{cells_of, lay}
-use Rattle.cells.proofs.columns.columns_of.Given as goal
+use Rattle.cells.proofs.columns.columns_of_clusters.Given as goal
 
 abbrev pub invariant-loop-cluster : goal.invariant-loop-cluster
 invariant-loop-cluster l = record {
