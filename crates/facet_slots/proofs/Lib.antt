@@ -19,7 +19,9 @@ pub mod Ranged
 pub mod Resolved
 pub mod Rounds
 pub mod Sharing
+pub mod Shelving
 pub mod Standing
+pub mod Single
 pub mod Stated
 pub mod Still
 pub mod Unflagged

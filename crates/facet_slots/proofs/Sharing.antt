@@ -11,7 +11,7 @@ use Rattle.values.specs.Rules.{Rules}
 use Rattle.facet_slots.specs.Setups.{InputNode, PresentFacet, input_node}
 use Rattle.facet_slots.specs.Scenes.{SceneView, Values}
 use Rattle.facet_slots.specs.FacetValues.{node_outputs}
-use Rattle.facet_slots.specs.declared.next.Next.{Next}
+use Rattle.facet_slots.specs.declared.slot.Slot.{Slot}
 use Rattle.facet_slots.specs.declared.scene_flags.SceneFlags.{SceneFlags}
 use Rattle.facet_slots.specs.Flags.{Flags, find_node, same_nodes, same_outputs}
 use Rattle.facet_slots.specs.Nexts.{input_flagged, kept_outputs, next_from, changed_from, next_outputs, next_changed, IsNextFacet}
@@ -78,7 +78,7 @@ module _ (rules : Rules) (scene old_scene : SceneView) (moved : SceneFlags) (fla
       (sym (ap (λ (b : Bool). not b) same)) refl
 
 -- what is known of each part of a facet that stays is known of the whole
-pub parts-are : {E : Type 0} (P : Val → Bool → List (List Val) → Type 0) (value : Val) (inputs : List (List Val)) → P value false inputs → (r : Result Next E)
+pub parts-are : {E : Type 0} (P : Val → Bool → List (List Val) → Type 0) (value : Val) (inputs : List (List Val)) → P value false inputs → (r : Result Slot E)
     → IfOk r (λ n. n.value ≡ Some value) → IfOk r (λ n. n.flag ≡ false) → IfOk r (λ n. n.inputs ≡ inputs) → IfOk r (λ n. IsSomeAnd n.value (λ x. P x n.flag n.inputs))
 parts-are P value inputs h (Ok n) v f i =
     subst (λ (o : Option Val). IsSomeAnd o (λ x. P x n.flag n.inputs)) (sym v)

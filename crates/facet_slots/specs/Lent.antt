@@ -7,7 +7,6 @@ use Rattle.configuration.specs.declared.facet_def.FacetDef.{FacetDef}
 use Rattle.values.specs.Declarations.{Declarations}
 use Rattle.values.specs.Rules.{Rules}
 use Rattle.facet_slots.specs.declared.before.Before.{Before}
-use Rattle.facet_slots.specs.declared.marks.Marks.{Marks}
 use Rattle.facet_slots.specs.declared.kept.Kept.{Kept}
 use Rattle.facet_slots.specs.declared.setup.Setup.{Setup as LentSetup}
 use Rattle.facet_slots.specs.declared.setup.Present.{Present}
@@ -41,19 +40,19 @@ transition_of (lent.Update t) = Update t.now
 
 -- the values that are kept
 abbrev pub values_in : Kept → Values
-values_in kept = held kept.shelf.facets.items kept.shelf.fields.items
+values_in kept = held kept.shelf.facets kept.shelf.fields
 
 -- the state that is kept
 abbrev pub state_in : LentSetup → Kept → State
-state_in setup kept = state_of (setup_of setup) (scene_of kept.scene) kept.shelf.facets.items kept.shelf.fields.items
+state_in setup kept = state_of (setup_of setup) (scene_of kept.scene) kept.shelf.facets kept.shelf.fields
 
 -- the document and the selection of what is kept
 abbrev pub scene_in : Kept → SceneView
 scene_in kept = scene_of kept.scene
 
 -- the flags of facets and fields
-abbrev pub flags_in : Marks → Flags
-flags_in marks = flagged marks.facets.items marks.fields.items
+abbrev pub flags_in : Kept → Flags
+flags_in kept = flagged kept.shelf.facet_flags kept.shelf.field_flags
 
 -- the input nodes that a facet had
 abbrev pub nodes_before : Before → List InputNode
@@ -69,12 +68,12 @@ facet_in setup def facet = record { def = def; inputs = inputs_at (setup_of setu
 
 -- what is kept is of one state
 abbrev pub IsKeptIn : Rules → LentSetup → Kept → Type 0
-IsKeptIn rules setup kept = IsKept rules (setup_of setup) (scene_in kept) kept.shelf.facets.items kept.shelf.fields.items kept.inputs.items
+IsKeptIn rules setup kept = IsKept rules (setup_of setup) (scene_in kept) kept.shelf.facets kept.shelf.fields kept.shelf.inputs
 
 -- there is a place for each value, and for what each facet's inputs give
 abbrev pub HasRoomIn : LentSetup → Kept → Type 0
-HasRoomIn setup kept = HasRoom (setup_of setup) kept.shelf.facets.items kept.shelf.fields.items kept.inputs.items
+HasRoomIn setup kept = HasRoom (setup_of setup) kept.shelf.facets kept.shelf.fields kept.shelf.inputs
 
 -- and for each flag
-abbrev pub HasFlagRoomIn : LentSetup → Marks → Type 0
-HasFlagRoomIn setup marks = HasFlagRoom (setup_of setup) marks.facets.items marks.fields.items
+abbrev pub HasFlagRoomIn : LentSetup → Kept → Type 0
+HasFlagRoomIn setup kept = HasFlagRoom (setup_of setup) kept.shelf.facet_flags kept.shelf.field_flags

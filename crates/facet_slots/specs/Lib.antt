@@ -19,6 +19,9 @@ pub mod Keeping
 pub mod Flags
 pub mod Due
 pub mod Nexts
+pub mod Given
+pub mod GivenInputs
+pub mod Shelves
 pub mod Found
 pub mod Lent
 pub mod Slotted

@@ -1,30 +1,24 @@
 // What rules are shown.
-ghost use Rattle.std.specs.Prelude.{◌≡◌, IfOk, map, cond, slice_get, Some, None, option_map};
-ghost use Rattle.std.specs.Option.{option_flatten};
+ghost use Rattle.std.specs.Prelude.{◌≡◌, IfOk, map, cond, Some, None, option_map};
 ghost use Rattle.facet_slots.specs.Scenes.{IsScene, reads_document, reads_selection, shown as shown_of, vertices_of};
 ghost use Rattle.facet_slots.specs.Keeping.{held};
 ghost use Rattle.facet_slots.specs.Found.{scene_of};
 
-use crate::shared_val::SharedVal;
 use crate::shelf::Shelf;
-use configuration::Dependency;
+use configuration::{Dependency, Vertex};
 use line_tree::Text;
 use listed::Listed;
 use selection::Selection;
 use std::alloc::{AllocError, Global};
 use values::{Deps, Scene, Val};
 
-/// The value at a place, once more.
-fn copy_at(
-    alloc: Global,
-    values: &[Option<SharedVal>],
-    place: u32,
-) -> Result<Option<Val>, AllocError>
-    ensures { IfOk result (λ v. v ≡ option_flatten (slice_get values.now place)) }
+/// The value of a facet or field once more, none of an absent field.
+fn copy_of(alloc: Global, shelf: &Shelf, vertex: Vertex) -> Result<Option<Val>, AllocError>
+    ensures { IfOk result (λ v. v ≡ held shelf.now.facets shelf.now.fields vertex) }
 {
-    match values.get(place as usize) {
-        Some(Some(value)) => Ok(Some(value.value().try_copy(alloc)?)),
-        _ => Ok(None),
+    match shelf.value(vertex) {
+        Some(value) => Ok(Some(value.value().try_copy(alloc)?)),
+        None => Ok(None),
     }
 }
 
@@ -34,15 +28,19 @@ fn values_read(
     reads: &[Dependency],
     shelf: &Shelf,
 ) -> Result<Listed<Option<Val>>, AllocError>
-    ensures { IfOk result (λ vs. vs ≡ map (held shelf.now.facets.items shelf.now.fields.items) (vertices_of reads.now)) }
+    ensures { IfOk result (λ vs. vs ≡ map (held shelf.now.facets shelf.now.fields) (vertices_of reads.now)) }
 {
     let mut values = Vec::with_capacity(alloc, reads.len())?;
     for read in reads {
         match *read {
             Dependency::Doc => {}
             Dependency::Selection => {}
-            Dependency::Facet(facet) => values.push(copy_at(alloc, &shelf.facets, facet)?)?,
-            Dependency::Field(field) => values.push(copy_at(alloc, &shelf.fields, field)?)?,
+            Dependency::Facet(facet) => {
+                values.push(copy_of(alloc, shelf, Vertex::Facet(facet))?)?;
+            }
+            Dependency::Field(field) => {
+                values.push(copy_of(alloc, shelf, Vertex::Field(field))?)?;
+            }
         }
     }
     Ok(Listed::new(values))
@@ -100,7 +98,7 @@ pub fn shown(
     shelf: &Shelf,
 ) -> Result<Deps, AllocError>
     requires { IsScene (scene_of scene.now) }
-    ensures { IfOk result (λ deps. deps ≡ shown_of (scene_of scene.now) (held shelf.now.facets.items shelf.now.fields.items) reads.now) }
+    ensures { IfOk result (λ deps. deps ≡ shown_of (scene_of scene.now) (held shelf.now.facets shelf.now.fields) reads.now) }
 {
     shelf.known();
     let document = document_read(scene, reads)?;

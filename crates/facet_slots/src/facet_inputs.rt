@@ -1,28 +1,36 @@
-ghost use Rattle.std.specs.Prelude.{◌≡◌, IfOk, []};
+ghost use Rattle.std.specs.Prelude.{◌≡◌, ◌∷◌, [], IfOk};
 
 use crate::input_values::InputValues;
 use std::alloc::{AllocError, Global};
 use std::marker::Model;
 use std::rc::Rc;
 
+/// No input, one, as most facets with inputs have, or a list of them.
+#[derive(Drop)]
+pub(crate) enum Inputs {
+    Empty,
+    One(InputValues),
+    Many(Rc<Vec<InputValues>>),
+}
+
 /// What the inputs of a facet give, in flat order, which states share. Contracts see the values of each input.
 #[derive(Drop)]
 pub struct FacetInputs {
-    lists: Option<Rc<Vec<InputValues>>>,
+    inputs: Inputs,
 }
 
 impl Model for FacetInputs {
-    ghost use Rattle.std.specs.Prelude.{List, []};
-    ghost use Rattle.std.specs.Option.{option_map, unwrap_or};
+    ghost use Rattle.std.specs.Prelude.{List};
     ghost use Rattle.std.specs.Coded.{codes};
     ghost use Rattle.cm_plain.specs.Datum.{coded_datum};
     ghost use Rattle.values.specs.declared.val.Val.{Val};
+    ghost use Rattle.facet_slots.specs.GivenInputs.{given_inputs};
 
     ghost Value = { List (List Val) };
 
     ghost coded = { Prim.hlevel (codes, coded_datum) };
 
-    ghost view = { λ i. unwrap_or (option_map (λ lists. lists.value.items) i.lists) [] };
+    ghost view = { λ i. given_inputs i.inputs };
 }
 
 impl FacetInputs {
@@ -30,7 +38,18 @@ impl FacetInputs {
     pub fn none() -> FacetInputs
         ensures { result ≡ [] }
     {
-        FacetInputs { lists: None }
+        FacetInputs {
+            inputs: Inputs::Empty,
+        }
+    }
+
+    /// That of a facet that has one. Takes no memory.
+    pub fn one(values: InputValues) -> FacetInputs
+        ensures { result ≡ values ∷ [] }
+    {
+        FacetInputs {
+            inputs: Inputs::One(values),
+        }
     }
 
     /// These, to be shared. `Err`: out of memory.
@@ -41,7 +60,9 @@ impl FacetInputs {
             return Ok(FacetInputs::none());
         }
         match Rc::new(alloc, lists) {
-            Ok(lists) => Ok(FacetInputs { lists: Some(lists) }),
+            Ok(lists) => Ok(FacetInputs {
+                inputs: Inputs::Many(lists),
+            }),
             Err(_) => Err(AllocError),
         }
     }
@@ -50,9 +71,10 @@ impl FacetInputs {
     pub fn as_slice(&self) -> &[InputValues]
         ensures { result.now ≡ self.now }
     {
-        match &self.lists {
-            Some(lists) => lists.as_slice(),
-            None => &[],
+        match &self.inputs {
+            Inputs::Empty => &[],
+            Inputs::One(values) => std::slice::from_ref(values),
+            Inputs::Many(lists) => lists.as_slice(),
         }
     }
 
@@ -60,12 +82,15 @@ impl FacetInputs {
     pub fn share(&self) -> Result<FacetInputs, AllocError>
         ensures { IfOk result (λ inputs. inputs ≡ self.now) }
     {
-        match &self.lists {
-            Some(lists) => {
+        match &self.inputs {
+            Inputs::Empty => Ok(FacetInputs::none()),
+            Inputs::One(values) => Ok(FacetInputs::one(values.share()?)),
+            Inputs::Many(lists) => {
                 let lists = lists.clone()?;
-                Ok(FacetInputs { lists: Some(lists) })
+                Ok(FacetInputs {
+                    inputs: Inputs::Many(lists),
+                })
             }
-            None => Ok(FacetInputs::none()),
         }
     }
 }

@@ -38,23 +38,6 @@ pub fn same_init(was: Option<&Val>, is: Option<&Val>) -> bool
     }
 }
 
-/// The value at a place.
-pub fn value_at(values: &[Option<SharedVal>], place: u32) -> Option<&SharedVal>
-    ensures { MatchOption result (option_flatten (slice_get values.now place) ≡ None) (λ v. option_flatten (slice_get values.now place) ≡ Some v.now) }
-{
-    match values.get(place as usize) {
-        Some(Some(value)) => Some(value),
-        _ => None,
-    }
-}
-
-/// The value of a field that is kept.
-pub fn kept_field(old: &Kept, place: u32) -> Option<&SharedVal>
-    ensures { MatchOption result (values_in old.now (Vertex.Field place) ≡ None) (λ v. values_in old.now (Vertex.Field place) ≡ Some v.now) }
-{
-    value_at(&old.shelf.fields, place)
-}
-
 /// The value that a field keeps as it enters a configuration.
 fn kept_value<'a>(
     old_setup: &Setup,
@@ -67,7 +50,7 @@ fn kept_value<'a>(
     match old_setup.field(place) {
         Some(was) => {
             if same_init(was.init, field.init) {
-                kept_field(old, place)
+                old.shelf.field(place)
             } else {
                 None
             }
@@ -88,7 +71,7 @@ fn created<M: Meanings, L: Ledger>(
     requires whole { IsWhole M.rules kit.now }
     requires scene { IsScene (scene_of scene.now) }
     requires lawful { IsLawfulField M.rules (present_of field.now) }
-    ensures value { IfOk result (λ v. v ≡ created_of M.rules (present_of field.now) (shown_of (scene_of scene.now) (held shelf.now.facets.items shelf.now.fields.items) (present_of field.now).def.reads)) }
+    ensures value { IfOk result (λ v. v ≡ created_of M.rules (present_of field.now) (shown_of (scene_of scene.now) (held shelf.now.facets shelf.now.fields) (present_of field.now).def.reads)) }
     ensures cost { calls.new ≤ calls.old + cond (is_none (present_of field.now).init) 1 0 }
 {
     match field.init {
@@ -122,7 +105,7 @@ fn entered<M: Meanings, L: Ledger>(
     requires whole { IsWhole M.rules kit.now }
     requires scene { IsScene (scene_of scene.now) }
     requires lawful { IsLawfulField M.rules (present_of field.now) }
-    ensures value { IfOk result (λ v. v ≡ enters M.rules (state_in old_setup.now old.now) place (present_of field.now) (shown_of (scene_of scene.now) (held shelf.now.facets.items shelf.now.fields.items) (present_of field.now).def.reads)) }
+    ensures value { IfOk result (λ v. v ≡ enters M.rules (state_in old_setup.now old.now) place (present_of field.now) (shown_of (scene_of scene.now) (held shelf.now.facets shelf.now.fields) (present_of field.now).def.reads)) }
     ensures cost { calls.new ≤ calls.old + field_calls Enter (state_in old_setup.now old.now) place (present_of field.now) }
 {
     match kept_value(old_setup, old, place, field) {
@@ -141,7 +124,7 @@ fn update_view(
 ) -> Result<UpdateView, AllocError>
     requires scene { IsScene (scene_of scene.now) }
     ensures transaction { IfOk result (λ view. view.transaction ≡ heard_of (present_of field.now).def.listens transaction.now) }
-    ensures deps { IfOk result (λ view. view.deps ≡ shown_of (scene_of scene.now) (held shelf.now.facets.items shelf.now.fields.items) (present_of field.now).def.reads) }
+    ensures deps { IfOk result (λ view. view.deps ≡ shown_of (scene_of scene.now) (held shelf.now.facets shelf.now.fields) (present_of field.now).def.reads) }
 {
     Ok(UpdateView {
         transaction: heard(alloc, transaction, field.def.listens.as_slice())?,
@@ -185,11 +168,11 @@ fn updated<M: Meanings, L: Ledger>(
     requires scene { IsScene (scene_of scene.now) }
     requires lawful { IsLawfulField M.rules (present_of field.now) }
     requires fits { IsSomeAnd (values_in old.now (Vertex.Field place)) (IsOf (M.rules.update_shape (present_of field.now).def.update)) }
-    ensures value { IfOk result (λ found. found.value ≡ updates M.rules (state_in old_setup.now old.now) transaction.now place (present_of field.now) (shown_of (scene_of scene.now) (held shelf.now.facets.items shelf.now.fields.items) (present_of field.now).def.reads)) }
+    ensures value { IfOk result (λ found. found.value ≡ updates M.rules (state_in old_setup.now old.now) transaction.now place (present_of field.now) (shown_of (scene_of scene.now) (held shelf.now.facets shelf.now.fields) (present_of field.now).def.reads)) }
     ensures old { IfOk result (λ found. IsTrue found.is_old → values_in old.now (Vertex.Field place) ≡ Some found.value) }
     ensures cost { calls.new ≤ calls.old + 1 }
 {
-    match kept_field(old, place) {
+    match old.shelf.field(place) {
         Some(value) => {
             let view = update_view(alloc, transaction, scene, field, shelf)?;
             let answer = kit
@@ -218,7 +201,7 @@ pub fn field_found<M: Meanings, L: Ledger>(
     requires scene { IsScene (scene_of scene.now) }
     requires lawful { IsLawfulField M.rules (present_of field.now) }
     requires fits { (t : TransactionView) → transition_of transition.now ≡ Update t → IsSomeAnd (values_in old.now (Vertex.Field place)) (IsOf (M.rules.update_shape (present_of field.now).def.update)) }
-    ensures value { IfOk result (λ found. found.value ≡ rule_of M.rules (transition_of transition.now) (state_in old_setup.now old.now) place (present_of field.now) (shown_of (scene_of scene.now) (held shelf.now.facets.items shelf.now.fields.items) (present_of field.now).def.reads)) }
+    ensures value { IfOk result (λ found. found.value ≡ rule_of M.rules (transition_of transition.now) (state_in old_setup.now old.now) place (present_of field.now) (shown_of (scene_of scene.now) (held shelf.now.facets shelf.now.fields) (present_of field.now).def.reads)) }
     ensures old { IfOk result (λ found. IsTrue found.is_old → values_in old.now (Vertex.Field place) ≡ Some found.value) }
     ensures cost { calls.new ≤ calls.old + field_calls (transition_of transition.now) (state_in old_setup.now old.now) place (present_of field.now) }
 {

@@ -39,17 +39,13 @@ fn nothing_declared(alloc: Global) -> Defs<Val>
 /// What is kept of the state of nothing.
 fn nothing_kept(alloc: Global, scene: Scene) -> Kept
     ensures scene { scene_in result ≡ scene_of scene }
-    ensures facets { result.shelf.facets.items ≡ [] }
-    ensures fields { result.shelf.fields.items ≡ [] }
-    ensures inputs { result.inputs.items ≡ [] }
+    ensures facets { result.shelf.facets ≡ [] }
+    ensures fields { result.shelf.fields ≡ [] }
+    ensures inputs { result.shelf.inputs ≡ [] }
 {
     Kept {
         scene,
-        shelf: Shelf {
-            facets: Vec::new(alloc),
-            fields: Vec::new(alloc),
-        },
-        inputs: Vec::new(alloc),
+        shelf: Shelf::none(alloc),
     }
 }
 
@@ -74,7 +70,7 @@ pub fn first_kept<M: Meanings, L: Ledger>(
     requires is_scene { IsScene (scene_of scene) }
     ensures scene { IfOk result (λ kept. scene_in kept.value ≡ scene_of scene) }
     ensures values { IfOk result (λ kept. values_in kept.value ≡ (creation M.rules (setup_of setup.now) (scene_of scene)).values) }
-    ensures kept { IfOk result (λ kept. IsKept M.rules (setup_of setup.now) (scene_in kept.value) kept.value.shelf.facets.items kept.value.shelf.fields.items kept.value.inputs.items) }
+    ensures kept { IfOk result (λ kept. IsKept M.rules (setup_of setup.now) (scene_in kept.value) kept.value.shelf.facets kept.value.shelf.fields kept.value.shelf.inputs) }
     ensures cost { calls.new ≤ calls.old + transition_calls M.rules Enter (empty_state (scene_of scene)) (setup_of setup.now) }
 {
     let copy = scene_copy(&scene)?;

@@ -24,6 +24,7 @@ mod scene_flags;
 mod setup;
 mod shared_val;
 mod shelf;
+mod slot;
 mod slots;
 mod step;
 mod transition;

@@ -19,6 +19,7 @@ use crate::input_values::InputValues;
 use crate::marks::input_flagged;
 use crate::outputs::{combine, node_outputs};
 use crate::shared_val::SharedVal;
+use crate::slot::Slot;
 use configuration::{FacetDef, NodeDef};
 use std::alloc::{AllocError, Global};
 use std::sync::ledger::Ledger;
@@ -104,9 +105,9 @@ fn next_input<M: Meanings, L: Ledger>(
     requires scene { IsScene (scene_in draft.now.kept) }
     requires lawful { FitsCombiner M.rules facet.now.combine (slice_get node_defs.now node) }
     requires number { IsNumber M.rules.comparers facet.now.compare_input }
-    ensures outputs { IfOk result (λ n. n.outputs ≡ next_outputs M.rules (scene_in draft.now.kept) draft.now.marks.moved (flags_in draft.now.marks) (values_in draft.now.kept) (nodes_before before.now) before.now.kept.now (input_node node_defs.now node)) }
-    ensures changed { IfOk result (λ n. n.changed ≡ next_changed M.rules (scene_in draft.now.kept) draft.now.marks.moved (flags_in draft.now.marks) (values_in draft.now.kept) facet.now.compare_input (nodes_before before.now) before.now.kept.now (input_node node_defs.now node)) }
-    ensures cost { calls.new ≤ calls.old + next_input_calls draft.now.marks.moved (flags_in draft.now.marks) (nodes_before before.now) before.now.kept.now (input_node node_defs.now node) }
+    ensures outputs { IfOk result (λ n. n.outputs ≡ next_outputs M.rules (scene_in draft.now.kept) draft.now.moved (flags_in draft.now.kept) (values_in draft.now.kept) (nodes_before before.now) before.now.kept.now (input_node node_defs.now node)) }
+    ensures changed { IfOk result (λ n. n.changed ≡ next_changed M.rules (scene_in draft.now.kept) draft.now.moved (flags_in draft.now.kept) (values_in draft.now.kept) facet.now.compare_input (nodes_before before.now) before.now.kept.now (input_node node_defs.now node)) }
+    ensures cost { calls.new ≤ calls.old + next_input_calls draft.now.moved (flags_in draft.now.kept) (nodes_before before.now) before.now.kept.now (input_node node_defs.now node) }
 {
     match before.outputs(node) {
         None => Ok(NextInput {
@@ -123,7 +124,7 @@ fn next_input<M: Meanings, L: Ledger>(
             changed: true,
         }),
         Some(old) => {
-            if input_flagged(node_defs, node, &draft.marks) {
+            if input_flagged(node_defs, node, draft) {
                 flagged_input(alloc, kit, old, node_defs, node, facet, draft, calls)
             } else {
                 Ok(NextInput {
@@ -142,6 +143,38 @@ struct NextInputs {
     changed: bool,
 }
 
+fn many_next_inputs<M: Meanings, L: Ledger>(
+    alloc: Global,
+    kit: &Kit<M>,
+    before: &Before,
+    node_defs: &[NodeDef<Val>],
+    nodes: &[u32],
+    facet: &FacetDef,
+    draft: &Draft,
+    calls: &mut Steps<L>,
+) -> Result<NextInputs, AllocError>
+    requires whole { IsWhole M.rules kit.now }
+    requires scene { IsScene (scene_in draft.now.kept) }
+    requires lawful { IsLawfulFacet M.rules (facet_of facet.now node_defs.now nodes.now) }
+    ensures inputs { IfOk result (λ n. n.inputs ≡ map (next_outputs M.rules (scene_in draft.now.kept) draft.now.moved (flags_in draft.now.kept) (values_in draft.now.kept) (nodes_before before.now) before.now.kept.now) (map (input_node node_defs.now) nodes.now)) }
+    ensures changed { IfOk result (λ n. n.changed ≡ list_any (next_changed M.rules (scene_in draft.now.kept) draft.now.moved (flags_in draft.now.kept) (values_in draft.now.kept) facet.now.compare_input (nodes_before before.now) before.now.kept.now) (map (input_node node_defs.now) nodes.now)) }
+    ensures cost { calls.new ≤ calls.old + next_count draft.now.moved (flags_in draft.now.kept) (nodes_before before.now) before.now.kept.now (map (input_node node_defs.now) nodes.now) }
+{
+    let mut inputs = Vec::with_capacity(alloc, nodes.len())?;
+    let mut changed = false;
+    for node in nodes {
+        let next = next_input(alloc, kit, before, node_defs, *node, facet, draft, calls)?;
+        changed = changed || next.changed;
+        inputs.push(next.outputs)?;
+    }
+    Ok(NextInputs {
+        inputs: FacetInputs::new(alloc, inputs)?,
+        changed,
+    })
+}
+
+/// What each input of a facet gives, in flat order, and whether one changed. One input takes no list.
+#[tactic(auto, using(crate::proofs::Single::one_node))]
 fn next_inputs<M: Meanings, L: Ledger>(
     alloc: Global,
     kit: &Kit<M>,
@@ -155,21 +188,20 @@ fn next_inputs<M: Meanings, L: Ledger>(
     requires whole { IsWhole M.rules kit.now }
     requires scene { IsScene (scene_in draft.now.kept) }
     requires lawful { IsLawfulFacet M.rules (facet_of facet.now node_defs.now nodes.now) }
-    ensures inputs { IfOk result (λ n. n.inputs ≡ map (next_outputs M.rules (scene_in draft.now.kept) draft.now.marks.moved (flags_in draft.now.marks) (values_in draft.now.kept) (nodes_before before.now) before.now.kept.now) (map (input_node node_defs.now) nodes.now)) }
-    ensures changed { IfOk result (λ n. n.changed ≡ list_any (next_changed M.rules (scene_in draft.now.kept) draft.now.marks.moved (flags_in draft.now.marks) (values_in draft.now.kept) facet.now.compare_input (nodes_before before.now) before.now.kept.now) (map (input_node node_defs.now) nodes.now)) }
-    ensures cost { calls.new ≤ calls.old + next_count draft.now.marks.moved (flags_in draft.now.marks) (nodes_before before.now) before.now.kept.now (map (input_node node_defs.now) nodes.now) }
+    ensures inputs { IfOk result (λ n. n.inputs ≡ map (next_outputs M.rules (scene_in draft.now.kept) draft.now.moved (flags_in draft.now.kept) (values_in draft.now.kept) (nodes_before before.now) before.now.kept.now) (map (input_node node_defs.now) nodes.now)) }
+    ensures changed { IfOk result (λ n. n.changed ≡ list_any (next_changed M.rules (scene_in draft.now.kept) draft.now.moved (flags_in draft.now.kept) (values_in draft.now.kept) facet.now.compare_input (nodes_before before.now) before.now.kept.now) (map (input_node node_defs.now) nodes.now)) }
+    ensures cost { calls.new ≤ calls.old + next_count draft.now.moved (flags_in draft.now.kept) (nodes_before before.now) before.now.kept.now (map (input_node node_defs.now) nodes.now) }
 {
-    let mut inputs = Vec::with_capacity(alloc, nodes.len())?;
-    let mut changed = false;
-    for node in nodes {
-        let next = next_input(alloc, kit, before, node_defs, *node, facet, draft, calls)?;
-        changed = changed || next.changed;
-        inputs.push(next.outputs)?;
+    match nodes {
+        [node] => {
+            let next = next_input(alloc, kit, before, node_defs, *node, facet, draft, calls)?;
+            Ok(NextInputs {
+                inputs: FacetInputs::one(next.outputs),
+                changed: next.changed,
+            })
+        }
+        _ => many_next_inputs(alloc, kit, before, node_defs, nodes, facet, draft, calls),
     }
-    Ok(NextInputs {
-        inputs: FacetInputs::new(alloc, inputs)?,
-        changed,
-    })
 }
 
 /// Whether a facet is combined anew: an input changed, or its list of nodes differs.
@@ -211,14 +243,6 @@ fn combined<M: Meanings, L: Ledger>(
 
 ghost use Rattle.facet_slots.specs.FacetValues.{joined as joined_of};
 
-/// A facet or a field after a transition: what its inputs give, its value, none for an absent field, and whether it is flagged.
-#[derive(Drop)]
-pub struct Next {
-    pub inputs: FacetInputs,
-    pub value: Option<SharedVal>,
-    pub flag: bool,
-}
-
 /// A facet that was declared before, from what was kept of its inputs and its old value. `Err`: out of memory.
 pub fn next_facet<M: Meanings, L: Ledger>(
     alloc: Global,
@@ -230,13 +254,13 @@ pub fn next_facet<M: Meanings, L: Ledger>(
     facet: &FacetDef,
     draft: &Draft,
     calls: &mut Steps<L>,
-) -> Result<Next, AllocError>
+) -> Result<Slot, AllocError>
     requires whole { IsWhole M.rules kit.now }
     requires scene { IsScene (scene_in draft.now.kept) }
     requires lawful { IsLawfulFacet M.rules (facet_of facet.now node_defs.now nodes.now) }
     requires kept_fit { AllByRecursion (λ k. All (IsOf (M.rules.combine_input facet.now.combine)) k) before.now.kept.now }
-    ensures next { IfOk result (λ n. IsSomeAnd n.value (λ value. IsNextFacet M.rules (scene_in draft.now.kept) draft.now.marks.moved (flags_in draft.now.marks) (values_in draft.now.kept) (Some (facet_before before.now)) before.now.kept.now (Some old.now) (facet_of facet.now node_defs.now nodes.now) value n.flag n.inputs)) }
-    ensures cost { calls.new ≤ calls.old + facet_next_calls M.rules (scene_in draft.now.kept) draft.now.marks.moved (flags_in draft.now.marks) (values_in draft.now.kept) (Some (facet_before before.now)) before.now.kept.now (facet_of facet.now node_defs.now nodes.now) }
+    ensures next { IfOk result (λ n. IsSomeAnd n.value (λ value. IsNextFacet M.rules (scene_in draft.now.kept) draft.now.moved (flags_in draft.now.kept) (values_in draft.now.kept) (Some (facet_before before.now)) before.now.kept.now (Some old.now) (facet_of facet.now node_defs.now nodes.now) value n.flag n.inputs)) }
+    ensures cost { calls.new ≤ calls.old + facet_next_calls M.rules (scene_in draft.now.kept) draft.now.moved (flags_in draft.now.kept) (values_in draft.now.kept) (Some (facet_before before.now)) before.now.kept.now (facet_of facet.now node_defs.now nodes.now) }
 {
     draft.kept.shelf.known();
     let NextInputs { inputs, changed } = next_inputs(
@@ -244,14 +268,14 @@ pub fn next_facet<M: Meanings, L: Ledger>(
     )?;
     if differs(changed, before, nodes) {
         let Anew { value, flag } = combined(alloc, kit, old, facet, inputs.as_slice(), calls)?;
-        Ok(Next {
+        Ok(Slot {
             inputs,
             value: Some(value),
             flag,
         })
     } else {
         let same = old.share()?;
-        Ok(Next {
+        Ok(Slot {
             inputs,
             value: Some(same),
             flag: false,

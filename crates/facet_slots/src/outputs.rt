@@ -23,14 +23,6 @@ use std::sync::ledger::Ledger;
 use steps::Steps;
 use values::{Kit, Meanings, Scene, Val};
 
-/// A list of one value.
-fn one(alloc: Global, value: Val) -> Result<Listed<Val>, AllocError>
-    ensures { IfOk result (λ values. values ≡ value ∷ []) }
-{
-    let values = vec![in alloc; value]?;
-    Ok(Listed::new(values))
-}
-
 /// The input that a rule computes from what it declares.
 fn computed<M: Meanings, L: Ledger>(
     alloc: Global,
@@ -40,15 +32,15 @@ fn computed<M: Meanings, L: Ledger>(
     reads: &[Dependency],
     shelf: &Shelf,
     calls: &mut Steps<L>,
-) -> Result<Listed<Val>, AllocError>
+) -> Result<InputValues, AllocError>
     requires whole { IsWhole M.rules kit.now }
     requires scene { IsScene (scene_of scene.now) }
     requires number { IsNumber M.rules.computers rule }
-    ensures value { IfOk result (λ values. values ≡ M.rules.compute rule (shown_of (scene_of scene.now) (held shelf.now.facets.items shelf.now.fields.items) reads.now) ∷ []) }
+    ensures value { IfOk result (λ values. values ≡ M.rules.compute rule (shown_of (scene_of scene.now) (held shelf.now.facets shelf.now.fields) reads.now) ∷ []) }
     ensures cost { calls.new ≤ calls.old + 1 }
 {
     let deps = shown(alloc, scene, reads, shelf)?;
-    one(alloc, kit.computer(rule).call(&deps, calls)?)
+    InputValues::one(alloc, kit.computer(rule).call(&deps, calls)?)
 }
 
 /// The inputs that a rule computes from what it declares.
@@ -60,48 +52,15 @@ fn computed_list<M: Meanings, L: Ledger>(
     reads: &[Dependency],
     shelf: &Shelf,
     calls: &mut Steps<L>,
-) -> Result<Listed<Val>, AllocError>
+) -> Result<InputValues, AllocError>
     requires whole { IsWhole M.rules kit.now }
     requires scene { IsScene (scene_of scene.now) }
     requires number { IsNumber M.rules.list_computers rule }
-    ensures value { IfOk result (λ values. values ≡ M.rules.compute_list rule (shown_of (scene_of scene.now) (held shelf.now.facets.items shelf.now.fields.items) reads.now)) }
+    ensures value { IfOk result (λ values. values ≡ M.rules.compute_list rule (shown_of (scene_of scene.now) (held shelf.now.facets shelf.now.fields) reads.now)) }
     ensures cost { calls.new ≤ calls.old + 1 }
 {
     let deps = shown(alloc, scene, reads, shelf)?;
-    kit.computer_n(rule).call(&deps, calls)
-}
-
-/// The values that a node gives its facet.
-fn node_values<M: Meanings, L: Ledger>(
-    alloc: Global,
-    kit: &Kit<M>,
-    scene: &Scene,
-    node_defs: &[NodeDef<Val>],
-    node: u32,
-    combiner: u32,
-    shelf: &Shelf,
-    calls: &mut Steps<L>,
-) -> Result<Listed<Val>, AllocError>
-    requires whole { IsWhole M.rules kit.now }
-    requires scene { IsScene (scene_of scene.now) }
-    requires lawful { FitsCombiner M.rules combiner (slice_get node_defs.now node) }
-    ensures value { IfOk result (λ values. values ≡ node_outputs_of M.rules (scene_of scene.now) (held shelf.now.facets.items shelf.now.fields.items) (input_node node_defs.now node)) }
-    ensures cost { calls.new ≤ calls.old + call_of (slice_get node_defs.now node) }
-{
-    match node_defs.get(node as usize) {
-        Some(NodeDef::Of(value)) => one(alloc, value.try_copy(alloc)?),
-        Some(NodeDef::Compute { rule, reads }) => {
-            computed(alloc, kit, scene, *rule, reads.as_slice(), shelf, calls)
-        }
-        Some(NodeDef::ComputeN { rule, reads }) => {
-            computed_list(alloc, kit, scene, *rule, reads.as_slice(), shelf, calls)
-        }
-        Some(NodeDef::From { field, rule }) => {
-            let reads = [Dependency::Field(*field)];
-            computed(alloc, kit, scene, *rule, &reads, shelf, calls)
-        }
-        _ => Ok(Listed::empty(alloc)),
-    }
+    InputValues::new(alloc, kit.computer_n(rule).call(&deps, calls)?)
 }
 
 /// The inputs that a node gives its facet. `Err`: out of memory.
@@ -118,11 +77,23 @@ pub fn node_outputs<M: Meanings, L: Ledger>(
     requires whole { IsWhole M.rules kit.now }
     requires scene { IsScene (scene_of scene.now) }
     requires lawful { FitsCombiner M.rules combiner (slice_get node_defs.now node) }
-    ensures value { IfOk result (λ values. values ≡ node_outputs_of M.rules (scene_of scene.now) (held shelf.now.facets.items shelf.now.fields.items) (input_node node_defs.now node)) }
+    ensures value { IfOk result (λ values. values ≡ node_outputs_of M.rules (scene_of scene.now) (held shelf.now.facets shelf.now.fields) (input_node node_defs.now node)) }
     ensures cost { calls.new ≤ calls.old + call_of (slice_get node_defs.now node) }
 {
-    let values = node_values(alloc, kit, scene, node_defs, node, combiner, shelf, calls)?;
-    InputValues::new(alloc, values)
+    match node_defs.get(node as usize) {
+        Some(NodeDef::Of(value)) => InputValues::one(alloc, value.try_copy(alloc)?),
+        Some(NodeDef::Compute { rule, reads }) => {
+            computed(alloc, kit, scene, *rule, reads.as_slice(), shelf, calls)
+        }
+        Some(NodeDef::ComputeN { rule, reads }) => {
+            computed_list(alloc, kit, scene, *rule, reads.as_slice(), shelf, calls)
+        }
+        Some(NodeDef::From { field, rule }) => {
+            let reads = [Dependency::Field(*field)];
+            computed(alloc, kit, scene, *rule, &reads, shelf, calls)
+        }
+        _ => InputValues::new(alloc, Listed::empty(alloc)),
+    }
 }
 
 /// What each input of a facet gives, in flat order.
@@ -139,7 +110,7 @@ fn all_outputs<M: Meanings, L: Ledger>(
     requires whole { IsWhole M.rules kit.now }
     requires scene { IsScene (scene_of scene.now) }
     requires lawful { IsLawfulFacet M.rules (facet_of facet.now node_defs.now nodes.now) }
-    ensures value { IfOk result (λ found. found ≡ map (node_outputs_of M.rules (scene_of scene.now) (held shelf.now.facets.items shelf.now.fields.items)) (map (input_node node_defs.now) nodes.now)) }
+    ensures value { IfOk result (λ found. found ≡ map (node_outputs_of M.rules (scene_of scene.now) (held shelf.now.facets shelf.now.fields)) (map (input_node node_defs.now) nodes.now)) }
     ensures cost { calls.new ≤ calls.old + calls_of (map (input_node node_defs.now) nodes.now) }
 {
     let mut found = Vec::with_capacity(alloc, nodes.len())?;
@@ -222,8 +193,8 @@ pub fn facet_found<M: Meanings, L: Ledger>(
     requires whole { IsWhole M.rules kit.now }
     requires scene { IsScene (scene_of scene.now) }
     requires lawful { IsLawfulFacet M.rules (facet_of facet.now node_defs.now nodes.now) }
-    ensures value { IfOk result (λ found. found.value ≡ facet_value M.rules (scene_of scene.now) (held shelf.now.facets.items shelf.now.fields.items) (facet_of facet.now node_defs.now nodes.now)) }
-    ensures inputs { IfOk result (λ found. found.inputs ≡ map (node_outputs_of M.rules (scene_of scene.now) (held shelf.now.facets.items shelf.now.fields.items)) (map (input_node node_defs.now) nodes.now)) }
+    ensures value { IfOk result (λ found. found.value ≡ facet_value M.rules (scene_of scene.now) (held shelf.now.facets shelf.now.fields) (facet_of facet.now node_defs.now nodes.now)) }
+    ensures inputs { IfOk result (λ found. found.inputs ≡ map (node_outputs_of M.rules (scene_of scene.now) (held shelf.now.facets shelf.now.fields)) (map (input_node node_defs.now) nodes.now)) }
     ensures cost { calls.new ≤ calls.old + (calls_of (map (input_node node_defs.now) nodes.now) + 1) }
 {
     shelf.known();

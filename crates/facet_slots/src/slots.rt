@@ -38,9 +38,9 @@ impl<M: Meanings> Model for Slots<M> {
 
     ghost coded = { Prim.hlevel (codes, coded_datum) };
 
-    ghost view = { λ s. record { setup = record { defs = defs_of s.defs.value; config = s.config.value }; scene = scene_in s.kept.value; facets = s.kept.value.shelf.facets.items; fields = s.kept.value.shelf.fields.items } };
+    ghost view = { λ s. record { setup = record { defs = defs_of s.defs.value; config = s.config.value }; scene = scene_in s.kept.value; facets = s.kept.value.shelf.facets; fields = s.kept.value.shelf.fields } };
 
-    ghost invariant = { λ s. AreSlots M.rules (record { defs = defs_of s.defs.value; config = s.config.value }) (scene_in s.kept.value) s.kept.value.shelf.facets.items s.kept.value.shelf.fields.items s.kept.value.inputs.items };
+    ghost invariant = { λ s. AreSlots M.rules (record { defs = defs_of s.defs.value; config = s.config.value }) (scene_in s.kept.value) s.kept.value.shelf.facets s.kept.value.shelf.fields s.kept.value.shelf.inputs };
 }
 
 /// A configuration over its definitions, lent.
@@ -228,7 +228,7 @@ impl<M: Meanings> Slots<M> {
         requires { facet < length self.now.setup.defs.facets }
         ensures { (plain self.now).values (Vertex.Facet facet) ≡ Some result.now }
     {
-        match &self.kept.shelf.facets[facet as usize] {
+        match self.kept.shelf.facet(facet) {
             Some(value) => value.value(),
             None => unreachable!(),
         }
@@ -238,9 +238,9 @@ impl<M: Meanings> Slots<M> {
     pub fn field(&self, field: u32) -> Option<&Val>
         ensures { option_copied result ≡ (plain self.now).values (Vertex.Field field) }
     {
-        match self.kept.shelf.fields.get(field as usize) {
-            Some(Some(value)) => Some(value.value()),
-            _ => None,
+        match self.kept.shelf.field(field) {
+            Some(value) => Some(value.value()),
+            None => None,
         }
     }
 }

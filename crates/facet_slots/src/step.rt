@@ -16,14 +16,14 @@ ghost use Rattle.facet_slots.specs.Lent.{facet_before, facet_in, flags_in, nodes
 use crate::before::Before;
 use crate::draft::Draft;
 use crate::facet_inputs::FacetInputs;
-use crate::field::{FieldFound, field_found, kept_field, same_init, value_at};
-use crate::input_values::InputValues;
+use crate::field::{FieldFound, field_found, same_init};
 use crate::kept::Kept;
-use crate::marks::{Marks, any_input_flagged};
-use crate::next::{Next, next_facet};
+use crate::marks::any_input_flagged;
+use crate::next::next_facet;
 use crate::outputs::facet_found;
 use crate::setup::{Present, Setup};
 use crate::shared_val::SharedVal;
+use crate::slot::Slot;
 use crate::transition::Transition;
 use configuration::{FacetDef, NodeDef, Vertex};
 use std::alloc::{AllocError, Global};
@@ -31,31 +31,16 @@ use std::sync::ledger::Ledger;
 use steps::Steps;
 use values::{Comparer, Kit, Meanings, Val};
 
-fn kept_inputs(old: &Kept, place: u32) -> &[InputValues]
-    ensures { result.now ≡ held_inputs old.now.inputs.items (Vertex.Facet place) }
-{
-    match old.inputs.get(place as usize) {
-        Some(inputs) => inputs.as_slice(),
-        None => &[],
-    }
-}
-
-fn kept_facet(old: &Kept, place: u32) -> Option<&SharedVal>
-    ensures { MatchOption result (values_in old.now (Vertex.Facet place) ≡ None) (λ v. values_in old.now (Vertex.Facet place) ≡ Some v.now) }
-{
-    value_at(&old.shelf.facets, place)
-}
-
 /// A facet as it was, with what is kept of its inputs.
 fn facet_was<'a>(old_setup: &Setup<'a>, old: &'a Kept, was: &'a FacetDef, place: u32) -> Before<'a>
     ensures was { facet_before result ≡ facet_in old_setup.now was.entry.now place }
-    ensures kept { result.kept.now ≡ held_inputs old.entry.now.inputs.items (Vertex.Facet place) }
+    ensures kept { result.kept.now ≡ held_inputs old.entry.now.shelf.inputs (Vertex.Facet place) }
 {
     Before {
         def: was,
         node_defs: old_setup.defs.node_defs.as_slice(),
         nodes: old_setup.inputs(place),
-        kept: kept_inputs(old, place),
+        kept: old.shelf.inputs(place),
     }
 }
 
@@ -69,13 +54,13 @@ fn new_facet<M: Meanings, L: Ledger>(
     facet: &FacetDef,
     draft: &Draft,
     calls: &mut Steps<L>,
-) -> Result<Next, AllocError>
+) -> Result<Slot, AllocError>
     requires whole { IsWhole M.rules kit.now }
     requires scene { IsScene (scene_in draft.now.kept) }
     requires absent { values_in old.now (Vertex.Facet place) ≡ None }
     requires lawful { IsLawfulFacet M.rules (facet_in setup.now facet.now place) }
-    ensures next { IfOk result (λ n. IsSomeAnd n.value (λ value. IsNextFacet M.rules (scene_in draft.now.kept) draft.now.marks.moved (flags_in draft.now.marks) (values_in draft.now.kept) None (held_inputs old.now.inputs.items (Vertex.Facet place)) (values_in old.now (Vertex.Facet place)) (facet_in setup.now facet.now place) value n.flag n.inputs)) }
-    ensures cost { calls.new ≤ calls.old + facet_next_calls M.rules (scene_in draft.now.kept) draft.now.marks.moved (flags_in draft.now.marks) (values_in draft.now.kept) None (held_inputs old.now.inputs.items (Vertex.Facet place)) (facet_in setup.now facet.now place) }
+    ensures next { IfOk result (λ n. IsSomeAnd n.value (λ value. IsNextFacet M.rules (scene_in draft.now.kept) draft.now.moved (flags_in draft.now.kept) (values_in draft.now.kept) None (held_inputs old.now.shelf.inputs (Vertex.Facet place)) (values_in old.now (Vertex.Facet place)) (facet_in setup.now facet.now place) value n.flag n.inputs)) }
+    ensures cost { calls.new ≤ calls.old + facet_next_calls M.rules (scene_in draft.now.kept) draft.now.moved (flags_in draft.now.kept) (values_in draft.now.kept) None (held_inputs old.now.shelf.inputs (Vertex.Facet place)) (facet_in setup.now facet.now place) }
 {
     let made = facet_found(
         alloc,
@@ -87,7 +72,7 @@ fn new_facet<M: Meanings, L: Ledger>(
         &draft.kept.shelf,
         calls,
     )?;
-    Ok(Next {
+    Ok(Slot {
         inputs: made.inputs,
         value: Some(made.value),
         flag: true,
@@ -95,32 +80,22 @@ fn new_facet<M: Meanings, L: Ledger>(
 }
 
 /// Whether a facet has the same nodes in another list, and no dependency of an input is flagged. Takes no memory.
-fn is_still(before: &Before, node_defs: &[NodeDef<Val>], nodes: &[u32], marks: &Marks) -> bool
+fn is_still(before: &Before, node_defs: &[NodeDef<Val>], nodes: &[u32], draft: &Draft) -> bool
     ensures nodes { IsTrue result → same_nodes (nodes_before before.now) (map (input_node node_defs.now) nodes.now) ≡ true }
-    ensures flags { IsTrue result → list_any (input_flagged marks.now.moved (flags_in marks.now)) (map (input_node node_defs.now) nodes.now) ≡ false }
+    ensures flags { IsTrue result → list_any (input_flagged draft.now.moved (flags_in draft.now.kept)) (map (input_node node_defs.now) nodes.now) ≡ false }
 {
-    before.has_nodes(nodes) && !any_input_flagged(node_defs, nodes, marks)
-}
-
-/// What is kept of the inputs of a facet, once more.
-fn inputs_again(old: &Kept, place: u32) -> Result<FacetInputs, AllocError>
-    ensures { IfOk result (λ inputs. inputs ≡ held_inputs old.now.inputs.items (Vertex.Facet place)) }
-{
-    match old.inputs.get(place as usize) {
-        Some(inputs) => inputs.share(),
-        None => Ok(FacetInputs::none()),
-    }
+    before.has_nodes(nodes) && !any_input_flagged(node_defs, nodes, draft)
 }
 
 /// A facet that stays as it was.
-fn still_facet(old: &Kept, place: u32, value: &SharedVal) -> Result<Next, AllocError>
+fn still_facet(old: &Kept, place: u32, value: &SharedVal) -> Result<Slot, AllocError>
     ensures value { IfOk result (λ n. n.value ≡ Some value.now) }
     ensures flag { IfOk result (λ n. n.flag ≡ false) }
-    ensures inputs { IfOk result (λ n. n.inputs ≡ held_inputs old.now.inputs.items (Vertex.Facet place)) }
+    ensures inputs { IfOk result (λ n. n.inputs ≡ held_inputs old.now.shelf.inputs (Vertex.Facet place)) }
 {
-    let inputs = inputs_again(old, place)?;
+    let inputs = old.shelf.share_inputs(place)?;
     let value = value.share()?;
-    Ok(Next {
+    Ok(Slot {
         inputs,
         value: Some(value),
         flag: false,
@@ -139,7 +114,7 @@ fn known_facet<M: Meanings, L: Ledger>(
     facet: &FacetDef,
     draft: &Draft,
     calls: &mut Steps<L>,
-) -> Result<Next, AllocError>
+) -> Result<Slot, AllocError>
     requires whole { IsWhole M.rules kit.now }
     requires old_scene { IsScene (scene_in old.now) }
     requires scene { IsScene (scene_in draft.now.kept) }
@@ -148,16 +123,16 @@ fn known_facet<M: Meanings, L: Ledger>(
     requires was { facet_at (setup_of old_setup.now) place ≡ Some (facet_in old_setup.now was.now place) }
     requires same_combine { was.now.combine ≡ facet.now.combine }
     requires lawful { IsLawfulFacet M.rules (facet_in setup.now facet.now place) }
-    ensures next { IfOk result (λ n. IsSomeAnd n.value (λ value. IsNextFacet M.rules (scene_in draft.now.kept) draft.now.marks.moved (flags_in draft.now.marks) (values_in draft.now.kept) (Some (facet_in old_setup.now was.now place)) (held_inputs old.now.inputs.items (Vertex.Facet place)) (values_in old.now (Vertex.Facet place)) (facet_in setup.now facet.now place) value n.flag n.inputs)) }
-    ensures cost { calls.new ≤ calls.old + facet_next_calls M.rules (scene_in draft.now.kept) draft.now.marks.moved (flags_in draft.now.marks) (values_in draft.now.kept) (Some (facet_in old_setup.now was.now place)) (held_inputs old.now.inputs.items (Vertex.Facet place)) (facet_in setup.now facet.now place) }
+    ensures next { IfOk result (λ n. IsSomeAnd n.value (λ value. IsNextFacet M.rules (scene_in draft.now.kept) draft.now.moved (flags_in draft.now.kept) (values_in draft.now.kept) (Some (facet_in old_setup.now was.now place)) (held_inputs old.now.shelf.inputs (Vertex.Facet place)) (values_in old.now (Vertex.Facet place)) (facet_in setup.now facet.now place) value n.flag n.inputs)) }
+    ensures cost { calls.new ≤ calls.old + facet_next_calls M.rules (scene_in draft.now.kept) draft.now.moved (flags_in draft.now.kept) (values_in draft.now.kept) (Some (facet_in old_setup.now was.now place)) (held_inputs old.now.shelf.inputs (Vertex.Facet place)) (facet_in setup.now facet.now place) }
 {
     old.shelf.known();
-    match kept_facet(old, place) {
+    match old.shelf.facet(place) {
         Some(value) => {
             let before = facet_was(old_setup, old, was, place);
             let node_defs = setup.defs.node_defs.as_slice();
             let nodes = setup.inputs(place);
-            if is_still(&before, node_defs, nodes, &draft.marks) {
+            if is_still(&before, node_defs, nodes, draft) {
                 still_facet(old, place, value)
             } else {
                 next_facet(
@@ -169,12 +144,12 @@ fn known_facet<M: Meanings, L: Ledger>(
     }
 }
 
-fn nothing(flag: bool) -> Next
+fn nothing(flag: bool) -> Slot
     ensures value { result.value ≡ None }
     ensures flag { result.flag ≡ flag }
     ensures inputs { result.inputs ≡ [] }
 {
-    Next {
+    Slot {
         inputs: FacetInputs::none(),
         value: None,
         flag,
@@ -192,7 +167,7 @@ pub fn step_facet<M: Meanings, L: Ledger>(
     place: u32,
     draft: &Draft,
     calls: &mut Steps<L>,
-) -> Result<Next, AllocError>
+) -> Result<Slot, AllocError>
     requires whole { IsWhole M.rules kit.now }
     requires old_scene { IsScene (scene_in old.now) }
     requires scene { IsScene (scene_in draft.now.kept) }
@@ -200,8 +175,8 @@ pub fn step_facet<M: Meanings, L: Ledger>(
     requires old_lawful { IsLawful M.rules (setup_of old_setup.now) }
     requires lawful { IsLawful M.rules (setup_of setup.now) }
     requires follows { Follows (transition_of transition.now) (setup_of old_setup.now) (setup_of setup.now) }
-    ensures next { IfOk result (λ n. IsNext M.rules (transition_of transition.now) (setup_of setup.now) (scene_in draft.now.kept) draft.now.marks.moved (flags_in draft.now.marks) (values_in draft.now.kept) (state_in old_setup.now old.now) (held_inputs old.now.inputs.items) (Vertex.Facet place) n.value n.flag n.inputs) }
-    ensures cost { calls.new ≤ calls.old + next_calls M.rules (transition_of transition.now) (setup_of setup.now) (scene_in draft.now.kept) draft.now.marks.moved (flags_in draft.now.marks) (values_in draft.now.kept) (state_in old_setup.now old.now) (held_inputs old.now.inputs.items) (Vertex.Facet place) }
+    ensures next { IfOk result (λ n. IsNext M.rules (transition_of transition.now) (setup_of setup.now) (scene_in draft.now.kept) draft.now.moved (flags_in draft.now.kept) (values_in draft.now.kept) (state_in old_setup.now old.now) (held_inputs old.now.shelf.inputs) (Vertex.Facet place) n.value n.flag n.inputs) }
+    ensures cost { calls.new ≤ calls.old + next_calls M.rules (transition_of transition.now) (setup_of setup.now) (scene_in draft.now.kept) draft.now.moved (flags_in draft.now.kept) (values_in draft.now.kept) (state_in old_setup.now old.now) (held_inputs old.now.shelf.inputs) (Vertex.Facet place) }
 {
     match setup.facet(place) {
         Some(facet) => match old_setup.facet(place) {
@@ -240,7 +215,7 @@ fn is_changed<M: Meanings>(
     ensures { result ≡ field_flag M.rules (field_at (setup_of old_setup.now) place) (Some (present_of field.now)) (values_in old.now (Vertex.Field place)) (Some found.now.value) }
 {
     match old_setup.field(place) {
-        Some(was) => match kept_field(old, place) {
+        Some(was) => match old.shelf.field(place) {
             Some(old) => {
                 !(same_init(was.init, field.init)
                     && is_same(kit.comparer(field.def.compare), old, found))
@@ -262,7 +237,7 @@ pub fn step_field<M: Meanings, L: Ledger>(
     place: u32,
     draft: &Draft,
     calls: &mut Steps<L>,
-) -> Result<Next, AllocError>
+) -> Result<Slot, AllocError>
     requires whole { IsWhole M.rules kit.now }
     requires scene { IsScene (scene_in draft.now.kept) }
     requires kept { IsKeptIn M.rules old_setup.now old.now }
@@ -286,7 +261,7 @@ pub fn step_field<M: Meanings, L: Ledger>(
                 calls,
             )?;
             let flag = is_changed(kit, old_setup, old, place, &field, &found);
-            Ok(Next {
+            Ok(Slot {
                 inputs: FacetInputs::none(),
                 value: Some(found.value),
                 flag,

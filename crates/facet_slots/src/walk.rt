@@ -16,14 +16,12 @@ ghost use Rattle.facet_slots.specs.Lent.{flags_in, scene_in, setup_of, state_in,
 ghost use Rattle.facet_slots.specs.Found.{scene_of};
 
 use crate::draft::Draft;
-use crate::facet_inputs::FacetInputs;
 use crate::kept::Kept;
-use crate::marks::Marks;
-use crate::next::Next;
 use crate::order::{order_len, vertex_at};
 use crate::scene_flags::SceneFlags;
 use crate::setup::Setup;
 use crate::shelf::Shelf;
+use crate::slot::Slot;
 use crate::step::{step_facet, step_field};
 use crate::transition::Transition;
 use configuration::Vertex;
@@ -32,46 +30,18 @@ use std::sync::ledger::Ledger;
 use steps::Steps;
 use values::{Kit, Meanings, Scene};
 
-fn no_inputs(alloc: Global, count: usize) -> Result<Vec<FacetInputs>, AllocError>
-    ensures { IfOk result (λ inputs. length inputs.items ≡ count) }
-{
-    let mut inputs = Vec::with_capacity(alloc, count)?;
-    for _place in 0..count {
-        inputs.push(FacetInputs::none())?;
-    }
-    Ok(inputs)
-}
-
-/// Places for the flags of a configuration.
-fn empty_marks(alloc: Global, setup: &Setup, moved: SceneFlags) -> Result<Marks, AllocError>
-    ensures moved { IfOk result (λ marks. marks.moved ≡ moved) }
-    ensures room { IfOk result (λ marks. HasFlagRoomIn setup.now marks) }
-{
-    Ok(Marks {
-        moved,
-        facets: vec![in alloc; false; setup.defs.facets.as_slice().len()]?,
-        fields: vec![in alloc; false; setup.fields().len()]?,
-    })
-}
-
 /// A draft in which nothing is found yet.
 fn empty(alloc: Global, setup: &Setup, scene: Scene, moved: SceneFlags) -> Result<Draft, AllocError>
     ensures scene { IfOk result (λ draft. scene_in draft.kept ≡ scene_of scene) }
-    ensures moved { IfOk result (λ draft. draft.marks.moved ≡ moved) }
+    ensures moved { IfOk result (λ draft. draft.moved ≡ moved) }
     ensures room { IfOk result (λ draft. HasRoomIn setup.now draft.kept) }
-    ensures flags { IfOk result (λ draft. HasFlagRoomIn setup.now draft.marks) }
+    ensures flags { IfOk result (λ draft. HasFlagRoomIn setup.now draft.kept) }
 {
     let facet_count = setup.defs.facets.as_slice().len();
     let shelf = Shelf::empty(alloc, facet_count, setup.fields().len())?;
-    let marks = empty_marks(alloc, setup, moved)?;
-    let inputs = no_inputs(alloc, facet_count)?;
     Ok(Draft {
-        kept: Kept {
-            scene,
-            shelf,
-            inputs,
-        },
-        marks,
+        kept: Kept { scene, shelf },
+        moved,
     })
 }
 
@@ -86,7 +56,7 @@ fn step<M: Meanings, L: Ledger>(
     vertex: Vertex,
     draft: &Draft,
     calls: &mut Steps<L>,
-) -> Result<Next, AllocError>
+) -> Result<Slot, AllocError>
     requires whole { IsWhole M.rules kit.now }
     requires old_scene { IsScene (scene_in old.now) }
     requires scene { IsScene (scene_in draft.now.kept) }
@@ -94,8 +64,8 @@ fn step<M: Meanings, L: Ledger>(
     requires old_lawful { IsLawful M.rules (setup_of old_setup.now) }
     requires lawful { IsLawful M.rules (setup_of setup.now) }
     requires follows { Follows (transition_of transition.now) (setup_of old_setup.now) (setup_of setup.now) }
-    ensures next { IfOk result (λ n. IsNext M.rules (transition_of transition.now) (setup_of setup.now) (scene_in draft.now.kept) draft.now.marks.moved (flags_in draft.now.marks) (values_in draft.now.kept) (state_in old_setup.now old.now) (held_inputs old.now.inputs.items) vertex n.value n.flag n.inputs) }
-    ensures cost { calls.new ≤ calls.old + next_calls M.rules (transition_of transition.now) (setup_of setup.now) (scene_in draft.now.kept) draft.now.marks.moved (flags_in draft.now.marks) (values_in draft.now.kept) (state_in old_setup.now old.now) (held_inputs old.now.inputs.items) vertex }
+    ensures next { IfOk result (λ n. IsNext M.rules (transition_of transition.now) (setup_of setup.now) (scene_in draft.now.kept) draft.now.moved (flags_in draft.now.kept) (values_in draft.now.kept) (state_in old_setup.now old.now) (held_inputs old.now.shelf.inputs) vertex n.value n.flag n.inputs) }
+    ensures cost { calls.new ≤ calls.old + next_calls M.rules (transition_of transition.now) (setup_of setup.now) (scene_in draft.now.kept) draft.now.moved (flags_in draft.now.kept) (values_in draft.now.kept) (state_in old_setup.now old.now) (held_inputs old.now.shelf.inputs) vertex }
 {
     match vertex {
         Vertex::Facet(place) => step_facet(
@@ -108,34 +78,21 @@ fn step<M: Meanings, L: Ledger>(
 }
 
 /// Puts what was found of a facet or field into the draft.
-fn store(setup: &Setup, draft: &mut Draft, vertex: Vertex, next: Next)
+fn store(setup: &Setup, draft: &mut Draft, vertex: Vertex, next: Slot)
     requires vertex { IsVertex (setup_of setup.now) vertex }
     requires room { HasRoomIn setup.now draft.old.kept }
-    requires flags { HasFlagRoomIn setup.now draft.old.marks }
+    requires flags { HasFlagRoomIn setup.now draft.old.kept }
     ensures scene { scene_in draft.new.kept ≡ scene_in draft.old.kept }
-    ensures moved { draft.new.marks.moved ≡ draft.old.marks.moved }
+    ensures moved { draft.new.moved ≡ draft.old.moved }
     ensures room { HasRoomIn setup.now draft.new.kept }
-    ensures flags { HasFlagRoomIn setup.now draft.new.marks }
+    ensures flags { HasFlagRoomIn setup.now draft.new.kept }
     ensures value { Puts (values_in draft.old.kept) (values_in draft.new.kept) vertex next.value }
-    ensures flag { Puts (flags_in draft.old.marks) (flags_in draft.new.marks) vertex next.flag }
-    ensures inputs { Puts (held_inputs draft.old.kept.inputs.items) (held_inputs draft.new.kept.inputs.items) vertex (inputs_put vertex next.inputs) }
+    ensures flag { Puts (flags_in draft.old.kept) (flags_in draft.new.kept) vertex next.flag }
+    ensures inputs { Puts (held_inputs draft.old.kept.shelf.inputs) (held_inputs draft.new.kept.shelf.inputs) vertex (inputs_put vertex next.inputs) }
 {
-    let Next {
-        inputs,
-        value,
-        flag,
-    } = next;
     match vertex {
-        Vertex::Facet(facet) => {
-            let place = facet as usize;
-            draft.kept.shelf.put_facet(facet, value);
-            draft.marks.facets[place] = flag;
-            draft.kept.inputs[place] = inputs;
-        }
-        Vertex::Field(field) => {
-            draft.kept.shelf.put_field(field, value);
-            draft.marks.fields[field as usize] = flag;
-        }
+        Vertex::Facet(facet) => draft.kept.shelf.put_facet(facet, next),
+        Vertex::Field(field) => draft.kept.shelf.put_field(field, next),
     }
 }
 

@@ -5,12 +5,12 @@ use Rattle.facet_slots.proofs.deps.shown.Goals as goal
 
 pub new-requires-clause-in_range : goal.new-requires-clause-in_range
 new-requires-clause-in_range c =
-    rw c.in_ok-values.ensures (shown-is (scene_of c.args.scene.now) c.requires (held c.args.shelf.now.facets.items c.args.shelf.now.fields.items) c.known.ensures c.args.reads.now).in_range
+    rw c.in_ok-values.ensures (shown-is (scene_of c.args.scene.now) c.requires (held c.args.shelf.now.facets c.args.shelf.now.fields) c.known.ensures c.args.reads.now).in_range
 
 pub new-requires-clause-is_selection : goal.new-requires-clause-is_selection
 new-requires-clause-is_selection c =
-    rw c.in_ok-selection.ensures (shown-is (scene_of c.args.scene.now) c.requires (held c.args.shelf.now.facets.items c.args.shelf.now.fields.items) c.known.ensures c.args.reads.now).is_selection
+    rw c.in_ok-selection.ensures (shown-is (scene_of c.args.scene.now) c.requires (held c.args.shelf.now.facets c.args.shelf.now.fields) c.known.ensures c.args.reads.now).is_selection
 
 pub new-requires-clause-inside : goal.new-requires-clause-inside
 new-requires-clause-inside c =
-    rw (c.in_ok-document.ensures, c.in_ok-selection.ensures) (shown-is (scene_of c.args.scene.now) c.requires (held c.args.shelf.now.facets.items c.args.shelf.now.fields.items) c.known.ensures c.args.reads.now).inside
+    rw (c.in_ok-document.ensures, c.in_ok-selection.ensures) (shown-is (scene_of c.args.scene.now) c.requires (held c.args.shelf.now.facets c.args.shelf.now.fields) c.known.ensures c.args.reads.now).inside

@@ -5,5 +5,5 @@ use Rattle.facet_slots.proofs.deps.values_read.Given as goal
 
 abbrev pub invariant-loop-read : goal.invariant-loop-read
 invariant-loop-read l =
-    l.values.items ++ map (held l.shelf.facets.items l.shelf.fields.items) (vertices_of (drop l.read-index l.reads))
-    ≡ map (held l.shelf.facets.items l.shelf.fields.items) (vertices_of l.reads)
+    l.values.items ++ map (held l.shelf.facets l.shelf.fields) (vertices_of (drop l.read-index l.reads))
+    ≡ map (held l.shelf.facets l.shelf.fields) (vertices_of l.reads)

@@ -46,12 +46,12 @@ kept_after-requires-clause-kept g c =
 
 pub returns-clause-values : goal.returns-clause-values
 returns-clause-values g c =
-    c.in_ok-kept.ensures.values ∙ ap (λ (s : State). values_of g.M.Meanings.rules (setup_of c.args.setup.now) (scene_of c.args.scene) (rule_of g.M.Meanings.rules Enter s)) (state-nothing (setup_of c.nothing.result) (scene_in c.nothing_kept-old.result) (scene_of c.args.scene) c.nothing_kept-old.result.shelf.facets.items c.nothing_kept-old.result.shelf.fields.items (c.nothing.ensures ∙ ap (λ (d : Definitions). record_setup d no_setup.config) c.nothing_declared-none.ensures) (c.nothing_kept-old.ensures.scene ∙ c.in_ok-copy.ensures) c.nothing_kept-old.ensures.facets c.nothing_kept-old.ensures.fields)
+    c.in_ok-kept.ensures.values ∙ ap (λ (s : State). values_of g.M.Meanings.rules (setup_of c.args.setup.now) (scene_of c.args.scene) (rule_of g.M.Meanings.rules Enter s)) (state-nothing (setup_of c.nothing.result) (scene_in c.nothing_kept-old.result) (scene_of c.args.scene) c.nothing_kept-old.result.shelf.facets c.nothing_kept-old.result.shelf.fields (c.nothing.ensures ∙ ap (λ (d : Definitions). record_setup d no_setup.config) c.nothing_declared-none.ensures) (c.nothing_kept-old.ensures.scene ∙ c.in_ok-copy.ensures) c.nothing_kept-old.ensures.facets c.nothing_kept-old.ensures.fields)
 
 pub returns-in_err-kept-clause-cost : goal.returns-in_err-kept-clause-cost
 returns-in_err-kept-clause-cost g c =
-    subst (λ (s : State). c.kept_after.new.calls ≤ c.args.calls.now + transition_calls g.M.Meanings.rules Enter s (setup_of c.args.setup.now)) (state-nothing (setup_of c.nothing.result) (scene_in c.nothing_kept-old.result) (scene_of c.args.scene) c.nothing_kept-old.result.shelf.facets.items c.nothing_kept-old.result.shelf.fields.items (c.nothing.ensures ∙ ap (λ (d : Definitions). record_setup d no_setup.config) c.nothing_declared-none.ensures) (c.nothing_kept-old.ensures.scene ∙ c.in_ok-copy.ensures) c.nothing_kept-old.ensures.facets c.nothing_kept-old.ensures.fields) c.kept_after.ensures.cost
+    subst (λ (s : State). c.kept_after.new.calls ≤ c.args.calls.now + transition_calls g.M.Meanings.rules Enter s (setup_of c.args.setup.now)) (state-nothing (setup_of c.nothing.result) (scene_in c.nothing_kept-old.result) (scene_of c.args.scene) c.nothing_kept-old.result.shelf.facets c.nothing_kept-old.result.shelf.fields (c.nothing.ensures ∙ ap (λ (d : Definitions). record_setup d no_setup.config) c.nothing_declared-none.ensures) (c.nothing_kept-old.ensures.scene ∙ c.in_ok-copy.ensures) c.nothing_kept-old.ensures.facets c.nothing_kept-old.ensures.fields) c.kept_after.ensures.cost
 
 pub returns-clause-cost : goal.returns-clause-cost
 returns-clause-cost g c =
-    subst (λ (s : State). c.kept_after.new.calls ≤ c.args.calls.now + transition_calls g.M.Meanings.rules Enter s (setup_of c.args.setup.now)) (state-nothing (setup_of c.nothing.result) (scene_in c.nothing_kept-old.result) (scene_of c.args.scene) c.nothing_kept-old.result.shelf.facets.items c.nothing_kept-old.result.shelf.fields.items (c.nothing.ensures ∙ ap (λ (d : Definitions). record_setup d no_setup.config) c.nothing_declared-none.ensures) (c.nothing_kept-old.ensures.scene ∙ c.in_ok-copy.ensures) c.nothing_kept-old.ensures.facets c.nothing_kept-old.ensures.fields) c.kept_after.ensures.cost
+    subst (λ (s : State). c.kept_after.new.calls ≤ c.args.calls.now + transition_calls g.M.Meanings.rules Enter s (setup_of c.args.setup.now)) (state-nothing (setup_of c.nothing.result) (scene_in c.nothing_kept-old.result) (scene_of c.args.scene) c.nothing_kept-old.result.shelf.facets c.nothing_kept-old.result.shelf.fields (c.nothing.ensures ∙ ap (λ (d : Definitions). record_setup d no_setup.config) c.nothing_declared-none.ensures) (c.nothing_kept-old.ensures.scene ∙ c.in_ok-copy.ensures) c.nothing_kept-old.ensures.facets c.nothing_kept-old.ensures.fields) c.kept_after.ensures.cost

@@ -7,5 +7,5 @@ use Rattle.facet_slots.proofs.marks.any_input_flagged.Given as goal
 
 abbrev pub invariant-loop-node : goal.invariant-loop-node
 invariant-loop-node l =
-    list_any (input_flagged l.marks.moved (flags_in l.marks)) (map (input_node l.node_defs) (drop l.node-index l.nodes))
-    ≡ list_any (input_flagged l.marks.moved (flags_in l.marks)) (map (input_node l.node_defs) l.nodes)
+    list_any (input_flagged l.draft.moved (flags_in l.draft.kept)) (map (input_node l.node_defs) (drop l.node-index l.nodes))
+    ≡ list_any (input_flagged l.draft.moved (flags_in l.draft.kept)) (map (input_node l.node_defs) l.nodes)

@@ -11,8 +11,8 @@ use Rattle.facet_slots.proofs.outputs.all_outputs.Given as goal
 abbrev pub invariant-loop-node : goal.invariant-loop-node
 invariant-loop-node g l = record {
   found :
-      l.found.items ++ map (node_outputs g.M.Meanings.rules (scene_of l.scene) (held l.shelf.facets.items l.shelf.fields.items)) (map (input_node l.node_defs) (drop l.node-index l.nodes))
-      ≡ map (node_outputs g.M.Meanings.rules (scene_of l.scene) (held l.shelf.facets.items l.shelf.fields.items)) (map (input_node l.node_defs) l.nodes);
+      l.found.items ++ map (node_outputs g.M.Meanings.rules (scene_of l.scene) (held l.shelf.facets l.shelf.fields)) (map (input_node l.node_defs) (drop l.node-index l.nodes))
+      ≡ map (node_outputs g.M.Meanings.rules (scene_of l.scene) (held l.shelf.facets l.shelf.fields)) (map (input_node l.node_defs) l.nodes);
   fit : AllByRecursion (λ (node : InputNode). FitsCombiner g.M.Meanings.rules l.facet.combine node.input) (map (input_node l.node_defs) (drop l.node-index l.nodes));
   cost : l.calls + calls_of (map (input_node l.node_defs) (drop l.node-index l.nodes)) ≤ l.initial.calls + calls_of (map (input_node l.node_defs) l.nodes);
 }

@@ -9,14 +9,14 @@ use Rattle.facet_slots.proofs.step.new_facet.Goals as goal
 
 pub returns-in_err-made-clause-cost : goal.returns-in_err-made-clause-cost
 returns-in_err-made-clause-cost g c =
-    let one : next_count c.args.draft.now.marks.moved (flags_in c.args.draft.now.marks) [] (held_inputs c.args.old.now.inputs.items (Facet c.args.place)) (facet_in c.args.setup.now c.args.facet.now c.args.place).inputs ≡ calls_of (facet_in c.args.setup.now c.args.facet.now c.args.place).inputs =
-    all-new c.args.draft.now.marks.moved (flags_in c.args.draft.now.marks) (held_inputs c.args.old.now.inputs.items (Facet c.args.place)) (facet_in c.args.setup.now c.args.facet.now c.args.place).inputs in
+    let one : next_count c.args.draft.now.moved (flags_in c.args.draft.now.kept) [] (held_inputs c.args.old.now.shelf.inputs (Facet c.args.place)) (facet_in c.args.setup.now c.args.facet.now c.args.place).inputs ≡ calls_of (facet_in c.args.setup.now c.args.facet.now c.args.place).inputs =
+    all-new c.args.draft.now.moved (flags_in c.args.draft.now.kept) (held_inputs c.args.old.now.shelf.inputs (Facet c.args.place)) (facet_in c.args.setup.now c.args.facet.now c.args.place).inputs in
     let paid : c.facet_found.new.calls ≤ c.args.calls.now + (calls_of (facet_in c.args.setup.now c.args.facet.now c.args.place).inputs + 1) = rw (← c.as_slice.ensures, ← c.inputs.ensures) c.facet_found.ensures.cost in
     omega (arith, one, paid)
 
 pub returns-clause-cost : goal.returns-clause-cost
 returns-clause-cost g c =
-    let one : next_count c.args.draft.now.marks.moved (flags_in c.args.draft.now.marks) [] (held_inputs c.args.old.now.inputs.items (Facet c.args.place)) (facet_in c.args.setup.now c.args.facet.now c.args.place).inputs ≡ calls_of (facet_in c.args.setup.now c.args.facet.now c.args.place).inputs =
-    all-new c.args.draft.now.marks.moved (flags_in c.args.draft.now.marks) (held_inputs c.args.old.now.inputs.items (Facet c.args.place)) (facet_in c.args.setup.now c.args.facet.now c.args.place).inputs in
+    let one : next_count c.args.draft.now.moved (flags_in c.args.draft.now.kept) [] (held_inputs c.args.old.now.shelf.inputs (Facet c.args.place)) (facet_in c.args.setup.now c.args.facet.now c.args.place).inputs ≡ calls_of (facet_in c.args.setup.now c.args.facet.now c.args.place).inputs =
+    all-new c.args.draft.now.moved (flags_in c.args.draft.now.kept) (held_inputs c.args.old.now.shelf.inputs (Facet c.args.place)) (facet_in c.args.setup.now c.args.facet.now c.args.place).inputs in
     let paid : c.facet_found.new.calls ≤ c.args.calls.now + (calls_of (facet_in c.args.setup.now c.args.facet.now c.args.place).inputs + 1) = rw (← c.as_slice.ensures, ← c.inputs.ensures) c.facet_found.ensures.cost in
     omega (arith, one, paid)

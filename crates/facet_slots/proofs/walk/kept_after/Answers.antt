@@ -41,9 +41,9 @@ returns-in_err-next-clause-cost g c =
     let known : IsVertex (setup_of c.args.setup.now) vertex = all-at (IsVertex (setup_of c.args.setup.now)) order i vertex there c.requires.ordered.known in
     let due : Vertex → ℕ = (calls_due g.M.Meanings.rules (transition_of c.args.transition.now) (change_of g.M.Meanings.rules (transition_of c.args.transition.now) (state_in c.args.old_setup.now c.args.old.now) (setup_of c.args.setup.now)) (flags_of g.M.Meanings.rules (change_of g.M.Meanings.rules (transition_of c.args.transition.now) (state_in c.args.old_setup.now c.args.old.now) (setup_of c.args.setup.now)))) in
     let one : sum_by due (drop i order) ≡ due vertex + sum_by due (drop (i + 1) order) = sum-more due order i vertex there in
-    let calls : ℕ = next_calls g.M.Meanings.rules (transition_of c.args.transition.now) (setup_of c.args.setup.now) (scene_in c.loop-place.draft.kept) c.loop-place.draft.marks.moved (flags_in c.loop-place.draft.marks) (values_in c.loop-place.draft.kept) (state_in c.args.old_setup.now c.args.old.now) (held_inputs c.args.old.now.inputs.items) vertex in
-    let paid : calls ≡ due vertex = drafted-calls g.M.Meanings.rules g.met.M.Meanings.lawful (transition_of c.args.transition.now) (setup_of c.args.old_setup.now) (scene_in c.args.old.now) c.args.old.now.shelf.facets.items c.args.old.now.shelf.fields.items c.args.old.now.inputs.items c.requires.kept (setup_of c.args.setup.now) c.requires.ordered c.requires.lawful c.requires.follows.agree (scene-kept (scene_in c.args.old.now) c.requires.old_scene (transition_of c.args.transition.now) c.requires.made)
-    (scene_in c.loop-place.draft.kept) c.loop-place.draft.marks.moved (values_in c.loop-place.draft.kept) (flags_in c.loop-place.draft.marks) (held_inputs c.loop-place.draft.kept.inputs.items) i c.loop-place.invariant.drafted vertex inside there known in
+    let calls : ℕ = next_calls g.M.Meanings.rules (transition_of c.args.transition.now) (setup_of c.args.setup.now) (scene_in c.loop-place.draft.kept) c.loop-place.draft.moved (flags_in c.loop-place.draft.kept) (values_in c.loop-place.draft.kept) (state_in c.args.old_setup.now c.args.old.now) (held_inputs c.args.old.now.shelf.inputs) vertex in
+    let paid : calls ≡ due vertex = drafted-calls g.M.Meanings.rules g.met.M.Meanings.lawful (transition_of c.args.transition.now) (setup_of c.args.old_setup.now) (scene_in c.args.old.now) c.args.old.now.shelf.facets c.args.old.now.shelf.fields c.args.old.now.shelf.inputs c.requires.kept (setup_of c.args.setup.now) c.requires.ordered c.requires.lawful c.requires.follows.agree (scene-kept (scene_in c.args.old.now) c.requires.old_scene (transition_of c.args.transition.now) c.requires.made)
+    (scene_in c.loop-place.draft.kept) c.loop-place.draft.moved (values_in c.loop-place.draft.kept) (flags_in c.loop-place.draft.kept) (held_inputs c.loop-place.draft.kept.shelf.inputs) i c.loop-place.invariant.drafted vertex inside there known in
     let called : c.step.new.calls ≤ c.loop-place.calls + calls = c.step.ensures.cost in
     omega (arith, c.loop-place.invariant.cost, one, paid, called)
 
@@ -57,15 +57,15 @@ loop-place-preserved g c =
     let known : IsVertex (setup_of c.args.setup.now) vertex = all-at (IsVertex (setup_of c.args.setup.now)) order i vertex there c.requires.ordered.known in
     let due : Vertex → ℕ = (calls_due g.M.Meanings.rules (transition_of c.args.transition.now) (change_of g.M.Meanings.rules (transition_of c.args.transition.now) (state_in c.args.old_setup.now c.args.old.now) (setup_of c.args.setup.now)) (flags_of g.M.Meanings.rules (change_of g.M.Meanings.rules (transition_of c.args.transition.now) (state_in c.args.old_setup.now c.args.old.now) (setup_of c.args.setup.now)))) in
     let one : sum_by due (drop i order) ≡ due vertex + sum_by due (drop (i + 1) order) = sum-more due order i vertex there in
-    let calls : ℕ = next_calls g.M.Meanings.rules (transition_of c.args.transition.now) (setup_of c.args.setup.now) (scene_in c.loop-place.draft.kept) c.loop-place.draft.marks.moved (flags_in c.loop-place.draft.marks) (values_in c.loop-place.draft.kept) (state_in c.args.old_setup.now c.args.old.now) (held_inputs c.args.old.now.inputs.items) vertex in
-    let paid : calls ≡ due vertex = drafted-calls g.M.Meanings.rules g.met.M.Meanings.lawful (transition_of c.args.transition.now) (setup_of c.args.old_setup.now) (scene_in c.args.old.now) c.args.old.now.shelf.facets.items c.args.old.now.shelf.fields.items c.args.old.now.inputs.items c.requires.kept (setup_of c.args.setup.now) c.requires.ordered c.requires.lawful c.requires.follows.agree (scene-kept (scene_in c.args.old.now) c.requires.old_scene (transition_of c.args.transition.now) c.requires.made)
-    (scene_in c.loop-place.draft.kept) c.loop-place.draft.marks.moved (values_in c.loop-place.draft.kept) (flags_in c.loop-place.draft.marks) (held_inputs c.loop-place.draft.kept.inputs.items) i c.loop-place.invariant.drafted vertex inside there known in
+    let calls : ℕ = next_calls g.M.Meanings.rules (transition_of c.args.transition.now) (setup_of c.args.setup.now) (scene_in c.loop-place.draft.kept) c.loop-place.draft.moved (flags_in c.loop-place.draft.kept) (values_in c.loop-place.draft.kept) (state_in c.args.old_setup.now c.args.old.now) (held_inputs c.args.old.now.shelf.inputs) vertex in
+    let paid : calls ≡ due vertex = drafted-calls g.M.Meanings.rules g.met.M.Meanings.lawful (transition_of c.args.transition.now) (setup_of c.args.old_setup.now) (scene_in c.args.old.now) c.args.old.now.shelf.facets c.args.old.now.shelf.fields c.args.old.now.shelf.inputs c.requires.kept (setup_of c.args.setup.now) c.requires.ordered c.requires.lawful c.requires.follows.agree (scene-kept (scene_in c.args.old.now) c.requires.old_scene (transition_of c.args.transition.now) c.requires.made)
+    (scene_in c.loop-place.draft.kept) c.loop-place.draft.moved (values_in c.loop-place.draft.kept) (flags_in c.loop-place.draft.kept) (held_inputs c.loop-place.draft.kept.shelf.inputs) i c.loop-place.invariant.drafted vertex inside there known in
     let called : c.step.new.calls ≤ c.loop-place.calls + calls = c.step.ensures.cost in
     record {
-      drafted = drafted-more g.M.Meanings.rules g.met.M.Meanings.lawful (transition_of c.args.transition.now) (setup_of c.args.old_setup.now) (scene_in c.args.old.now) c.args.old.now.shelf.facets.items c.args.old.now.shelf.fields.items c.args.old.now.inputs.items c.requires.kept (setup_of c.args.setup.now) c.requires.ordered c.requires.lawful c.requires.follows.agree (scene-kept (scene_in c.args.old.now) c.requires.old_scene (transition_of c.args.transition.now) c.requires.made)
-          (scene_in c.loop-place.draft.kept) c.loop-place.draft.marks.moved (values_in c.loop-place.draft.kept) (flags_in c.loop-place.draft.marks) (held_inputs c.loop-place.draft.kept.inputs.items) i c.loop-place.invariant.drafted vertex inside there known
+      drafted = drafted-more g.M.Meanings.rules g.met.M.Meanings.lawful (transition_of c.args.transition.now) (setup_of c.args.old_setup.now) (scene_in c.args.old.now) c.args.old.now.shelf.facets c.args.old.now.shelf.fields c.args.old.now.shelf.inputs c.requires.kept (setup_of c.args.setup.now) c.requires.ordered c.requires.lawful c.requires.follows.agree (scene-kept (scene_in c.args.old.now) c.requires.old_scene (transition_of c.args.transition.now) c.requires.made)
+          (scene_in c.loop-place.draft.kept) c.loop-place.draft.moved (values_in c.loop-place.draft.kept) (flags_in c.loop-place.draft.kept) (held_inputs c.loop-place.draft.kept.shelf.inputs) i c.loop-place.invariant.drafted vertex inside there known
           c.in_ok-next.next.value c.in_ok-next.next.flag c.in_ok-next.next.inputs c.in_ok-next.ensures.next
-          (scene_in c.store.new.draft.kept) c.store.new.draft.marks.moved (values_in c.store.new.draft.kept) (flags_in c.store.new.draft.marks) (held_inputs c.store.new.draft.kept.inputs.items)
+          (scene_in c.store.new.draft.kept) c.store.new.draft.moved (values_in c.store.new.draft.kept) (flags_in c.store.new.draft.kept) (held_inputs c.store.new.draft.kept.shelf.inputs)
           c.store.ensures.scene c.store.ensures.moved c.store.ensures.value c.store.ensures.flag c.store.ensures.inputs;
       room = c.store.ensures.room;
       flag_room = c.store.ensures.flags;
@@ -76,17 +76,17 @@ pub returns-clause-values : goal.returns-clause-values
 returns-clause-values g c =
     let all : length (order_of (setup_of c.args.setup.now)) ≤ c.loop-place.place = omega (arith, c.order_len-place-end.ensures, c.loop-place-test.false) in
     ap (λ (k : Kept). values_in k) c.in_ok-new.ensures.ok
-    ∙ drafted-values g.M.Meanings.rules g.met.M.Meanings.lawful (transition_of c.args.transition.now) (setup_of c.args.old_setup.now) (scene_in c.args.old.now) c.args.old.now.shelf.facets.items c.args.old.now.shelf.fields.items c.args.old.now.inputs.items c.requires.kept (setup_of c.args.setup.now) c.requires.ordered c.requires.lawful c.requires.follows.agree (scene-kept (scene_in c.args.old.now) c.requires.old_scene (transition_of c.args.transition.now) c.requires.made)
-    (scene_in c.loop-place.draft.kept) c.loop-place.draft.marks.moved c.loop-place.draft.kept.shelf.facets.items c.loop-place.draft.kept.shelf.fields.items c.loop-place.draft.kept.inputs.items (flags_in c.loop-place.draft.marks) c.loop-place.place all c.loop-place.invariant.drafted c.loop-place.invariant.room
+    ∙ drafted-values g.M.Meanings.rules g.met.M.Meanings.lawful (transition_of c.args.transition.now) (setup_of c.args.old_setup.now) (scene_in c.args.old.now) c.args.old.now.shelf.facets c.args.old.now.shelf.fields c.args.old.now.shelf.inputs c.requires.kept (setup_of c.args.setup.now) c.requires.ordered c.requires.lawful c.requires.follows.agree (scene-kept (scene_in c.args.old.now) c.requires.old_scene (transition_of c.args.transition.now) c.requires.made)
+    (scene_in c.loop-place.draft.kept) c.loop-place.draft.moved c.loop-place.draft.kept.shelf.facets c.loop-place.draft.kept.shelf.fields c.loop-place.draft.kept.shelf.inputs (flags_in c.loop-place.draft.kept) c.loop-place.place all c.loop-place.invariant.drafted c.loop-place.invariant.room
     ∙ ap (λ (s : SceneView). values_of g.M.Meanings.rules (setup_of c.args.setup.now) s (rule_of g.M.Meanings.rules (transition_of c.args.transition.now) (state_in c.args.old_setup.now c.args.old.now))) (sym c.requires.scene)
 
 pub returns-clause-kept : goal.returns-clause-kept
 returns-clause-kept g c =
     let all : length (order_of (setup_of c.args.setup.now)) ≤ c.loop-place.place = omega (arith, c.order_len-place-end.ensures, c.loop-place-test.false) in
     subst (λ (k : Kept). IsKeptIn g.M.Meanings.rules c.args.setup.now k) (sym c.in_ok-new.ensures.ok)
-    (subst (λ (s : SceneView). IsKept g.M.Meanings.rules (setup_of c.args.setup.now) s c.loop-place.draft.kept.shelf.facets.items c.loop-place.draft.kept.shelf.fields.items c.loop-place.draft.kept.inputs.items) (sym c.loop-place.invariant.drafted.scene_is)
-    (drafted-kept g.M.Meanings.rules g.met.M.Meanings.lawful (transition_of c.args.transition.now) (setup_of c.args.old_setup.now) (scene_in c.args.old.now) c.args.old.now.shelf.facets.items c.args.old.now.shelf.fields.items c.args.old.now.inputs.items c.requires.kept (setup_of c.args.setup.now) c.requires.ordered c.requires.lawful c.requires.follows.agree (scene-kept (scene_in c.args.old.now) c.requires.old_scene (transition_of c.args.transition.now) c.requires.made)
-    (scene_in c.loop-place.draft.kept) c.loop-place.draft.marks.moved c.loop-place.draft.kept.shelf.facets.items c.loop-place.draft.kept.shelf.fields.items c.loop-place.draft.kept.inputs.items (flags_in c.loop-place.draft.marks) c.loop-place.place all c.loop-place.invariant.drafted c.loop-place.invariant.room
+    (subst (λ (s : SceneView). IsKept g.M.Meanings.rules (setup_of c.args.setup.now) s c.loop-place.draft.kept.shelf.facets c.loop-place.draft.kept.shelf.fields c.loop-place.draft.kept.shelf.inputs) (sym c.loop-place.invariant.drafted.scene_is)
+    (drafted-kept g.M.Meanings.rules g.met.M.Meanings.lawful (transition_of c.args.transition.now) (setup_of c.args.old_setup.now) (scene_in c.args.old.now) c.args.old.now.shelf.facets c.args.old.now.shelf.fields c.args.old.now.shelf.inputs c.requires.kept (setup_of c.args.setup.now) c.requires.ordered c.requires.lawful c.requires.follows.agree (scene-kept (scene_in c.args.old.now) c.requires.old_scene (transition_of c.args.transition.now) c.requires.made)
+    (scene_in c.loop-place.draft.kept) c.loop-place.draft.moved c.loop-place.draft.kept.shelf.facets c.loop-place.draft.kept.shelf.fields c.loop-place.draft.kept.shelf.inputs (flags_in c.loop-place.draft.kept) c.loop-place.place all c.loop-place.invariant.drafted c.loop-place.invariant.room
     (subst IsScene c.requires.scene c.requires.is_scene) c.requires.made c.requires.follows))
 
 pub returns-clause-scene : goal.returns-clause-scene

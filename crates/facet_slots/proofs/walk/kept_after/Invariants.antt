@@ -9,9 +9,9 @@ use Rattle.facet_slots.proofs.walk.kept_after.Given as goal
 
 abbrev pub invariant-loop-place : goal.invariant-loop-place
 invariant-loop-place g l = record {
-  drafted : IsDrafted g.M.Meanings.rules (transition_of l.transition) (state_in l.old_setup l.old) (setup_of l.setup) (scene_in l.draft.kept) l.draft.marks.moved (values_in l.draft.kept) (flags_in l.draft.marks) (held_inputs l.draft.kept.inputs.items) l.place;
+  drafted : IsDrafted g.M.Meanings.rules (transition_of l.transition) (state_in l.old_setup l.old) (setup_of l.setup) (scene_in l.draft.kept) l.draft.moved (values_in l.draft.kept) (flags_in l.draft.kept) (held_inputs l.draft.kept.shelf.inputs) l.place;
   room : HasRoomIn l.setup l.draft.kept;
-  flag_room : HasFlagRoomIn l.setup l.draft.marks;
+  flag_room : HasFlagRoomIn l.setup l.draft.kept;
   cost : l.calls + sum_by (calls_due g.M.Meanings.rules (transition_of l.transition) (change_of g.M.Meanings.rules (transition_of l.transition) (state_in l.old_setup l.old) (setup_of l.setup)) (flags_of g.M.Meanings.rules (change_of g.M.Meanings.rules (transition_of l.transition) (state_in l.old_setup l.old) (setup_of l.setup)))) (drop l.place (order_of (setup_of l.setup)))
       ≤ l.initial.calls + sum_by (calls_due g.M.Meanings.rules (transition_of l.transition) (change_of g.M.Meanings.rules (transition_of l.transition) (state_in l.old_setup l.old) (setup_of l.setup)) (flags_of g.M.Meanings.rules (change_of g.M.Meanings.rules (transition_of l.transition) (state_in l.old_setup l.old) (setup_of l.setup)))) (order_of (setup_of l.setup));
 }

@@ -20,7 +20,7 @@ first_kept-requires-clause-lawful g c = subst (IsLawful g.M.Meanings.rules) (sym
 
 pub invariant_of-result : goal.invariant_of-result
 invariant_of-result g c =
-    record { resolved = c.requires.resolved; lawful = c.requires.lawful; is_scene = subst IsScene (sym c.in_ok-kept.ensures.scene) c.requires.is_scene; kept = subst (λ (s : Setup). IsKept g.M.Meanings.rules s (scene_in c.in_ok-kept.kept.value) c.in_ok-kept.kept.value.shelf.facets.items c.in_ok-kept.kept.value.shelf.fields.items c.in_ok-kept.kept.value.inputs.items) c.lent.ensures c.in_ok-kept.ensures.kept; in_range = subst (λ (k : Kept). IsEachInRange (held k.shelf.facets.items k.shelf.fields.items)) c.deref.ensures c.known.ensures }
+    record { resolved = c.requires.resolved; lawful = c.requires.lawful; is_scene = subst IsScene (sym c.in_ok-kept.ensures.scene) c.requires.is_scene; kept = subst (λ (s : Setup). IsKept g.M.Meanings.rules s (scene_in c.in_ok-kept.kept.value) c.in_ok-kept.kept.value.shelf.facets c.in_ok-kept.kept.value.shelf.fields c.in_ok-kept.kept.value.shelf.inputs) c.lent.ensures c.in_ok-kept.ensures.kept; in_range = subst (λ (k : Kept). IsEachInRange (held k.shelf.facets k.shelf.fields)) c.deref.ensures c.known.ensures }
 
 pub returns-clause-state : goal.returns-clause-state
 returns-clause-state g c =

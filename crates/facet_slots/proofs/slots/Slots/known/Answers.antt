@@ -17,4 +17,4 @@ returns-clause-combined g c =
 pub returns-clause-facets : goal.returns-clause-facets
 returns-clause-facets g c =
     subst (λ (v : Slotted). FacetsFit g.M.Meanings.rules v.setup (plain v).values) c.self.view_is
-    (facets-fit g.M.Meanings.rules g.met.M.Meanings.lawful (record { defs = defs_of c.self.inside.defs.value; config = c.self.inside.config.value }) (scene_in c.self.inside.kept.value) (held c.self.inside.kept.value.shelf.facets.items c.self.inside.kept.value.shelf.fields.items) c.self.invariant.lawful c.self.invariant.is_scene c.self.invariant.in_range c.self.invariant.kept.combined)
+    (facets-fit g.M.Meanings.rules g.met.M.Meanings.lawful (record { defs = defs_of c.self.inside.defs.value; config = c.self.inside.config.value }) (scene_in c.self.inside.kept.value) (held c.self.inside.kept.value.shelf.facets c.self.inside.kept.value.shelf.fields) c.self.invariant.lawful c.self.invariant.is_scene c.self.invariant.in_range c.self.invariant.kept.combined)

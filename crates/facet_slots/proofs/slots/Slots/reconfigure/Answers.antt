@@ -55,24 +55,24 @@ kept_after-requires-clause-follows g c =
 pub kept_after-requires-clause-kept : goal.kept_after-requires-clause-kept
 kept_after-requires-clause-kept g c =
     subst (λ (k : Kept). IsKeptIn g.M.Meanings.rules c.lent.result k) (sym c.deref-old.ensures)
-    (subst (λ (s : Setup). IsKept g.M.Meanings.rules s (scene_in c.self.inside.kept.value) c.self.inside.kept.value.shelf.facets.items c.self.inside.kept.value.shelf.fields.items c.self.inside.kept.value.inputs.items) (sym c.lent.ensures) c.self.invariant.kept)
+    (subst (λ (s : Setup). IsKept g.M.Meanings.rules s (scene_in c.self.inside.kept.value) c.self.inside.kept.value.shelf.facets c.self.inside.kept.value.shelf.fields c.self.inside.kept.value.shelf.inputs) (sym c.lent.ensures) c.self.invariant.kept)
 
 pub invariant_of-result : goal.invariant_of-result
 invariant_of-result g c =
     let grown : IsGrown (defs_of c.self.inside.defs.value) (defs_of c.args.defs.value) = subst (λ (v : Slotted). IsGrown v.setup.defs (defs_of c.args.defs.value)) (sym c.self.view_is) c.requires.grown in
-    record { resolved = c.requires.resolved; lawful = c.requires.lawful; is_scene = subst IsScene (sym (c.in_ok-kept.ensures.scene ∙ (c.in_ok-scene.ensures ∙ ap (λ (k : Kept). scene_in k) c.deref-old.ensures))) c.self.invariant.is_scene; kept = subst (λ (s : Setup). IsKept g.M.Meanings.rules s (scene_in c.in_ok-kept.kept.value) c.in_ok-kept.kept.value.shelf.facets.items c.in_ok-kept.kept.value.shelf.fields.items c.in_ok-kept.kept.value.inputs.items) c.lent-2.ensures c.in_ok-kept.ensures.kept; in_range = subst (λ (k : Kept). IsEachInRange (held k.shelf.facets.items k.shelf.fields.items)) c.deref.ensures c.known.ensures }
+    record { resolved = c.requires.resolved; lawful = c.requires.lawful; is_scene = subst IsScene (sym (c.in_ok-kept.ensures.scene ∙ (c.in_ok-scene.ensures ∙ ap (λ (k : Kept). scene_in k) c.deref-old.ensures))) c.self.invariant.is_scene; kept = subst (λ (s : Setup). IsKept g.M.Meanings.rules s (scene_in c.in_ok-kept.kept.value) c.in_ok-kept.kept.value.shelf.facets c.in_ok-kept.kept.value.shelf.fields c.in_ok-kept.kept.value.shelf.inputs) c.lent-2.ensures c.in_ok-kept.ensures.kept; in_range = subst (λ (k : Kept). IsEachInRange (held k.shelf.facets k.shelf.fields)) c.deref.ensures c.known.ensures }
 
 pub returns-clause-state : goal.returns-clause-state
 returns-clause-state g c =
-    subst (λ (v : Slotted). state_of (record { defs = (defs_of c.args.defs.value); config = c.args.config.value }) (scene_in c.in_ok-kept.kept.value) c.in_ok-kept.kept.value.shelf.facets.items c.in_ok-kept.kept.value.shelf.fields.items ≡ after g.M.Meanings.rules Enter (plain v) (record { defs = (defs_of c.args.defs.value); config = c.args.config.value })) c.self.view_is
-    (after-is g.M.Meanings.rules Enter (record { setup = record { defs = (defs_of c.self.inside.defs.value); config = c.self.inside.config.value }; scene = scene_in c.self.inside.kept.value; facets = c.self.inside.kept.value.shelf.facets.items; fields = c.self.inside.kept.value.shelf.fields.items }) (setup_of c.lent.result) (record { defs = (defs_of c.args.defs.value); config = c.args.config.value }) (setup_of c.lent-2.result) c.lent.ensures c.lent-2.ensures (scene_of c.in_ok-scene.scene) (scene_in c.in_ok-kept.kept.value) c.in_ok-kept.kept.value.shelf.facets.items c.in_ok-kept.kept.value.shelf.fields.items (c.in_ok-scene.ensures ∙ ap (λ (k : Kept). scene_in k) c.deref-old.ensures) c.in_ok-kept.ensures.scene (subst (λ (k : Kept). values_in c.in_ok-kept.kept.value ≡ values_of g.M.Meanings.rules (setup_of c.lent-2.result) (scene_of c.in_ok-scene.scene) (rule_of g.M.Meanings.rules Enter (state_in c.lent.result k))) c.deref-old.ensures c.in_ok-kept.ensures.values))
+    subst (λ (v : Slotted). state_of (record { defs = (defs_of c.args.defs.value); config = c.args.config.value }) (scene_in c.in_ok-kept.kept.value) c.in_ok-kept.kept.value.shelf.facets c.in_ok-kept.kept.value.shelf.fields ≡ after g.M.Meanings.rules Enter (plain v) (record { defs = (defs_of c.args.defs.value); config = c.args.config.value })) c.self.view_is
+    (after-is g.M.Meanings.rules Enter (record { setup = record { defs = (defs_of c.self.inside.defs.value); config = c.self.inside.config.value }; scene = scene_in c.self.inside.kept.value; facets = c.self.inside.kept.value.shelf.facets; fields = c.self.inside.kept.value.shelf.fields }) (setup_of c.lent.result) (record { defs = (defs_of c.args.defs.value); config = c.args.config.value }) (setup_of c.lent-2.result) c.lent.ensures c.lent-2.ensures (scene_of c.in_ok-scene.scene) (scene_in c.in_ok-kept.kept.value) c.in_ok-kept.kept.value.shelf.facets c.in_ok-kept.kept.value.shelf.fields (c.in_ok-scene.ensures ∙ ap (λ (k : Kept). scene_in k) c.deref-old.ensures) c.in_ok-kept.ensures.scene (subst (λ (k : Kept). values_in c.in_ok-kept.kept.value ≡ values_of g.M.Meanings.rules (setup_of c.lent-2.result) (scene_of c.in_ok-scene.scene) (rule_of g.M.Meanings.rules Enter (state_in c.lent.result k))) c.deref-old.ensures c.in_ok-kept.ensures.values))
 
 pub returns-in_err-kept-clause-cost : goal.returns-in_err-kept-clause-cost
 returns-in_err-kept-clause-cost g c =
     subst (λ (v : Slotted). c.kept_after.new.calls ≤ c.args.calls.now + transition_calls g.M.Meanings.rules Enter (plain v) (record { defs = (defs_of c.args.defs.value); config = c.args.config.value })) c.self.view_is
-    (calls-are g.M.Meanings.rules Enter (record { setup = record { defs = (defs_of c.self.inside.defs.value); config = c.self.inside.config.value }; scene = scene_in c.self.inside.kept.value; facets = c.self.inside.kept.value.shelf.facets.items; fields = c.self.inside.kept.value.shelf.fields.items }) (setup_of c.lent.result) (record { defs = (defs_of c.args.defs.value); config = c.args.config.value }) (setup_of c.lent-2.result) c.lent.ensures c.lent-2.ensures c.args.calls.now c.kept_after.new.calls (subst (λ (k : Kept). c.kept_after.new.calls ≤ c.args.calls.now + transition_calls g.M.Meanings.rules Enter (state_in c.lent.result k) (setup_of c.lent-2.result)) c.deref-old.ensures c.kept_after.ensures.cost))
+    (calls-are g.M.Meanings.rules Enter (record { setup = record { defs = (defs_of c.self.inside.defs.value); config = c.self.inside.config.value }; scene = scene_in c.self.inside.kept.value; facets = c.self.inside.kept.value.shelf.facets; fields = c.self.inside.kept.value.shelf.fields }) (setup_of c.lent.result) (record { defs = (defs_of c.args.defs.value); config = c.args.config.value }) (setup_of c.lent-2.result) c.lent.ensures c.lent-2.ensures c.args.calls.now c.kept_after.new.calls (subst (λ (k : Kept). c.kept_after.new.calls ≤ c.args.calls.now + transition_calls g.M.Meanings.rules Enter (state_in c.lent.result k) (setup_of c.lent-2.result)) c.deref-old.ensures c.kept_after.ensures.cost))
 
 pub returns-clause-cost : goal.returns-clause-cost
 returns-clause-cost g c =
     subst (λ (v : Slotted). c.kept_after.new.calls ≤ c.args.calls.now + transition_calls g.M.Meanings.rules Enter (plain v) (record { defs = (defs_of c.args.defs.value); config = c.args.config.value })) c.self.view_is
-    (calls-are g.M.Meanings.rules Enter (record { setup = record { defs = (defs_of c.self.inside.defs.value); config = c.self.inside.config.value }; scene = scene_in c.self.inside.kept.value; facets = c.self.inside.kept.value.shelf.facets.items; fields = c.self.inside.kept.value.shelf.fields.items }) (setup_of c.lent.result) (record { defs = (defs_of c.args.defs.value); config = c.args.config.value }) (setup_of c.lent-2.result) c.lent.ensures c.lent-2.ensures c.args.calls.now c.kept_after.new.calls (subst (λ (k : Kept). c.kept_after.new.calls ≤ c.args.calls.now + transition_calls g.M.Meanings.rules Enter (state_in c.lent.result k) (setup_of c.lent-2.result)) c.deref-old.ensures c.kept_after.ensures.cost))
+    (calls-are g.M.Meanings.rules Enter (record { setup = record { defs = (defs_of c.self.inside.defs.value); config = c.self.inside.config.value }; scene = scene_in c.self.inside.kept.value; facets = c.self.inside.kept.value.shelf.facets; fields = c.self.inside.kept.value.shelf.fields }) (setup_of c.lent.result) (record { defs = (defs_of c.args.defs.value); config = c.args.config.value }) (setup_of c.lent-2.result) c.lent.ensures c.lent-2.ensures c.args.calls.now c.kept_after.new.calls (subst (λ (k : Kept). c.kept_after.new.calls ≤ c.args.calls.now + transition_calls g.M.Meanings.rules Enter (state_in c.lent.result k) (setup_of c.lent-2.result)) c.deref-old.ensures c.kept_after.ensures.cost))
