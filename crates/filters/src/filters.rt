@@ -62,8 +62,7 @@ fn replaced<M: Meanings>(
         kinds: start.kinds,
         maps: kit,
     };
-    let draft = resolve(alloc, specs, &frame)?;
-    Ok(draft.boxed(alloc)?)
+    resolve(alloc, specs, &frame)
 }
 
 /// What comes of a draft by an answer.

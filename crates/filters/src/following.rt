@@ -36,14 +36,14 @@ fn merged_with<M: Meanings>(
         kinds: start.kinds,
         maps: kit,
     };
-    let mut draft = Box::into_inner(draft);
+    let mut draft = draft;
     for spec in specs {
         match merge(alloc, draft, spec, &frame) {
             Ok(next) => draft = next,
             Err(error) => return Err(error),
         }
     }
-    Ok(draft.boxed(alloc)?)
+    Ok(draft)
 }
 
 /// A draft and then specs. `Err`: why the specs are refused, or out of memory.

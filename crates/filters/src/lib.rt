@@ -23,4 +23,4 @@ pub use extenders::apply_extenders;
 pub use filter_facets::FilterFacets;
 pub use filters::apply_filters;
 pub use start::Start;
-pub use view::shown;
+pub use view::{shown, shown_from};

@@ -72,6 +72,51 @@ fn notes(
     })
 }
 
+/// An effect as rules are shown it, if it has a kind.
+fn taken_effect(effect: Effect<Val>) -> Option<ShownEffect>
+    ensures { result ≡ shown_effect effect }
+{
+    match effect {
+        Effect::Kind { id, value } => Some(ShownEffect { id, value }),
+        _ => None,
+    }
+}
+
+/// The effects that have a kind, in order.
+fn taken_effects(
+    alloc: Global,
+    effects: Listed<Effect<Val>>,
+) -> Result<Listed<ShownEffect>, AllocError>
+    ensures { IfOk result (λ shown. shown ≡ filter_map shown_effect effects) }
+{
+    let mut shown = Listed::empty(alloc);
+    for effect in effects.into_vec() {
+        if let Some(next) = taken_effect(effect) {
+            shown.push(next)?;
+        }
+    }
+    Ok(shown)
+}
+
+/// What a draft carries beside its changes and selection, as rules are shown it, made of what it has.
+fn taken_notes(
+    alloc: Global,
+    effects: Listed<Effect<Val>>,
+    inverted: Listed<KeptEffect>,
+    annotations: Listed<Annotation>,
+) -> Result<TrNotes, AllocError>
+    ensures effects { IfOk result (λ notes. notes.effects ≡ filter_map shown_effect effects) }
+    ensures inverted { IfOk result (λ notes. notes.inverted ≡ inverted) }
+    ensures annotations { IfOk result (λ notes. notes.annotations ≡ annotations) }
+{
+    let effects = taken_effects(alloc, effects)?;
+    Ok(TrNotes {
+        effects,
+        inverted,
+        annotations,
+    })
+}
+
 /// The given selection, or else a start selection after the changes.
 fn whole_selection(selection: &Selection, draft: &Draft<Val>) -> Result<Selection, AllocError>
     requires inside { LieIn (old_size draft.now.changes) selection.now.ranges }
@@ -166,4 +211,26 @@ pub fn shown(
         draft.selection.is_some(),
         notes,
     )
+}
+
+/// What rules are shown of a draft that is handed over, as `shown` gives it; its changes, effects and annotations aren't copied.
+pub fn shown_from(
+    alloc: Global,
+    start: &Start<'_>,
+    inverted: Listed<KeptEffect>,
+    draft: Box<Draft<Val>>,
+) -> Result<TrView, AllocError>
+    requires start { IsStart (start_of start.now) }
+    requires draft { StartsIn (start_of start.now) draft.value }
+    ensures { IfOk result (λ t. t ≡ shown_of (start_of start.now) inverted draft.value) }
+{
+    let before = scene_copy(start.document, start.selection)?;
+    let after = new_scene(start, &draft)?;
+    let draft = Box::into_inner(draft);
+    let is_given = draft.selection.is_some();
+    let notes = taken_notes(alloc, draft.effects, inverted, draft.annotations)?;
+    notes.known();
+    before.selection.known();
+    after.selection.known();
+    TrView::new(alloc, draft.changes, before, after, is_given, notes)
 }

@@ -141,8 +141,7 @@ fn draft(
         kinds: start.kinds,
         maps: kit,
     };
-    let draft = resolve(alloc, specs, &frame)?;
-    Ok(draft.boxed(alloc)?)
+    Ok(resolve(alloc, specs, &frame)?)
 }
 
 /// What filters and extenders make of a draft.

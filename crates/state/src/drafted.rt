@@ -41,8 +41,7 @@ fn merged<M: Meanings>(
         kinds: start.kinds,
         maps: kit,
     };
-    let draft = resolve(alloc, specs, &frame)?;
-    Ok(draft.boxed(alloc)?)
+    resolve(alloc, specs, &frame)
 }
 
 /// What filters and then extenders make of a draft.

@@ -85,16 +85,16 @@ pub fn after_draft<M: Meanings, L: Ledger>(
     registry: &Registry<M>,
     slots: &Slots<M>,
     config: Option<Rc<Config>>,
-    draft: &Draft<Val>,
+    draft: Box<Draft<Val>>,
     calls: &mut Steps<L>,
 ) -> Result<Slots<M>, AllocError>
     requires whole { IsWhole M.rules kit.now }
     requires grown { IsGrown slots.now.setup.defs (definitions registry.now) }
     requires several { ALLOW_MULTIPLE_SELECTIONS < length slots.now.setup.defs.facets }
     requires config { IsEntered registry.now (option_map rc_value config) }
-    requires starts { StartsIn (start_in registry.now (plain slots.now)) draft.now }
-    ensures state { IfOk result (λ s. plain s ≡ step M.rules (plain slots.now) (entered_target registry.now slots.now.setup.config (option_map rc_value config)) (transaction_of registry.now (plain slots.now) draft.now)) }
-    ensures cost { calls.new ≤ calls.old + step_calls M.rules (plain slots.now) (entered_target registry.now slots.now.setup.config (option_map rc_value config)) (transaction_of registry.now (plain slots.now) draft.now) }
+    requires starts { StartsIn (start_in registry.now (plain slots.now)) draft.value }
+    ensures state { IfOk result (λ s. plain s ≡ step M.rules (plain slots.now) (entered_target registry.now slots.now.setup.config (option_map rc_value config)) (transaction_of registry.now (plain slots.now) draft.value)) }
+    ensures cost { calls.new ≤ calls.old + step_calls M.rules (plain slots.now) (entered_target registry.now slots.now.setup.config (option_map rc_value config)) (transaction_of registry.now (plain slots.now) draft.value) }
 {
     let transaction = transaction_of(alloc, registry, slots, draft)?;
     stepped(alloc, kit, registry, slots, config, &transaction, calls)

@@ -16,27 +16,28 @@ use crate::state_error::StateError;
 use crate::stepped::after_draft;
 use configuration::Config;
 use facet_slots::Slots;
+use listed::Listed;
 use registry::Registry;
 use std::alloc::Global;
 use std::rc::Rc;
 use std::sync::ledger::Ledger;
 use steps::Steps;
-use transaction::{Draft, Spec};
+use transaction::{Effect, Spec};
 use values::{Kit, Meanings, Val};
 
-/// The configuration that takes the place of a state's by the effects of a draft, to be shared by states. None where no effect
-/// is on the configuration. `Err`: why there is none after them, or out of memory.
+/// The configuration that takes the place of a state's by effects, to be shared by states. None where no effect is on the
+/// configuration. `Err`: why there is none after them, or out of memory.
 fn found_after<M: Meanings>(
     alloc: Global,
     registry: &Registry<M>,
     slots: &Slots<M>,
-    draft: &Draft<Val>,
+    effects: &Listed<Effect<Val>>,
 ) -> Result<Option<Rc<Config>>, StateError>
-    ensures config { IfOk result (λ found. IsConfigFound registry.now slots.now.setup.config draft.now.effects (option_map rc_value found)) }
-    ensures found { IfOk result (λ found. config_after registry.now slots.now.setup.config draft.now.effects ≡ Ok (option_map unordered_config (option_map rc_value found))) }
-    ensures refused { IfErr result (λ error. error ≢ StateError.NoMemory → config_after registry.now slots.now.setup.config draft.now.effects ≡ Err error) }
+    ensures config { IfOk result (λ found. IsConfigFound registry.now slots.now.setup.config effects.now (option_map rc_value found)) }
+    ensures found { IfOk result (λ found. config_after registry.now slots.now.setup.config effects.now ≡ Ok (option_map unordered_config (option_map rc_value found))) }
+    ensures refused { IfErr result (λ error. error ≢ StateError.NoMemory → config_after registry.now slots.now.setup.config effects.now ≡ Err error) }
 {
-    match reconfigured(alloc, registry, slots.config(), draft.effects.as_slice())? {
+    match reconfigured(alloc, registry, slots.config(), effects.as_slice())? {
         Some(config) => Ok(Some(shared_config(alloc, config)?)),
         None => Ok(None),
     }
@@ -61,9 +62,8 @@ pub fn updated<M: Meanings, L: Ledger>(
     ensures uncalled { IfErr result (λ error. error ≢ StateError.NoMemory → calls.new ≡ calls.old) }
     ensures paid { IsStepPaid M.rules registry.now (plain slots.now) specs.items calls.old calls.new }
 {
-    let boxed = drafted(alloc, kit, registry, slots, specs)?;
-    let draft = &*boxed;
-    let config = found_after(alloc, registry, slots, draft)?;
+    let draft = drafted(alloc, kit, registry, slots, specs)?;
+    let config = found_after(alloc, registry, slots, &draft.effects)?;
     let slots = after_draft(alloc, kit, registry, slots, config, draft, calls)?;
     Ok(slots)
 }

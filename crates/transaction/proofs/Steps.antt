@@ -1,6 +1,6 @@
 -- One more spec, and several in a row.
 use Rattle.std.proofs.Common.{◌≡◌, ℕ, ◌≤◌, Bool, true, false, List, [], ◌∷◌, fold, Option, Some, None, refl, sym, ap, subst, ◌∙◌}
-use Rattle.std.specs.Prelude.{option_map}
+use Rattle.std.specs.Prelude.{IfOk, Result, Ok, Err, option_map}
 use Rattle.std.specs.Option.{option_or, unwrap_or}
 use Rattle.change_desc.specs.Sections.{spelled, new_size, old_size}
 use Rattle.change_desc.specs.Of.{of}
@@ -47,13 +47,13 @@ module _ {V : Type 0} (len max : ℕ) (before : Option Changes) (s : Spec V) whe
       or_some _ (too_long max (next_total before s.sequential (own_changes len before s))) e (ap (λ n. option_map of_changes_error (refusal n max s.changes)) (sym f) ∙ h)
 
   -- the changes of a spec that was made
-  made-changes : (start : ℕ) (m : Made V) → start ≡ start_len len before s.sequential → IsMade start max s m → m.draft.changes ≡ own_changes len before s
+  made-changes : (start : ℕ) (m : Made V) → start ≡ start_len len before s.sequential → IsMade start max s m → m.draft.value.changes ≡ own_changes len before s
   made-changes start m f h = h.changes ∙ ap (λ n. of spelled n (as_sets n s.changes)) f
 
   made-total : (start : ℕ) (m : Made V) → start ≡ start_len len before s.sequential → IsMade start max s m →
-      next_total before m.sequential m.draft.changes ≡ next_total before s.sequential (own_changes len before s)
+      next_total before m.sequential m.draft.value.changes ≡ next_total before s.sequential (own_changes len before s)
   made-total start m f h =
-      ap (λ b. next_total before b m.draft.changes) h.sequential ∙ ap (next_total before s.sequential) (made-changes start m f h)
+      ap (λ b. next_total before b m.draft.value.changes) h.sequential ∙ ap (next_total before s.sequential) (made-changes start m f h)
 
   made-accepted : (start : ℕ) (m : Made V) → start ≡ start_len len before s.sequential → IsMade start max s m →
       spec_changes_refusal len max before s ≡ too_long max (next_total before s.sequential (own_changes len before s))
@@ -61,7 +61,7 @@ module _ {V : Type 0} (len max : ℕ) (before : Option Changes) (s : Spec V) whe
       or_none _ _ (ap (λ n. option_map of_changes_error (refusal n max s.changes)) (sym f) ∙ ap (option_map of_changes_error) h.accepted)
 
   pub refused_by_length : (start : ℕ) (m : Made V) (e : TransactionError) → start ≡ start_len len before s.sequential → IsMade start max s m →
-      too_long max (next_total before m.sequential m.draft.changes) ≡ Some e → spec_changes_refusal len max before s ≡ Some e
+      too_long max (next_total before m.sequential m.draft.value.changes) ≡ Some e → spec_changes_refusal len max before s ≡ Some e
   refused_by_length start m e f h k = made-accepted start m f h ∙ (ap (too_long max) (sym (made-total start m f h)) ∙ k)
 
 -- a spec after a draft that it follows
@@ -73,6 +73,13 @@ follows-sequential len max kinds map_value a next d h e l v i = record {
   value = v;
   is_draft = subst (λ n. IsDraft n d) h.starts i;
 }
+
+-- a spec beside a draft over the same start document
+pub follows-beside : {V B : Type 0} (value : B → Draft V) (len max : ℕ) (kinds : EffectKinds) (map_value : ValueMap V) (a next : Draft V) (r : Result B TransactionError) → IsDraft len a →
+    IfOk r (λ d. value d ≡ joined kinds map_value false a next) → IfOk r (λ d. IsDraft (old_size a.changes) (value d)) →
+    IfOk r (λ d. too_long max (next_total (Some a.changes) false next.changes) ≡ None) → IfOk r (λ d. Follows len max kinds map_value (Some a) false next (value d))
+follows-beside value len max kinds map_value a next (Ok d) h v i n = record { accepted = n; value = v; is_draft = subst (λ n. IsDraft n (value d)) h.starts i }
+follows-beside value len max kinds map_value a next (Err e) h v i n = tt
 
 module _ {V : Type 0} (len max : ℕ) (kinds : EffectKinds) (map_value : ValueMap V) where
   after-spec : (before : Option (Draft V)) (s : Spec V) →
@@ -88,22 +95,22 @@ module _ {V : Type 0} (len max : ℕ) (kinds : EffectKinds) (map_value : ValueMa
 
   pub advances : (before : Option (Draft V)) (s : Spec V) (start : ℕ) (m : Made V) (old new : Option TransactionError) (d : Draft V) →
       start ≡ start_len len (changes_before before) s.sequential → IsMade start max s m → new ≡ option_or old m.refusal →
-      Follows len max kinds map_value before m.sequential m.draft d → Advances len max kinds map_value before s old new d
+      Follows len max kinds map_value before m.sequential m.draft.value d → Advances len max kinds map_value before s old new d
   advances before s start m old new d f h e k =
-      let own : m.draft.changes ≡ own_changes len (changes_before before) s = made-changes len max (changes_before before) s start m f h in
+      let own : m.draft.value.changes ≡ own_changes len (changes_before before) s = made-changes len max (changes_before before) s start m f h in
       record {
         accepted = made-accepted len max (changes_before before) s start m f h ∙ (ap (too_long max) (sym (made-total len max (changes_before before) s start m f h)) ∙ k.accepted);
-        changes = follows-changes before m.sequential m.draft d k.value ∙ made-total len max (changes_before before) s start m f h;
+        changes = follows-changes before m.sequential m.draft.value d k.value ∙ made-total len max (changes_before before) s start m f h;
         refusal = e ∙ ap (option_or old) (h.refusal ∙ ap (λ c. given_refusal (new_size spelled c) s.selection) own);
         value = λ none.
             k.value ∙
-            (ap (λ b. joined_after kinds map_value before b m.draft) h.sequential ∙
+            (ap (λ b. joined_after kinds map_value before b m.draft.value) h.sequential ∙
             (ap (joined_after kinds map_value before s.sequential)
             (h.value (none_right old m.refusal (sym e ∙ none)) ∙ ap (λ c. spec_draft c s) (sym h.changes ∙ own)) ∙
             after-spec before s));
         is_short = record {
           is_draft = k.is_draft;
-          short = subst (λ c. new_size spelled c ≤ max) (sym (follows-changes before m.sequential m.draft d k.value)) (is-short max _ k.accepted);
+          short = subst (λ c. new_size spelled c ≤ max) (sym (follows-changes before m.sequential m.draft.value d k.value)) (is-short max _ k.accepted);
         };
       }
 

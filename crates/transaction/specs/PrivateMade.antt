@@ -20,17 +20,17 @@ pub record IsMadeSelection (len : ℕ) (given : Option SelectionSpec) (m : MadeS
 
 -- a spec as a draft of these changes, with a selection that was made
 pub record IsWith {V : Type 0} (own : Changes) (given : MadeSelection) (s : Spec V) (m : Made V) : Type 0 where
-  pub draft : m.draft ≡ record { changes = own; selection = given.selection; effects = s.effects; annotations = all_annotations s; filter = s.filter }
+  pub draft : m.draft.value ≡ record { changes = own; selection = given.selection; effects = s.effects; annotations = all_annotations s; filter = s.filter }
   pub refusal : m.refusal ≡ given.refusal
   pub sequential : m.sequential ≡ s.sequential
 
 -- the draft and the refusal are those of the spec
 pub record IsMade {V : Type 0} (start max : ℕ) (s : Spec V) (m : Made V) : Type 0 where
   pub accepted : refusal start max s.changes ≡ None
-  pub changes : m.draft.changes ≡ of spelled start (as_sets start s.changes)
-  pub starts : old_size m.draft.changes ≡ start
-  pub short : new_size spelled m.draft.changes ≤ max
-  pub refusal : m.refusal ≡ given_refusal (new_size spelled m.draft.changes) s.selection
-  pub value : m.refusal ≡ None → m.draft ≡ spec_draft (of spelled start (as_sets start s.changes)) s
-  pub inside : SelectionIn (new_size spelled m.draft.changes) m.draft.selection
+  pub changes : m.draft.value.changes ≡ of spelled start (as_sets start s.changes)
+  pub starts : old_size m.draft.value.changes ≡ start
+  pub short : new_size spelled m.draft.value.changes ≤ max
+  pub refusal : m.refusal ≡ given_refusal (new_size spelled m.draft.value.changes) s.selection
+  pub value : m.refusal ≡ None → m.draft.value ≡ spec_draft (of spelled start (as_sets start s.changes)) s
+  pub inside : SelectionIn (new_size spelled m.draft.value.changes) m.draft.value.selection
   pub sequential : m.sequential ≡ s.sequential

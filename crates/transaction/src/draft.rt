@@ -34,16 +34,17 @@ pub struct Draft<V> {
 
 impl<V: Drop> Draft<V> {
     /// The draft of no spec at all, over a document of `len` characters.
-    pub(crate) fn empty(alloc: Global, len: u32) -> Result<Draft<V>, AllocError>
-        ensures { IfOk result (λ draft. draft ≡ empty_draft len) }
+    pub(crate) fn empty(alloc: Global, len: u32) -> Result<Box<Draft<V>>, AllocError>
+        ensures { IfOk result (λ draft. draft.value ≡ empty_draft len) }
     {
-        Ok(Draft {
+        let draft = Draft {
             changes: ChangeSet::empty(alloc, len)?,
             selection: None,
             effects: Listed::empty(alloc),
             annotations: Listed::empty(alloc),
             filter: true,
-        })
+        };
+        draft.boxed(alloc)
     }
 
     /// The draft in a box, so that passing it on copies a pointer. `Err`: out of memory.
@@ -84,22 +85,22 @@ impl<V: Drop> Draft<V> {
         alloc: Global,
         next: Draft<V>,
         frame: &Frame<M>,
-    ) -> Result<Draft<V>, AllocError>
+    ) -> Result<Box<Draft<V>>, AllocError>
         requires meet { new_size spelled self.changes ≡ old_size next.changes }
         requires inside { SelectionIn (new_size spelled self.changes) self.selection }
         requires next_inside { SelectionIn (new_size spelled next.changes) next.selection }
         requires frame { IsFrame (M.can_map frame.now.maps.now) (M.map_count frame.now.maps.now) frame.now.kinds.now frame.now.max }
         requires short { new_size spelled self.changes ≤ frame.now.max }
         requires next_short { new_size spelled next.changes ≤ frame.now.max }
-        ensures value { IfOk result (λ draft. draft ≡ followed frame.now.kinds.now (M.map_value frame.now.maps.now) self next) }
-        ensures is_draft { IfOk result (λ draft. IsDraft (old_size self.changes) draft) }
+        ensures value { IfOk result (λ draft. draft.value ≡ followed frame.now.kinds.now (M.map_value frame.now.maps.now) self next) }
+        ensures is_draft { IfOk result (λ draft. IsDraft (old_size self.changes) draft.value) }
     {
         let over = next.changes.desc()?;
         let changes = self.changes.compose(&next.changes)?;
         let first = self.extras();
         let second = next.extras();
         let extras = first.followed(alloc, second, &over, frame)?;
-        Ok(Draft::of(changes, extras))
+        Draft::of(changes, extras).boxed(alloc)
     }
 
     /// The draft and another over the same start document, where the draft's texts stand first.
@@ -108,15 +109,15 @@ impl<V: Drop> Draft<V> {
         alloc: Global,
         next: Draft<V>,
         frame: &Frame<M>,
-    ) -> Result<Draft<V>, TransactionError>
+    ) -> Result<Box<Draft<V>>, TransactionError>
         requires meet { old_size next.changes ≡ old_size self.changes }
         requires inside { SelectionIn (new_size spelled self.changes) self.selection }
         requires next_inside { SelectionIn (new_size spelled next.changes) next.selection }
         requires frame { IsFrame (M.can_map frame.now.maps.now) (M.map_count frame.now.maps.now) frame.now.kinds.now frame.now.max }
         requires short { new_size spelled self.changes ≤ frame.now.max }
         requires next_short { new_size spelled next.changes ≤ frame.now.max }
-        ensures value { IfOk result (λ draft. draft ≡ beside frame.now.kinds.now (M.map_value frame.now.maps.now) self next) }
-        ensures is_draft { IfOk result (λ draft. IsDraft (old_size self.changes) draft) }
+        ensures value { IfOk result (λ draft. draft.value ≡ beside frame.now.kinds.now (M.map_value frame.now.maps.now) self next) }
+        ensures is_draft { IfOk result (λ draft. IsDraft (old_size self.changes) draft.value) }
         ensures accepted { IfOk result (λ _. too_long frame.now.max (then_also spelled self.changes next.changes) ≡ None) }
         ensures refused { IfErr result (λ error. error ≢ TransactionError.NoMemory → too_long frame.now.max (then_also spelled self.changes next.changes) ≡ Some error) }
     {
@@ -124,6 +125,6 @@ impl<V: Drop> Draft<V> {
         let first = self.extras();
         let second = next.extras();
         let extras = first.beside(alloc, second, &both, frame)?;
-        Ok(Draft::of(both.changes, extras))
+        Ok(Draft::of(both.changes, extras).boxed(alloc)?)
     }
 }

@@ -50,7 +50,7 @@ pub(crate) struct MadeSelection {
 /// A spec as a draft by itself, and why its selection is refused, if it is.
 #[derive(Drop)]
 pub(crate) struct Made<V> {
-    pub(crate) draft: Draft<V>,
+    pub(crate) draft: Box<Draft<V>>,
     pub(crate) refusal: Option<TransactionError>,
     pub(crate) sequential: bool,
 }
@@ -130,14 +130,15 @@ impl<V: Drop> Spec<V> {
         ensures { IfOk result (λ made. IsWith own given self made) }
     {
         let annotations = with_event(alloc, self.annotations, self.user_event)?;
+        let draft = Draft {
+            changes: own,
+            selection: given.selection,
+            effects: self.effects,
+            annotations,
+            filter: self.filter,
+        };
         Ok(Made {
-            draft: Draft {
-                changes: own,
-                selection: given.selection,
-                effects: self.effects,
-                annotations,
-                filter: self.filter,
-            },
+            draft: draft.boxed(alloc)?,
             refusal: given.refusal,
             sequential: self.sequential,
         })

@@ -105,9 +105,9 @@ pub(crate) fn place(alloc: Global, at: u32) -> Result<SelectionSpec, AllocError>
 pub(crate) fn merged(
     alloc: Global,
     specs: Vec<Spec<Plain>>,
-) -> Result<Draft<Plain>, TransactionError>
-    ensures draft { IfOk result (λ draft. IsDraft 4 draft) }
-    ensures short { IfOk result (λ draft. new_size spelled draft.changes ≤ 100) }
+) -> Result<Box<Draft<Plain>>, TransactionError>
+    ensures draft { IfOk result (λ draft. IsDraft 4 draft.value) }
+    ensures short { IfOk result (λ draft. new_size spelled draft.value.changes ≤ 100) }
 {
     let kinds = kinds(alloc)?;
     let maps = PlainMaps { alloc };
@@ -135,9 +135,9 @@ fn two(
 }
 
 /// One spec, merged with none.
-pub(crate) fn alone(alloc: Global, spec: Spec<Plain>) -> Result<Draft<Plain>, TransactionError>
-    ensures draft { IfOk result (λ draft. IsDraft 4 draft) }
-    ensures short { IfOk result (λ draft. new_size spelled draft.changes ≤ 100) }
+pub(crate) fn alone(alloc: Global, spec: Spec<Plain>) -> Result<Box<Draft<Plain>>, TransactionError>
+    ensures draft { IfOk result (λ draft. IsDraft 4 draft.value) }
+    ensures short { IfOk result (λ draft. new_size spelled draft.value.changes ≤ 100) }
 {
     merged(alloc, one(alloc, spec)?)
 }
@@ -147,7 +147,7 @@ pub(crate) fn together(
     alloc: Global,
     first: Spec<Plain>,
     second: Spec<Plain>,
-) -> Result<Draft<Plain>, TransactionError> {
+) -> Result<Box<Draft<Plain>>, TransactionError> {
     merged(alloc, two(alloc, first, second)?)
 }
 

@@ -35,7 +35,7 @@ fn eventful(alloc: Global) -> Result<Spec<Plain>, AllocError> {
 }
 
 /// Two insertions at one place, the first with an event, the second with a selection.
-fn both_at_one_place(alloc: Global) -> Result<Draft<Plain>, TransactionError> {
+fn both_at_one_place(alloc: Global) -> Result<Box<Draft<Plain>>, TransactionError> {
     let first = eventful(alloc)?;
     let second = selecting(alloc, 1, 'y', 1)?;
     together(alloc, first, second)
@@ -109,11 +109,11 @@ fn user_events_are_found(rt: HostRuntime) -> Result<(), Fail> {
 /// A draft with one more spec.
 fn merged_with(
     alloc: Global,
-    draft: Draft<Plain>,
+    draft: Box<Draft<Plain>>,
     spec: Spec<Plain>,
-) -> Result<Draft<Plain>, TransactionError>
-    requires draft { IsDraft 4 draft }
-    requires short { new_size spelled draft.changes ≤ 100 }
+) -> Result<Box<Draft<Plain>>, TransactionError>
+    requires draft { IsDraft 4 draft.value }
+    requires short { new_size spelled draft.value.changes ≤ 100 }
 {
     let kinds = kinds(alloc)?;
     let maps = PlainMaps { alloc };
@@ -144,7 +144,7 @@ fn first(alloc: Global) -> Result<Spec<Plain>, AllocError> {
     Ok(spec)
 }
 
-fn one_more(alloc: Global) -> Result<Draft<Plain>, TransactionError> {
+fn one_more(alloc: Global) -> Result<Box<Draft<Plain>>, TransactionError> {
     let next = last(alloc)?;
     let draft = alone(alloc, first(alloc)?)?;
     merged_with(alloc, draft, next)
@@ -177,7 +177,7 @@ fn a_draft_takes_one_more_spec(rt: HostRuntime) -> Result<(), Fail> {
     Ok(())
 }
 
-fn past_the_end(alloc: Global) -> Result<Draft<Plain>, TransactionError> {
+fn past_the_end(alloc: Global) -> Result<Box<Draft<Plain>>, TransactionError> {
     let first = changing(alloc, 0, 0, &['x'])?;
     let second = changing(alloc, 5, 5, &['y'])?;
     together(alloc, first, second)
@@ -198,7 +198,7 @@ fn ranges_are_refused(rt: HostRuntime) {
     );
 }
 
-fn selecting_outside(alloc: Global) -> Result<Draft<Plain>, TransactionError> {
+fn selecting_outside(alloc: Global) -> Result<Box<Draft<Plain>>, TransactionError> {
     let spec = selecting(alloc, 0, 'x', 9)?;
     alone(alloc, spec)
 }

@@ -12,18 +12,18 @@ loop-spec-preserved g c =
     let rules = g.M.Meanings.rules in
     let start = start_of c.args.start.now in
     let s = c.in-Some.spec in
-    let d = c.loop-spec.draft in
-    follow-step rules start c.args.draft.value c.args.specs.items d c.in-Ok.next s c.next.new.self.rest.items
+    let d = c.loop-spec.draft.value in
+    follow-step rules start c.args.draft.value c.args.specs.items d c.in-Ok.next.value s c.next.new.self.rest.items
     (subst (λ r. Follow rules start c.args.draft.value c.args.specs.items d r) c.in-Some.ensures.steps.0 c.loop-spec.invariant)
     (c.in-Ok.ensures.draft ∙ ap (λ n. with_spec start.kinds rules.map_effect n (Some d) s) c.len.ensures)
-    (record { is_draft = subst (λ n. IsDraft n c.in-Ok.next) c.len.ensures c.in-Ok.ensures.is_draft; short = c.in-Ok.ensures.short })
+    (record { is_draft = subst (λ n. IsDraft n c.in-Ok.next.value) c.len.ensures c.in-Ok.ensures.is_draft; short = c.in-Ok.ensures.short })
 
 pub returns-in-Err-clause-memory : goal.returns-in-Err-clause-memory
 returns-in-Err-clause-memory g c =
     let rules = g.M.Meanings.rules in
     let start = start_of c.args.start.now in
     let s = c.in-Some.spec in
-    let d = c.loop-spec.draft in
+    let d = c.loop-spec.draft.value in
     let p = subst (λ r. Follow rules start c.args.draft.value c.args.specs.items d r) c.in-Some.ensures.steps.0 c.loop-spec.invariant in
     only-memory c.in-Err.error (specs_refusal c.len.result start.max start.kinds (Some d.changes) (s ∷ []))
     (ap (λ n. specs_refusal n start.max start.kinds (Some d.changes) (s ∷ [])) c.len.ensures ∙
