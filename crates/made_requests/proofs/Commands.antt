@@ -97,14 +97,15 @@ pub marking_line : (from to : ℕ) → from < 2 ^ 32 → to < 2 ^ 32 → line_co
 marking_line from to a b =
     line_read 0 (Mark from to) (Update (specs.marking from to ∷ [])) (omega arith) (a, b) (update_read (marking_data from to) (specs.marking from to) (marking_read (codes "update") from to a b))
 
--- the command that is made for a mark, with what its spec is made of
+-- the specs that are made for a mark, with what its spec is made of
 pub marked : (changes : List Change) (effects : List NamedEffect) (annotations : List Annotation) (effect : List ℕ) (value : Plain) (from to : ℕ)
     → changes ≡ [] → effects ≡ Kind effect value ∷ [] → annotations ≡ [] → effect ≡ codes "mark" → value ≡ specs.positions from to
-    → Update (record { changes = changes; selection = None; effects = effects; annotations = annotations; user_event = None; sequential = false; filter = true } ∷ [])
-    ≡ Update (specs.marking from to ∷ [])
+    → record { changes = changes; selection = None; effects = effects; annotations = annotations; user_event = None; sequential = false; filter = true } ∷ []
+    ≡ specs.marking from to ∷ []
 marked changes effects annotations effect value from to no_changes one no_notes name positions = rw (no_changes, one, no_notes, name, positions) refl
 
 -- what was made is what is read from the line
-pub is_read : (line : Result Request Refusal) (made : Result Request AllocError) (want have : Request) → line ≡ Ok want → have ≡ want → IfOk made (λ r. r ≡ have) → IfOk made (λ r. line ≡ Ok r)
-is_read line (Ok r) want have e same is = e ∙ ap (λ (x : Request). Ok x) (sym (is ∙ same))
+pub is_read : (line : Result Request Refusal) (made : Result (List SpecRequest) AllocError) (want have : List SpecRequest) → line ≡ Ok (Update want) → have ≡ want
+    → IfOk made (λ r. r ≡ have) → IfOk made (λ r. line ≡ Ok (Update r))
+is_read line (Ok r) want have e same is = e ∙ ap (λ (x : List SpecRequest). Ok (Update x)) (sym (is ∙ same))
 is_read line (Err none) want have e same is = tt

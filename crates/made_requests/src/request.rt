@@ -10,7 +10,7 @@ use crate::inserted::{made_text, no_text};
 use change_set::Change;
 use cm_plain::{Plain, Str};
 use listed::Listed;
-use requests::{NamedEffect, Request, SpecRequest};
+use requests::{NamedEffect, SpecRequest};
 use std::alloc::{AllocError, Global};
 use transaction::Annotation;
 use workload::Edit;
@@ -34,9 +34,9 @@ fn time_note(alloc: Global, time: u32) -> Result<Annotation, AllocError>
     })
 }
 
-/// The update of one spec, which makes a change and tells the time. `Err`: out of memory.
-fn changing(alloc: Global, time: u32, change: Change) -> Result<Request, AllocError>
-    ensures { IfOk result (λ r. r ≡ requests.Update (changing time change ∷ [])) }
+/// The one spec of a transaction that makes a change and tells the time. `Err`: out of memory.
+fn changing(alloc: Global, time: u32, change: Change) -> Result<Listed<SpecRequest>, AllocError>
+    ensures { IfOk result (λ specs. specs ≡ changing time change ∷ []) }
 {
     let changes = alone(alloc, change)?;
     let annotations = alone(alloc, time_note(alloc, time)?)?;
@@ -54,11 +54,11 @@ fn changing(alloc: Global, time: u32, change: Change) -> Result<Request, AllocEr
     )
 }
 
-/// The update of one spec. `Err`: out of memory.
-fn update(alloc: Global, spec: SpecRequest) -> Result<Request, AllocError>
-    ensures { IfOk result (λ r. r ≡ requests.Update (spec ∷ [])) }
+/// The specs of the update of one spec. `Err`: out of memory.
+fn update(alloc: Global, spec: SpecRequest) -> Result<Listed<SpecRequest>, AllocError>
+    ensures { IfOk result (λ specs. specs ≡ spec ∷ []) }
 {
-    Ok(Request::Update(alone(alloc, spec)?))
+    alone(alloc, spec)
 }
 
 /// The value of the effect `mark` of two positions: the list of both. `Err`: out of memory.
@@ -74,9 +74,9 @@ fn positions(alloc: Global, from: u32, to: u32) -> Result<Plain, AllocError>
     }
 }
 
-/// The request of the line of a mark. `Err`: out of memory.
-fn mark(alloc: Global, from: u32, to: u32) -> Result<Request, AllocError>
-    ensures { IfOk result (λ r. line_command request_named (mark_line from to) ≡ Ok r) }
+/// The specs of the update that the line of a mark asks for. `Err`: out of memory.
+fn mark(alloc: Global, from: u32, to: u32) -> Result<Listed<SpecRequest>, AllocError>
+    ensures { IfOk result (λ specs. line_command request_named (mark_line from to) ≡ Ok (requests.Update specs)) }
 {
     let value = positions(alloc, from, to)?;
     let effect = Str::of(alloc, &['m', 'a', 'r', 'k'])?;
@@ -95,15 +95,15 @@ fn mark(alloc: Global, from: u32, to: u32) -> Result<Request, AllocError>
     )
 }
 
-/// The request of an insertion's line. `Err`: out of memory.
+/// The specs of the update that an insertion's line asks for. `Err`: out of memory.
 fn insertion(
     alloc: Global,
     time: u32,
     at: u32,
     size: u8,
     letter: u32,
-) -> Result<Request, AllocError>
-    ensures { IfOk result (λ r. line_command request_named (edit_line time (Insert at size letter)) ≡ Ok r) }
+) -> Result<Listed<SpecRequest>, AllocError>
+    ensures { IfOk result (λ specs. line_command request_named (edit_line time (Insert at size letter)) ≡ Ok (requests.Update specs)) }
 {
     let insert = made_text(alloc, size, letter)?;
     changing(
@@ -117,18 +117,18 @@ fn insertion(
     )
 }
 
-/// The request of a deletion's line. `Err`: out of memory.
-fn deletion(alloc: Global, time: u32, from: u32, to: u32) -> Result<Request, AllocError>
-    ensures { IfOk result (λ r. line_command request_named (edit_line time (Delete from to)) ≡ Ok r) }
+/// The specs of the update that a deletion's line asks for. `Err`: out of memory.
+fn deletion(alloc: Global, time: u32, from: u32, to: u32) -> Result<Listed<SpecRequest>, AllocError>
+    ensures { IfOk result (λ specs. line_command request_named (edit_line time (Delete from to)) ≡ Ok (requests.Update specs)) }
 {
     let insert = no_text(alloc)?;
     changing(alloc, time, Change::Span { from, to, insert })
 }
 
-/// The request of the line of a transaction that does this edit at a time in milliseconds: what reading the line gives.
-/// `Err`: out of memory.
-pub fn request_of(alloc: Global, time: u32, edit: Edit) -> Result<Request, AllocError>
-    ensures { IfOk result (λ r. line_command request_named (edit_line time edit) ≡ Ok r) }
+/// The specs of the update that the line of a transaction asks for that does this edit at a time in milliseconds: what reading
+/// the line gives. `Err`: out of memory.
+pub fn update_of(alloc: Global, time: u32, edit: Edit) -> Result<Listed<SpecRequest>, AllocError>
+    ensures { IfOk result (λ specs. line_command request_named (edit_line time edit) ≡ Ok (requests.Update specs)) }
 {
     match edit {
         Edit::Insert { at, size, letter } => insertion(alloc, time, at, size, letter),

@@ -19,6 +19,7 @@ ghost use Rattle.session.specs.PrivateSession.{Carried, Carries, Declares, DoneW
 ghost use Rattle.session.specs.Session.{act, declare};
 ghost use Rattle.session.specs.State.{Desk, desk_of, fresh, plain_session, plain_state, window_of};
 ghost use Rattle.session.specs.Transcript.{machine};
+ghost use Rattle.session.specs.Update.{update};
 ghost use Rattle.session.specs.Views.{view_of};
 
 use crate::filing::{opened, saved};
@@ -29,12 +30,13 @@ use crate::update::update;
 use cm_outside::{Store, StoreFault};
 use cm_plain::Str;
 use line_run::Answers;
-use made_requests::request_of;
+use listed::Listed;
+use made_requests::update_of;
 use made_run::AnswersMade;
 use names::{Names, Nodes, all_found, declare};
 use registry::Registry;
 use replies::{Answer, Reply, reply_text};
-use requests::{Declaration, OpenRequest, Request};
+use requests::{Declaration, OpenRequest, Request, SpecRequest};
 use script::{LineError, Refusal, line_command};
 use state::State;
 use std::alloc::{AllocError, Global};
@@ -196,9 +198,9 @@ impl<M: Meanings> Session<M> {
         ensures later { D.faults store.old ≤ D.faults store.new }
         ensures cause { result ≡ Err StoreFault.Failed → Rose (D.faults store.old) (D.faults store.new) }
     {
-        match request_of(self.alloc, time, edit) {
+        match update_of(self.alloc, time, edit) {
             Err(_) => Err(StoreFault::NoMemory),
-            Ok(request) => self.request(kit, store, request),
+            Ok(specs) => told(self.updated(kit, specs)),
         }
     }
 
@@ -291,15 +293,21 @@ impl<M: Meanings> Session<M> {
     {
         match request {
             Request::Declare(declaration) => self.declare(&declaration),
-            Request::Update(specs) => {
-                let outcome = update(self, kit, specs);
-                self.settle(outcome)
-            }
+            Request::Update(specs) => self.updated(kit, specs),
             other => {
                 let outcome = outcome_of(self, kit, &other);
                 self.settle(outcome)
             }
         }
+    }
+
+    /// The command `update`.
+    fn updated(&mut self, kit: &Kit<M>, specs: Listed<SpecRequest>) -> Result<String, AllocError>
+        requires whole { IsWhole M.rules kit.now }
+        ensures { DoneWith (update M.rules (plain_session self.old) specs) self.old self.new result }
+    {
+        let outcome = update(self, kit, specs);
+        self.settle(outcome)
     }
 
     /// Declares something, whole or not at all. The answer is made first.

@@ -1,5 +1,7 @@
+use Rattle.std.proofs.Common.{arith, refl}
+use Rattle.requests.specs.declared.request.Request.TheVariants.{Update}
 use Rattle.session.specs.State.{plain_session}
-use Rattle.session.proofs.Carrying.{carried_answered, nothing_answered}
+use Rattle.session.proofs.Carrying.{carried_alone, carried_answered, never_failed, nothing_answered}
 use Rattle.workload.specs.MadeLines.{edit_line}
 use Rattle.session.proofs.session.Session.made_edit.Goals as goal
 
@@ -9,5 +11,9 @@ returns-in-Err-clause-answered g c =
 
 pub returns-in-Ok-clause-answered : goal.returns-in-Ok-clause-answered
 returns-in-Ok-clause-answered g c =
-    carried_answered g.M.Meanings.rules (edit_line c.args.time c.args.edit) c.in-Ok.request c.args.self.now c.request.new.self (g.D.Store.files c.args.store.now) (g.D.Store.files c.request.new.store) c.request.result
-    c.in-Ok.ensures c.request.ensures.carried
+    let files = g.D.Store.files c.args.store.now in
+    carried_answered g.M.Meanings.rules (edit_line c.args.time c.args.edit) (Update c.in-Ok.specs) c.args.self.now c.updated.new.self files files c.told.result c.in-Ok.ensures
+    (carried_alone g.M.Meanings.rules (Update c.in-Ok.specs) c.args.self.now c.updated.new.self files c.updated.result c.told.result refl (λ files. c.updated.ensures) c.told.ensures)
+
+pub returns-in-Ok-clause-cause : goal.returns-in-Ok-clause-cause
+returns-in-Ok-clause-cause g c failed = absurd (never_failed c.updated.result c.told.result c.told.ensures failed)
