@@ -12,12 +12,15 @@ pub record Shelved : Type 0 where
   pub facet_flags : List Bool
   pub field_flags : List Bool
 
+-- the value of each slot
 abbrev pub slot_values : List Slot → List (Option Val)
 slot_values slots = map (λ (s : Slot). s.value) slots
 
+-- what the inputs of each slot give
 abbrev pub slot_inputs : List Slot → List (List (List Val))
 slot_inputs slots = map (λ (s : Slot). s.inputs) slots
 
+-- the flag of each slot
 abbrev pub slot_flags : List Slot → List Bool
 slot_flags slots = map (λ (s : Slot). s.flag) slots
 

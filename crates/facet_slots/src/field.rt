@@ -1,6 +1,5 @@
 // The value of one field, from its old value and what it reads.
-ghost use Rattle.std.specs.Prelude.{◌≡◌, ◌+◌, ◌≤◌, cond, is_none, slice_get, option_copied, unwrap_or, IfOk, IsSomeAnd, IsTrue, MatchOption, None, Some};
-ghost use Rattle.std.specs.Option.{option_flatten};
+ghost use Rattle.std.specs.Prelude.{◌≡◌, ◌+◌, ◌≤◌, cond, is_none, option_copied, unwrap_or, IfOk, IsSomeAnd, IsTrue, MatchOption, None, Some};
 ghost use Rattle.values.specs.Vals.{IsOf};
 ghost use Rattle.values.specs.Whole.{IsWhole};
 ghost use Rattle.facet_slots.specs.Scenes.{IsScene, shown as shown_of};

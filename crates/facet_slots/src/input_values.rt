@@ -33,6 +33,7 @@ impl Model for InputValues {
     ghost view = { λ i. given_values i.values.value };
 }
 
+/// Shares what an input gives. `Err`: out of memory.
 fn shared(alloc: Global, values: Given) -> Result<InputValues, AllocError>
     ensures { IfOk result (λ shared. shared ≡ given_values values) }
 {

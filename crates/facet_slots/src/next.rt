@@ -143,7 +143,8 @@ struct NextInputs {
     changed: bool,
 }
 
-fn many_next_inputs<M: Meanings, L: Ledger>(
+/// The same, as a list: of none or of several.
+fn listed_next_inputs<M: Meanings, L: Ledger>(
     alloc: Global,
     kit: &Kit<M>,
     before: &Before,
@@ -200,7 +201,7 @@ fn next_inputs<M: Meanings, L: Ledger>(
                 changed: next.changed,
             })
         }
-        _ => many_next_inputs(alloc, kit, before, node_defs, nodes, facet, draft, calls),
+        _ => listed_next_inputs(alloc, kit, before, node_defs, nodes, facet, draft, calls),
     }
 }
 

@@ -20,7 +20,7 @@ use std::marker::Model;
 /// types. Contracts see the values, what the inputs of each facet give, and the flags.
 #[derive(Drop)]
 pub struct Shelf {
-    /// The facets by their ids, so many, and after them the fields.
+    /// The facets by their ids, `facet_count` of them, and then the fields by theirs.
     slots: Vec<Slot>,
     facet_count: usize,
 }
@@ -205,7 +205,7 @@ impl Shelf {
         flag_at(fields, field)
     }
 
-    /// Puts a facet.
+    /// Puts the slot of a facet, which there is.
     #[tactic(auto, using(crate::proofs::Shelving::first_set, crate::proofs::Shelving::first_kept, crate::proofs::Shelving::value_set, crate::proofs::Shelving::inputs_set, crate::proofs::Shelving::flag_set, crate::proofs::Shelving::value_count, crate::proofs::Shelving::set_in_range, crate::proofs::Shelving::first_count))]
     pub fn put_facet(&mut self, facet: u32, slot: Slot)
         requires { facet < length self.old.facets }
@@ -219,7 +219,7 @@ impl Shelf {
         self.slots[facet as usize] = slot;
     }
 
-    /// Puts a field.
+    /// Puts the slot of a field, which there is.
     #[tactic(auto, using(crate::proofs::Shelving::other_set, crate::proofs::Shelving::other_kept, crate::proofs::Shelving::value_set, crate::proofs::Shelving::inputs_set, crate::proofs::Shelving::flag_set, crate::proofs::Shelving::value_count, crate::proofs::Shelving::set_in_range, crate::proofs::Shelving::other_count))]
     pub fn put_field(&mut self, field: u32, slot: Slot)
         requires { field < length self.old.fields }

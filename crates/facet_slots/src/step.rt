@@ -1,5 +1,5 @@
 // One facet or field after a transition.
-ghost use Rattle.std.specs.Prelude.{◌≡◌, ◌+◌, ◌≤◌, IfOk, IsSomeAnd, IsTrue, MatchOption, Some, None, map, true, false, []};
+ghost use Rattle.std.specs.Prelude.{◌≡◌, ◌+◌, ◌≤◌, IfOk, IsSomeAnd, IsTrue, Some, None, map, true, false, []};
 ghost use Rattle.std.specs.Option.{unwrap_or, option_map};
 ghost use Rattle.std.specs.List.{list_any};
 ghost use Rattle.values.specs.Whole.{IsWhole};

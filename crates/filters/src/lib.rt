@@ -2,7 +2,7 @@
 //!
 //! The rule numbers are the values of facets in the start state, and a kit answers them. A layer above may rely on
 //! `apply_filters` and `apply_extenders` giving exactly the draft that the definitions name: which rule is asked after which,
-//! on what, and what its answer does; on the first refusal of what rules answered; and on `shown` giving what rules are shown
+//! on what, and what its answer does; on the first refusal of what rules answered; and on `shown_from` giving what rules are shown
 //! of a draft.
 #![tactic(auto)]
 
@@ -23,4 +23,4 @@ pub use extenders::apply_extenders;
 pub use filter_facets::FilterFacets;
 pub use filters::apply_filters;
 pub use start::Start;
-pub use view::{shown, shown_from};
+pub use view::shown_from;

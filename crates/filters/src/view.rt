@@ -186,7 +186,7 @@ fn scene_copy(document: &Text, selection: &Selection) -> Result<Scene, AllocErro
 /// What rules are shown of a draft, with what undoes its effects (Reference Manual, Transaction): its effects that have a kind,
 /// and as new selection the given one, or else the start one mapped, cut to its main range where several ranges aren't allowed.
 /// Texts are shared. `Err`: out of memory.
-pub fn shown(
+pub(crate) fn shown(
     alloc: Global,
     start: &Start<'_>,
     inverted: Listed<KeptEffect>,
@@ -213,7 +213,8 @@ pub fn shown(
     )
 }
 
-/// What rules are shown of a draft that is handed over, as `shown` gives it; its changes, effects and annotations aren't copied.
+/// What rules are shown of a draft that is handed over (Reference Manual, Transaction), as `shown` gives it. Its changes, effects and
+/// annotations are taken over, not copied. Texts are shared. `Err`: out of memory.
 pub fn shown_from(
     alloc: Global,
     start: &Start<'_>,

@@ -1,6 +1,6 @@
-//! The commands of a made workload's transactions, made at once: no line is written and none is read.
+//! The updates of a made workload's transactions, made at once: no line is written and none is read.
 //!
-//! The layer above may rely on this: `update_of` gives exactly the update that reading the transaction's line gives.
+//! The layer above may rely on this: `update_of` gives exactly the specs of the update that reading the transaction's line gives.
 #![tactic(auto)]
 
 mod inserted;

@@ -184,8 +184,8 @@ impl<M: Meanings> Session<M> {
         }
     }
 
-    /// Does what the line of a transaction asks for that does an edit at a time in milliseconds, and gives the reply. `Failed` and
-    /// `NoMemory` are as in `line`.
+    /// Does what the line of a transaction asks for that does an edit at a time in milliseconds, and gives the reply. The store isn't
+    /// asked, so `Failed` doesn't come; `NoMemory` changes nothing.
     fn made_edit<D: Store>(
         &mut self,
         kit: &Kit<M>,

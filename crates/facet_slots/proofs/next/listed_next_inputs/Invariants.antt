@@ -4,7 +4,7 @@ use Rattle.facet_slots.specs.Setups.{InputNode, input_node}
 use Rattle.facet_slots.specs.Lawful.{FitsCombiner}
 use Rattle.facet_slots.specs.Nexts.{next_count, next_outputs, next_changed}
 use Rattle.facet_slots.specs.Lent.{flags_in, nodes_before, scene_in, values_in}
-use Rattle.facet_slots.proofs.next.many_next_inputs.Given as goal
+use Rattle.facet_slots.proofs.next.listed_next_inputs.Given as goal
 
 abbrev pub invariant-loop-node : goal.invariant-loop-node
 invariant-loop-node g l = record {
