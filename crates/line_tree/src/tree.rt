@@ -9,13 +9,13 @@ use crate::text::{Branch, Node, Text};
 use std::alloc::{AllocError, Global};
 use std::rc::Rc;
 
-/// The greatest number of characters of a leaf of several lines that isn't cut: so many take less than the C library keeps at
-/// hand by size, and an edit copies no more. No contract speaks of it.
+/// The greatest number of characters of a leaf of several lines that isn't cut: the C library keeps at hand, by size, what so many
+/// take. A longer one is cut in half at each edit of it, so that it comes to have no more. No contract speaks of it.
 const SHORT_LEN: u32 = 256;
 
-/// The greatest number of parts of a text that isn't cut. No contract speaks of it: an edit copies the parts of each node above
-/// it.
-const FEW_PARTS: usize = 20;
+/// The greatest number of parts of a text that isn't cut. An edit copies the list of the parts of each branch above the leaf that it
+/// changes. No contract speaks of it.
+const FEW_PARTS: usize = 12;
 
 /// The text of a leaf of at most 64 lines.
 pub(crate) fn make_leaf(alloc: Global, leaf: Leaf) -> Result<Text, AllocError>

@@ -123,7 +123,7 @@ fn a_leaf_with_more_lines_than_it_may_have_becomes_two(rt: HostRuntime) -> Resul
     Ok(())
 }
 
-/// How many parts the text of 3,839 breaks, which has four parts of 10 leaves and a last one of 20, has once 63 breaks more
+/// How many parts the text of 3,839 breaks, which has eight parts of 6 leaves and a last one of 12, has once 63 breaks more
 /// stand at a place.
 fn parts_of_grown(alloc: Global, at: u32) -> Result<usize, AllocError> {
     Ok(grown(alloc, 3839, at)?.parts().len())
@@ -131,8 +131,8 @@ fn parts_of_grown(alloc: Global, at: u32) -> Result<usize, AllocError> {
 
 #[test]
 fn a_branch_with_more_parts_than_it_may_have_becomes_two(rt: HostRuntime) -> Result<(), Fail> {
-    assert!(rt; parts_of_grown(rt.alloc(), 1000)? == 5);
-    assert!(rt; parts_of_grown(rt.alloc(), 3000)? == 6);
+    assert!(rt; parts_of_grown(rt.alloc(), 1000)? == 9);
+    assert!(rt; parts_of_grown(rt.alloc(), 3500)? == 10);
     Ok(())
 }
 
