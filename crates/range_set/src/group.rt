@@ -6,7 +6,7 @@ use crate::range_value::RangeValue;
 use std::rc::Rc;
 
 /// How many chunks make a group full in a small set.
-pub(crate) const MIN_FULL: usize = 16;
+const MIN_FULL: usize = 16;
 
 /// How many chunks make a group full in a large set.
 const MAX_FULL: usize = 32;

@@ -6,10 +6,10 @@ ghost use Rattle.range_set.specs.PrivatePages.{IsPage, further};
 ghost use Rattle.range_set.specs.PrivateUpdates.{AreSharedBefore};
 
 use crate::chunk::Placed;
-use crate::group::{Group, MIN_FULL, PlacedGroup, few_of, full_among, full_for};
+use crate::group::{Group, PlacedGroup, few_of, full_among, full_for};
 use crate::group_cursor::GroupCursor;
 use crate::group_list::GroupList;
-use crate::page::Page;
+use crate::page::{Page, full_page_among, full_page_for};
 use crate::page_builder::PageBuilder;
 use crate::parts::{part_len, trim};
 use crate::range_value::RangeValue;
@@ -28,7 +28,7 @@ pub(crate) struct GroupBuilder<T: RangeValue> {
 
 impl<T: RangeValue> GroupBuilder<T> {
     /// A builder without ranges for what becomes of a set of so many pages, of which the first has so many groups. It has room for
-    /// them and one more. `Err`: out of memory.
+    /// these pages and one more. `Err`: out of memory.
     pub(crate) fn for_pages(
         alloc: Global,
         pages: usize,
@@ -38,7 +38,12 @@ impl<T: RangeValue> GroupBuilder<T> {
         ensures ranges { IfOk result (λ builder. grouped builder ≡ []) }
     {
         Ok(GroupBuilder {
-            done: PageBuilder::with_capacity(alloc, pages.saturating_add(1), groups)?,
+            done: PageBuilder::with_capacity(
+                alloc,
+                pages.saturating_add(1),
+                groups,
+                full_page_among(pages),
+            )?,
             len: 0,
             full: full_among(pages),
         })
@@ -49,10 +54,12 @@ impl<T: RangeValue> GroupBuilder<T> {
         ensures builder { IfOk result (IsGroupBuilder T.rules) }
         ensures ranges { IfOk result (λ builder. grouped builder ≡ []) }
     {
+        let full = full_for(chunks);
+        let groups = chunks / full;
         Ok(GroupBuilder {
-            done: PageBuilder::with_capacity(alloc, 0, chunks / MIN_FULL)?,
+            done: PageBuilder::with_capacity(alloc, 0, groups, full_page_for(groups))?,
             len: 0,
-            full: full_for(chunks),
+            full,
         })
     }
 

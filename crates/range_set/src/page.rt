@@ -7,11 +7,33 @@ use crate::range_value::RangeValue;
 use std::alloc::{AllocError, Global};
 use std::rc::Rc;
 
-/// The greatest number of groups of a page that is made of groups. No contract speaks of it: it only decides where pages are cut.
-pub(crate) const MAX_GROUPS: usize = 32;
+/// How many groups make a page full in a small set.
+const MIN_FULL: usize = 12;
+
+/// How many groups make a page full in a large set.
+const MAX_FULL: usize = 32;
 
 /// For how many more groups a page that is begun has room than the one that it stands for has: a change parts a group or two.
 pub(crate) const MORE_GROUPS: usize = 2;
+
+/// How many groups make a page full in a set of so many pages: as many as there are pages, from 12 to 32. A change makes the list of
+/// the pages anew, and shares the groups of the pages that it meets one by one, so neither should be many. No contract speaks of
+/// this: it only decides where pages are cut.
+pub(crate) fn full_page_among(pages: usize) -> usize {
+    pages.max(MIN_FULL).min(MAX_FULL)
+}
+
+/// How many groups make a page full in a set of so many groups that are put into pages at once: the square root of their number,
+/// rounded down, from 12 to 32. So there are at least as many pages, and changes don't part these pages. No contract speaks of this.
+pub(crate) fn full_page_for(groups: usize) -> usize {
+    for full in MIN_FULL..MAX_FULL {
+        let next = full + 1;
+        if next.saturating_mul(next) > groups {
+            return full;
+        }
+    }
+    MAX_FULL
+}
 
 /// Groups in order, whose places count from the start of the first range.
 #[derive(Drop)]

@@ -4,7 +4,7 @@ ghost use Rattle.range_set.specs.PrivatePages.{ArePages, IsPage, further, laid};
 
 use crate::group::PlacedGroup;
 use crate::group_list::GroupList;
-use crate::page::{MAX_GROUPS, MORE_GROUPS, Page, PlacedPage};
+use crate::page::{MORE_GROUPS, Page, PlacedPage};
 use crate::parts::trim;
 use crate::range_value::RangeValue;
 use std::alloc::{AllocError, Global};
@@ -19,6 +19,8 @@ pub(crate) struct PageBuilder<T: RangeValue> {
     done: Vec<PlacedPage<T>>,
     start: u32,
     growing: Page<T>,
+    /// How many groups make a page full. It only decides where pages are cut.
+    full: usize,
     /// For how many groups a page that is begun has room at first.
     room: usize,
 }
@@ -36,11 +38,13 @@ impl<T: RangeValue> Model for PageBuilder<T> {
 }
 
 impl<T: RangeValue> PageBuilder<T> {
-    /// A builder without groups, with room for so many pages of about so many groups. `Err`: out of memory.
+    /// A builder without groups, with room for so many pages of about so many groups, of which `full` make a page full. `Err`: out of
+    /// memory.
     pub(crate) fn with_capacity(
         alloc: Global,
         pages: usize,
         groups: usize,
+        full: usize,
     ) -> Result<PageBuilder<T>, AllocError>
         ensures { IfOk result (λ builder. builder ≡ []) }
     {
@@ -48,7 +52,8 @@ impl<T: RangeValue> PageBuilder<T> {
             done: Vec::with_capacity(alloc, pages)?,
             start: 0,
             growing: Page::empty(alloc),
-            room: groups.saturating_add(MORE_GROUPS).min(MAX_GROUPS),
+            full,
+            room: groups.saturating_add(MORE_GROUPS).min(full),
         })
     }
 
@@ -60,7 +65,7 @@ impl<T: RangeValue> PageBuilder<T> {
         ensures { IfOk result (λ _. self.new ≡ self.old ++ placed ∷ []) }
     {
         // Groups come in order, so none begins before the growing page: this is asked so that no contract needs to say it.
-        if self.growing.groups.len() >= MAX_GROUPS || placed.start < self.start {
+        if self.growing.groups.len() >= self.full || placed.start < self.start {
             seal(&mut self.done, self.start, &mut self.growing)?;
         }
         if self.growing.groups.is_empty() {
@@ -74,7 +79,7 @@ impl<T: RangeValue> PageBuilder<T> {
     /// fill at most three quarters of a full page. No contract speaks of this: it only decides which pages are shared.
     pub(crate) fn joins(&self, len: usize) -> bool {
         !self.growing.groups.is_empty()
-            && self.growing.groups.len().saturating_add(len) <= MAX_GROUPS / 4 * 3
+            && self.growing.groups.len().saturating_add(len) <= self.full - self.full / 4
     }
 
     /// Puts the groups of a page after the others, at a place of its own, and shares it. `Err`: out of memory.

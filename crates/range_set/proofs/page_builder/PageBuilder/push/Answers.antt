@@ -5,23 +5,23 @@ use Rattle.range_set.specs.PrivatePages.{further, laid}
 use Rattle.range_set.proofs.Groups.{flat-spread_append}
 use Rattle.range_set.proofs.Pages.{length_further}
 use Rattle.range_set.proofs.page_builder.PageBuilder.push.Goals as goal
-use Rattle.range_set.proofs.page_builder.PageBuilder.push.Goals.{then-len-ge-MAX_GROUPS+in_ok-seal, else-len-ge-MAX_GROUPS+else-placed-self, then-is_empty+in_ok-reserve_exact, else-is_empty}
+use Rattle.range_set.proofs.page_builder.PageBuilder.push.Goals.{then-len-self+in_ok-seal, else-len-self+else-placed-self, then-is_empty+in_ok-reserve_exact, else-is_empty}
 
 pub put-requires-clause-room : goal.put-requires-clause-room
 put-requires-clause-room g c =
     let at = c.self.inside in
-    let here : length (flat (spread c.if-len-ge-MAX_GROUPS.self-inside.growing.groups.items)) ≤ length (flat (spread c.args.self.now)) = elim c.if-len-ge-MAX_GROUPS.branch [
-      | then-len-ge-MAX_GROUPS+in_ok-seal w ↦
+    let here : length (flat (spread c.if-len-self.self-inside.growing.groups.items)) ≤ length (flat (spread c.args.self.now)) = elim c.if-len-self.branch [
+      | then-len-self+in_ok-seal w ↦
           let none = ap (λ x. length (flat (spread x.growing.groups.items))) w.self-inside-is ∙ ap (λ gs. length (flat (spread gs))) w.in_ok-seal.ensures.empty in
           omega (arith, none)
-      | else-len-ge-MAX_GROUPS+else-placed-self w ↦
+      | else-len-self+else-placed-self w ↦
           let same = ap (λ x. length (flat (spread x.growing.groups.items))) w.self-inside-is in
           let whole = ap (λ gs. length (flat (spread gs))) c.self.view_is in
           let parts = ap length (flat-spread_append (laid at.done.items) (map (further at.start) at.growing.groups.items)) ∙ length-append (flat (spread (laid at.done.items))) (flat (spread (map (further at.start) at.growing.groups.items))) in
           let moved = length_further g.T.RangeValue.rules at.start at.growing.groups.items in
           omega (arith, same, whole, parts, moved)
     ] in
-    let same : length (flat (spread c.if-is_empty.self-inside.growing.groups.items)) ≡ length (flat (spread c.if-len-ge-MAX_GROUPS.self-inside.growing.groups.items)) = elim c.if-is_empty.branch [
+    let same : length (flat (spread c.if-is_empty.self-inside.growing.groups.items)) ≡ length (flat (spread c.if-len-self.self-inside.growing.groups.items)) = elim c.if-is_empty.branch [
       | then-is_empty+in_ok-reserve_exact w ↦ ap (λ x. length (flat (spread x.growing.groups.items))) w.self-inside-is ∙ ap (λ gs. length (flat (spread gs))) w.reserve_exact.ensures.items
       | else-is_empty w ↦ ap (λ x. length (flat (spread x.growing.groups.items))) w.self-inside-is
     ] in
