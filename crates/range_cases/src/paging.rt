@@ -1,5 +1,6 @@
-// Ranges of 257 characters, each of which has a chunk of its own. A group here has 16 chunks and a page 32 groups at most: 1,200 ranges
-// stand in pages of 32, 32 and 11 groups, of which the second begins with range 513 and the third with range 1025.
+// Ranges of 257 characters, each of which has a chunk of its own. A group here has 16 chunks and a page 12 groups at most: 1,200 ranges
+// stand in six pages of 12 groups and one of 3, of which the fourth begins with range 577, the sixth with range 961 and the last with
+// range 1153.
 use crate::numbered::{Copied, Numbered, is_among, mapped};
 use change_desc::Section;
 use range_set::{RangeRef, RangeSet, Ranged};
@@ -170,31 +171,31 @@ fn ranges_in_pages_between_two_changes_are_not_copied(rt: HostRuntime) -> Result
     Ok(())
 }
 
-/// Ranges 510 to 515 are dropped, and none is copied.
+/// Ranges 574 to 579 are dropped, and none is copied.
 #[test]
 fn a_deletion_meets_two_pages(rt: HostRuntime) -> Result<(), Fail> {
     let step = [
-        Section::Keep(152_690),
+        Section::Keep(171_890),
         Section::Replace(1_800, 0),
-        Section::Keep(205_510),
+        Section::Keep(186_310),
     ];
     let steps: [&[Section<u32>]; 1] = [&step];
-    let rows = [(1, 509, 0, 0), (516, COUNT, -1_800, -1_800)];
+    let rows = [(1, 573, 0, 0), (580, COUNT, -1_800, -1_800)];
     assert!(rt; stand_after(rt.alloc(), &STILL, &steps, &rows)? == Some(true));
     Ok(())
 }
 
-/// Of the second page ranges 513 to 519 and 1011 to 1024 are left, which become one page with the groups of the third; then all is moved.
+/// Of the sixth page ranges 961 to 967 and 1139 to 1152 are left, which become one page with the groups of the last; then all is moved.
 #[test]
 fn a_small_page_takes_the_next_ones_groups(rt: HostRuntime) -> Result<(), Fail> {
     let less = [
-        Section::Keep(155_690),
-        Section::Replace(147_300, 0),
-        Section::Keep(57_010),
+        Section::Keep(290_090),
+        Section::Replace(51_300, 0),
+        Section::Keep(18_610),
     ];
-    let more = [Section::Replace(0, 5), Section::Keep(212_700)];
+    let more = [Section::Replace(0, 5), Section::Keep(308_700)];
     let steps: [&[Section<u32>]; 2] = [&less, &more];
-    let rows = [(1, 519, 5, 5), (1011, COUNT, -147_295, -147_295)];
+    let rows = [(1, 967, 5, 5), (1139, COUNT, -51_295, -51_295)];
     let first = [(1, 1), (0, 0)];
     assert!(rt; stand_after(rt.alloc(), &first, &steps, &rows)? == Some(true));
     Ok(())
@@ -241,9 +242,9 @@ fn found(set: &RangeSet<Numbered>, from: u32, to: u32) -> (u32, u32) {
 fn ranges_are_found_over_a_border_of_pages(rt: HostRuntime) -> Result<(), Fail> {
     let set = wide(rt.alloc(), &STILL, (0, 0))?;
     for (from, to, want) in &[
-        (153_557, 153_600, (512, 2)),
-        (153_558, 153_599, (0, 0)),
-        (153_000, 154_000, (511, 4)),
+        (172_757, 172_800, (576, 2)),
+        (172_758, 172_799, (0, 0)),
+        (172_200, 173_200, (575, 4)),
         (0, LEN, (1, COUNT)),
         (359_957, LEN, (COUNT, 1)),
         (359_958, LEN, (0, 0)),
@@ -272,10 +273,10 @@ fn points_of(alloc: Global, points: (u32, u32)) -> Result<(u32, u32, u32), Fail>
 #[test]
 fn points_are_found_after_pages_without(rt: HostRuntime) -> Result<(), Fail> {
     for (points, want) in &[
-        ((1025, COUNT), (1025, COUNT, 2)),
-        ((0, 1150), (1150, 1150, 1)),
-        ((2, 513), (2, 513, 2)),
-        ((512, 1024), (512, 1024, 2)),
+        ((1153, COUNT), (1153, COUNT, 2)),
+        ((0, 1190), (1190, 1190, 1)),
+        ((2, 577), (2, 577, 2)),
+        ((576, 1152), (576, 1152, 2)),
         ((0, 0), (0, 0, 0)),
     ] {
         assert!(rt; points_of(rt.alloc(), *points)? == *want);
@@ -329,10 +330,10 @@ fn a_range_is_added_to_a_page(rt: HostRuntime) -> Result<(), Fail> {
     for (from, before) in &[
         (0, 1),
         (299, 1),
-        (153_599, 512),
-        (153_600, 513),
+        (172_799, 576),
+        (172_800, 577),
         (210_000, 701),
-        (307_199, 1024),
+        (345_599, 1152),
         (400_000, COUNT),
     ] {
         assert!(rt; added_at(rt.alloc(), *from)? == (*before, true));
@@ -352,9 +353,9 @@ fn stand_without(alloc: Global, first: u32, last: u32, rows: &[Row]) -> Result<b
 #[test]
 fn an_update_leaves_out_ranges_of_several_pages(rt: HostRuntime) -> Result<(), Fail> {
     for (first, last, rows) in &[
-        (510, 515, [(1, 509, 0, 0), (516, COUNT, 0, 0)]),
-        (513, 1024, [(1, 512, 0, 0), (1025, COUNT, 0, 0)]),
-        (1, 512, [(513, 1024, 0, 0), (1025, COUNT, 0, 0)]),
+        (574, 579, [(1, 573, 0, 0), (580, COUNT, 0, 0)]),
+        (577, 1152, [(1, 576, 0, 0), (1153, COUNT, 0, 0)]),
+        (1, 576, [(577, 1152, 0, 0), (1153, COUNT, 0, 0)]),
     ] {
         assert!(rt; stand_without(rt.alloc(), *first, *last, rows)?);
     }
