@@ -4,6 +4,7 @@ pub mod Chunks
 pub mod Whole
 pub mod Groups
 pub mod Pages
+pub mod WholePages
 pub mod Builders
 pub mod WholeGroups
 pub mod Carried

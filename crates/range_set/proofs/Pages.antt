@@ -1,19 +1,15 @@
 -- Pages of groups, and builders of them, seen as lists of groups, of chunks and of ranges.
-use Rattle.std.proofs.Common.{◌≡◌, ℕ, zero, suc, ◌+◌, ◌-◌, ◌^◌, ◌<◌, ◌≤◌, max, ◌||◌, List, [], ◌∷◌, ◌++◌, length, get_or, take, map, refl, sym, ◌∙◌, ap, subst, arith, append_assoc}
+use Rattle.std.proofs.Common.{◌≡◌, ℕ, zero, suc, ◌+◌, ◌^◌, ◌<◌, ◌≤◌, List, [], ◌∷◌, ◌++◌, length, get_or, take, map, refl, sym, ◌∙◌, ap, subst, arith, append_assoc}
 use Rattle.std.proofs.lemmas.List.{append-nil, map-append, length-append, take_more}
-use Rattle.std.proofs.lemmas.List.Folds.{list_any-append}
-use Rattle.std.specs.List.{list_any}
 use Rattle.range_set.specs.Rules.{RangeRules}
-use Rattle.range_set.specs.Mapping.{is_turned}
-use Rattle.range_set.specs.Points.{stands}
-use Rattle.range_set.specs.PrivateChunks.{AreGroups, IsGroup, first_start, flat, greatest_end, move, shift, spread}
+use Rattle.range_set.specs.PrivateChunks.{AreGroups, flat, greatest_end, move, shift, spread}
 use Rattle.range_set.specs.PrivatePages.{ArePages, IsPage, further, laid}
 use Rattle.range_set.specs.declared.chunk.Placed.{Placed}
 use Rattle.range_set.specs.declared.group.PlacedGroup.{PlacedGroup}
 use Rattle.range_set.specs.declared.page.Page.{Page}
 use Rattle.range_set.specs.declared.page.PlacedPage.{PlacedPage}
 use Rattle.range_set.proofs.Chunks.{greatest_shifted, length_shifted}
-use Rattle.range_set.proofs.Groups.{AreGroups-push, first-append, first_shifted, flat-moved, flat-spread, flat-spread_append, flat-spread_push, greatest-append, group_placed, points_any, turned_any}
+use Rattle.range_set.proofs.Groups.{flat-moved, flat-spread, flat-spread_append, greatest-append, group_placed}
 
 module _ {T : Type 0} where
   move-twice : (a b : ℕ) (ps : List (Placed T)) → map (move a) (map (move b) ps) ≡ map (move (b + a)) ps
@@ -105,19 +101,6 @@ module _ {T : Type 0} (rules : RangeRules T) where
     fits = l;
   }
 
-  -- a page that has the same groups in another list
-  pub page_same : (start : ℕ) (before after : Page T) → IsPage rules start before → after.groups.items ≡ before.groups.items → after.count ≡ before.count → after.reach ≡ before.reach → after.is_turned ≡ before.is_turned
-      → after.has_point ≡ before.has_point → IsPage rules start after
-  page_same start before after h items count reach turned points = record {
-    groups = subst (AreGroups rules) (sym items) h.groups;
-    first = ap (λ gs. first_start (flat (spread gs))) items ∙ h.first;
-    count = count ∙ (h.count ∙ ap (λ gs. length (flat (spread gs))) (sym items));
-    reach = reach ∙ (h.reach ∙ ap (λ gs. greatest_end (flat (spread gs))) (sym items));
-    turned = turned ∙ (h.turned ∙ ap (λ gs. list_any (is_turned rules) (flat (spread gs))) (sym items));
-    points = points ∙ (h.points ∙ ap (λ gs. list_any (stands rules) (flat (spread gs))) (sym items));
-    fits = let f = h.fits in omega (arith, f, reach);
-  }
-
   pub page_opened : (start : ℕ) (page : Page T) → IsPage rules start page → AreGroups rules (map (further start) page.groups.items)
   page_opened start page h = let e = h.reach in groups_further start page.reach page.groups.items h.groups (omega (arith, e)) h.fits
 
@@ -144,38 +127,3 @@ module _ {T : Type 0} (rules : RangeRules T) where
   pub spread_none : (gs : List (PlacedGroup T)) → AreGroups rules gs → flat (spread gs) ≡ [] → gs ≡ []
   spread_none [] h e = refl
   spread_none (g ∷ gs) h e = absurd (let k = some_groups g gs h in let l = ap length e in omega (arith, k, l))
-
-  -- a group that counts from a place
-  abbrev pub counted_group : ℕ → PlacedGroup T → PlacedGroup T
-  counted_group start g = record { start = g.start - start; group = g.group }
-
-  pub put_page : (start : ℕ) (before after : Page T) (g : PlacedGroup T) → IsPage rules start before → IsGroup rules g.start g.group.value → 1 ≤ length (flat g.group.value.chunks.items) → start ≤ g.start
-      → (before.groups.items ≡ [] → g.start ≡ start) → after.groups.items ≡ before.groups.items ++ counted_group start g ∷ [] → after.count ≡ before.count + length (flat g.group.value.chunks.items)
-      → after.reach ≡ max before.reach (g.start - start + g.group.value.reach) → after.is_turned ≡ (before.is_turned || g.group.value.is_turned) → after.has_point ≡ (before.has_point || g.group.value.has_point) → IsPage rules start after
-  put_page start before after g h group some l first items count reach turned points =
-      let q : PlacedGroup T = counted_group start g in
-      let ranges = flat g.group.value.chunks.items in
-      let old = flat (spread before.groups.items) in
-      let new = map (shift q.start) ranges in
-      let is : flat (spread after.groups.items) ≡ old ++ new = ap (λ gs. flat (spread gs)) items ∙ flat-spread_push before.groups.items q in
-      let greatest = ap greatest_end is ∙ greatest-append old new in
-      let end = greatest_shifted q.start ranges some in
-      let long = ap length is ∙ length-append old new in
-      let len = length_shifted rules q.start ranges in
-      record {
-        groups = rw items (AreGroups-push rules before.groups.items q h.groups (group_placed rules g.start q.start g.group.value group (let f = group.fits in omega (arith, f))) some);
-        first = ap first_start is ∙ first-append old new (λ e.
-            let k = first (spread_none before.groups.items h.groups e) in
-            let a = first_shifted q.start ranges some in
-            let b = group.first in
-            omega (arith, k, a, b)) h.first;
-        count = let c = h.count in omega (arith, c, count, long, len);
-        reach = let a = h.reach in let b = group.reach in omega (arith, a, b, reach, greatest, end);
-        turned = turned ∙ (ap (λ b. b || g.group.value.is_turned) h.turned
-            ∙ (ap (λ b. list_any (is_turned rules) old || b) (group.turned ∙ sym (turned_any rules q.start ranges))
-            ∙ (sym (list_any-append (is_turned rules) old new) ∙ ap (list_any (is_turned rules)) (sym is))));
-        points = points ∙ (ap (λ b. b || g.group.value.has_point) h.points
-            ∙ (ap (λ b. list_any (stands rules) old || b) (group.points ∙ sym (points_any rules q.start ranges))
-            ∙ (sym (list_any-append (stands rules) old new) ∙ ap (list_any (stands rules)) (sym is))));
-        fits = let f = h.fits in let k = group.fits in omega (arith, f, k, reach, l);
-      }

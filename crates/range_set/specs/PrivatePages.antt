@@ -22,6 +22,11 @@ module _ {T : Type 0} where
   laid [] = []
   laid (p ∷ ps) = map (further p.start) p.page.value.groups.items ++ laid ps
 
+  -- each group begins at n or after
+  abbrev pub BeginFrom : ℕ → List (PlacedGroup T) → Type 0
+  BeginFrom n [] = Unit {0}
+  BeginFrom n (g ∷ gs) = (n ≤ g.start) × BeginFrom n gs
+
   -- groups that are the last of others
   pub record AreLast (groups rest : List (PlacedGroup T)) : Type 0 where
     pub taken : List (PlacedGroup T)
@@ -43,10 +48,17 @@ module _ {T : Type 0} (rules : RangeRules T) where
   ArePages [] = Unit {0}
   ArePages (p ∷ ps) = (IsPage p.start p.page.value × (1 ≤ length (flat (spread p.page.value.groups.items)))) × ArePages ps
 
-  -- what a builder of pages keeps of those that are done and of the one that is growing
-  pub record ArePagesBuilt (done : List (PlacedPage T)) (start : ℕ) (growing : Page T) : Type 0 where
+  -- groups at their places, of which the first begins at a place and the others there or after it, and whose ranges can be counted
+  pub record AreGrowing (start : ℕ) (gs : List (PlacedGroup T)) : Type 0 where
+    pub groups : AreGroups rules gs
+    pub after : BeginFrom start gs
+    pub first : 1 ≤ length gs → first_start (flat (spread gs)) ≡ start
+    pub room : length (flat (spread gs)) < 2 ^ 64
+
+  -- what a builder of pages keeps of those that are done and of the groups of the one that is growing
+  pub record ArePagesBuilt (done : List (PlacedPage T)) (start : ℕ) (growing : List (PlacedGroup T)) : Type 0 where
     pub pages : ArePages done
-    pub page : IsPage start growing
+    pub groups : AreGrowing start growing
 
   -- what a cursor keeps of the groups that are left of a page, which count from a place, and of the pages after them
   pub record AreGroupsLeft (base : ℕ) (groups : List (PlacedGroup T)) (pages : List (PlacedPage T)) : Type 0 where

@@ -1,10 +1,8 @@
-ghost use Rattle.std.specs.Prelude.{IfOk, [], ◌++◌, ◌+◌, ◌∷◌, ◌≡◌, ◌≤◌, ◌<◌, ◌^◌, length, map};
-ghost use Rattle.range_set.specs.PrivateChunks.{IsGroup, flat, spread};
-ghost use Rattle.range_set.specs.PrivatePages.{IsPage, further};
+ghost use Rattle.std.specs.Prelude.{◌≡◌, map};
+ghost use Rattle.range_set.specs.PrivatePages.{AreGrowing, IsPage, further};
 
 use crate::group::PlacedGroup;
 use crate::range_value::RangeValue;
-use std::alloc::{AllocError, Global};
 use std::rc::Rc;
 
 /// How many groups make a page full in a small set.
@@ -24,7 +22,7 @@ pub(crate) fn full_page_among(pages: usize) -> usize {
 }
 
 /// How many groups make a page full in a set of so many groups that are put into pages at once: the square root of their number,
-/// rounded down, from 12 to 32. So there are at least as many pages, and changes don't part these pages. No contract speaks of this.
+/// rounded down, from 12 to 32, so that there are about as many pages. No contract speaks of this.
 pub(crate) fn full_page_for(groups: usize) -> usize {
     for full in MIN_FULL..MAX_FULL {
         let next = full + 1;
@@ -57,44 +55,30 @@ pub(crate) struct PlacedPage<T> {
 }
 
 impl<T: RangeValue> Page<T> {
-    /// The page without ranges.
-    pub(crate) fn empty(alloc: Global) -> Page<T>
-        ensures groups { result.groups.items ≡ [] }
-        ensures page { IsPage T.rules 0 result }
+    /// The page of groups that count from the start of the document, at the place `start`, where the first of them stands.
+    pub(crate) fn of(start: u32, mut groups: Vec<PlacedGroup<T>>) -> Page<T>
+        requires { AreGrowing T.rules start groups.items }
+        ensures page { IsPage T.rules start result }
+        ensures groups { map (further start) result.groups.items ≡ groups.items }
     {
-        Page {
-            groups: Vec::new(alloc),
-            count: 0,
-            reach: 0,
-            is_turned: false,
-            has_point: false,
+        let mut count: usize = 0;
+        let mut reach: u32 = 0;
+        let mut is_turned = false;
+        let mut has_point = false;
+        for placed in groups.iter_mut() {
+            let from = placed.start - start;
+            count += placed.group.count;
+            reach = reach.max(from + placed.group.reach);
+            is_turned = is_turned || placed.group.is_turned;
+            has_point = has_point || placed.group.has_point;
+            placed.start = from;
         }
-    }
-
-    /// Puts a group after the others of a page at the place `start`. `Err`: out of memory.
-    pub(crate) fn put(&mut self, start: u32, placed: PlacedGroup<T>) -> Result<(), AllocError>
-        requires page { IsPage T.rules start self.old }
-        requires group { IsGroup T.rules placed.start placed.group.value }
-        requires some { 1 ≤ length (flat placed.group.value.chunks.items) }
-        requires room { length (flat (spread self.old.groups.items)) + length (flat placed.group.value.chunks.items) < 2 ^ 64 }
-        requires after { start ≤ placed.start }
-        requires first { self.old.groups.items ≡ [] → placed.start ≡ start }
-        ensures page { IsPage T.rules start self.new }
-        ensures groups { IfOk result (λ _. map (further start) self.new.groups.items ≡ map (further start) self.old.groups.items ++ placed ∷ []) }
-    {
-        let from = placed.start - start;
-        let count = placed.group.count;
-        let reach = from + placed.group.reach;
-        let is_turned = placed.group.is_turned;
-        let has_point = placed.group.has_point;
-        self.groups.push(PlacedGroup {
-            start: from,
-            group: placed.group,
-        })?;
-        self.count += count;
-        self.reach = self.reach.max(reach);
-        self.is_turned = self.is_turned || is_turned;
-        self.has_point = self.has_point || has_point;
-        Ok(())
+        Page {
+            groups,
+            count,
+            reach,
+            is_turned,
+            has_point,
+        }
     }
 }

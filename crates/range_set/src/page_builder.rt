@@ -1,6 +1,6 @@
 ghost use Rattle.std.specs.Prelude.{IfOk, [], ◌++◌, ◌+◌, ◌∷◌, ◌≡◌, ◌≤◌, ◌<◌, ◌^◌, length, map};
 ghost use Rattle.range_set.specs.PrivateChunks.{IsGroup, flat, spread};
-ghost use Rattle.range_set.specs.PrivatePages.{ArePages, IsPage, further, laid};
+ghost use Rattle.range_set.specs.PrivatePages.{AreGrowing, ArePages, IsPage, further, laid};
 
 use crate::group::PlacedGroup;
 use crate::group_list::GroupList;
@@ -12,13 +12,13 @@ use std::marker::Model;
 use std::mem;
 use std::rc::Rc;
 
-/// Cuts groups that come in order into pages: those that are done, and one that is growing, at the place `start`. Contracts see the
-/// groups.
+/// Cuts groups that come in order into pages: those that are done, and the groups of one that is growing, which is to stand at `start`.
+/// Contracts see the groups.
 #[derive(Drop)]
 pub(crate) struct PageBuilder<T: RangeValue> {
     done: Vec<PlacedPage<T>>,
     start: u32,
-    growing: Page<T>,
+    growing: Vec<PlacedGroup<T>>,
     /// How many groups make a page full. It only decides where pages are cut.
     full: usize,
     /// For how many groups a page that is begun has room at first.
@@ -26,15 +26,15 @@ pub(crate) struct PageBuilder<T: RangeValue> {
 }
 
 impl<T: RangeValue> Model for PageBuilder<T> {
-    ghost use Rattle.std.specs.Prelude.{List, ◌++◌, map};
+    ghost use Rattle.std.specs.Prelude.{List, ◌++◌};
     ghost use Rattle.range_set.specs.declared.group.PlacedGroup.{PlacedGroup};
-    ghost use Rattle.range_set.specs.PrivatePages.{ArePagesBuilt, further, laid};
+    ghost use Rattle.range_set.specs.PrivatePages.{ArePagesBuilt, laid};
 
     ghost Value = { List (PlacedGroup T) };
 
-    ghost view = { λ s. laid s.done.items ++ map (further s.start) s.growing.groups.items };
+    ghost view = { λ s. laid s.done.items ++ s.growing.items };
 
-    ghost invariant = { λ s. ArePagesBuilt T.rules s.done.items s.start s.growing };
+    ghost invariant = { λ s. ArePagesBuilt T.rules s.done.items s.start s.growing.items };
 }
 
 impl<T: RangeValue> PageBuilder<T> {
@@ -51,7 +51,7 @@ impl<T: RangeValue> PageBuilder<T> {
         Ok(PageBuilder {
             done: Vec::with_capacity(alloc, pages)?,
             start: 0,
-            growing: Page::empty(alloc),
+            growing: Vec::new(alloc),
             full,
             room: groups.saturating_add(MORE_GROUPS).min(full),
         })
@@ -65,21 +65,21 @@ impl<T: RangeValue> PageBuilder<T> {
         ensures { IfOk result (λ _. self.new ≡ self.old ++ placed ∷ []) }
     {
         // Groups come in order, so none begins before the growing page: this is asked so that no contract needs to say it.
-        if self.growing.groups.len() >= self.full || placed.start < self.start {
+        if self.growing.len() >= self.full || placed.start < self.start {
             seal(&mut self.done, self.start, &mut self.growing)?;
         }
-        if self.growing.groups.is_empty() {
-            self.growing.groups.reserve_exact(self.room)?;
+        if self.growing.is_empty() {
+            self.growing.reserve_exact(self.room)?;
             self.start = placed.start;
         }
-        self.growing.put(self.start, placed)
+        grow(&mut self.growing, self.start, placed)
     }
 
     /// Whether a page of so many groups is to become one with the groups that are growing: whether there are any, and all of them
     /// fill at most three quarters of a full page. No contract speaks of this: it only decides which pages are shared.
     pub(crate) fn joins(&self, len: usize) -> bool {
-        !self.growing.groups.is_empty()
-            && self.growing.groups.len().saturating_add(len) <= self.full - self.full / 4
+        !self.growing.is_empty()
+            && self.growing.len().saturating_add(len) <= self.full - self.full / 4
     }
 
     /// Puts the groups of a page after the others, at a place of its own, and shares it. `Err`: out of memory.
@@ -105,28 +105,48 @@ impl<T: RangeValue> PageBuilder<T> {
     }
 }
 
-/// Ends the growing page, if it has groups, and begins one without groups. `Err`: out of memory.
+/// Puts a group after those that grow at the place `start`. `Err`: out of memory.
+fn grow<T: RangeValue>(
+    growing: &mut Vec<PlacedGroup<T>>,
+    start: u32,
+    placed: PlacedGroup<T>,
+) -> Result<(), AllocError>
+    requires growing { AreGrowing T.rules start growing.old.items }
+    requires group { IsGroup T.rules placed.start placed.group.value }
+    requires some { 1 ≤ length (flat placed.group.value.chunks.items) }
+    requires room { length (flat (spread growing.old.items)) + length (flat placed.group.value.chunks.items) < 2 ^ 64 }
+    requires after { start ≤ placed.start }
+    requires first { growing.old.items ≡ [] → placed.start ≡ start }
+    ensures growing { AreGrowing T.rules start growing.new.items }
+    ensures groups { IfOk result (λ _. growing.new.items ≡ growing.old.items ++ placed ∷ []) }
+{
+    growing.push(placed)?;
+    Ok(())
+}
+
+/// Makes a page of the groups that grow at the place `start`, if there are any, and begins a list without groups. `Err`: out of
+/// memory.
 fn seal<T: RangeValue>(
     done: &mut Vec<PlacedPage<T>>,
     start: u32,
-    growing: &mut Page<T>,
+    growing: &mut Vec<PlacedGroup<T>>,
 ) -> Result<(), AllocError>
     requires pages { ArePages T.rules done.old.items }
-    requires page { IsPage T.rules start growing.old }
+    requires growing { AreGrowing T.rules start growing.old.items }
     ensures pages { ArePages T.rules done.new.items }
-    ensures groups { IfOk result (λ _. laid done.new.items ≡ laid done.old.items ++ map (further start) growing.old.groups.items) }
-    ensures opened { IsPage T.rules start growing.new }
-    ensures empty { IfOk result (λ _. growing.new.groups.items ≡ []) }
+    ensures groups { IfOk result (λ _. laid done.new.items ≡ laid done.old.items ++ growing.old.items) }
+    ensures growing { AreGrowing T.rules start growing.new.items }
+    ensures empty { IfOk result (λ _. growing.new.items ≡ []) }
 {
-    if growing.groups.is_empty() {
+    if growing.is_empty() {
         return Ok(());
     }
     let alloc = *done.allocator();
-    let mut page = mem::replace(growing, Page::empty(alloc));
-    trim(&mut page.groups);
+    let mut groups = mem::replace(growing, Vec::new(alloc));
+    trim(&mut groups);
     done.push(PlacedPage {
         start,
-        page: Rc::new(alloc, page)?,
+        page: Rc::new(alloc, Page::of(start, groups))?,
     })?;
     Ok(())
 }

@@ -14,15 +14,14 @@ invariant_of-self-2 g c =
       pages = rw c.in_ok-push.ensures.items (ArePages-push rules c.seal.new.done.items _ c.seal.ensures.pages
           (subst (λ (x : Page g.row.T.Denot). IsPage rules c.args.start x) (sym value) c.requires.page)
           (subst (λ (x : Page g.row.T.Denot). 1 ≤ length (flat (spread x.groups.items))) (sym value) c.requires.some));
-      page = c.seal.ensures.opened;
+      groups = c.seal.ensures.growing;
     }
 
 pub returns : goal.returns
 returns g c =
-    let at = c.self.inside in
     let start = c.args.start in
     let value = c.in_ok-clone.ensures.cases in
-    ap (λ gs. laid c.push.new.self.items ++ map (further at.start) gs) c.in_ok-seal.ensures.empty
+    ap (λ gs. laid c.push.new.self.items ++ gs) c.in_ok-seal.ensures.empty
     ∙ (append-nil (laid c.push.new.self.items)
     ∙ (ap laid c.in_ok-push.ensures.items
     ∙ (laid-push c.seal.new.done.items _
