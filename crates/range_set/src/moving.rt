@@ -96,7 +96,7 @@ fn map_all<'a, T: RangeValue, L: Ledger>(
                         left,
                         &mut walk,
                         index,
-                        ranges_met(base, more, left),
+                        ranges_after(&builder.run, base, more, left),
                         &mut builder.run,
                         mapped,
                     )?;
@@ -172,6 +172,21 @@ fn chunks_met<T: RangeValue>(groups: &GroupCursor<'_, T>, changed: &[ChangedRang
 /// make.
 fn is_met(start: u32, reach: u32, changed: &ChangedRange) -> bool {
     start <= changed.to_a && changed.from_a <= start.saturating_add(reach)
+}
+
+/// How many ranges are likely to come to a run after those of a chunk, where it has no room yet: those of the chunks after it that the
+/// first of some replaced ranges meets. No contract speaks of this: it only says how much room to make, once for all of them.
+fn ranges_after<T>(
+    run: &Vec<Ranged<T>>,
+    base: u32,
+    chunks: &[Placed<T>],
+    changed: &[ChangedRange],
+) -> usize {
+    if run.capacity() == 0 {
+        ranges_met(base, chunks, changed)
+    } else {
+        0
+    }
 }
 
 /// How many ranges the first of some chunks have, those that the first of some replaced ranges meets. No contract speaks of this: it only
