@@ -28,6 +28,7 @@ pub(crate) struct Chunk<T> {
     pub(crate) is_turned: bool,
     /// Whether one of them stands for what it covers.
     pub(crate) has_point: bool,
+    /// The list stands last: what is read without it then mostly lies beside the counts of the owners, in one line of the cache.
     pub(crate) ranges: Vec<Ranged<T>>,
 }
 

@@ -32,7 +32,7 @@ pub(crate) fn reserve<T>(list: &mut Vec<T>, more: usize, expected: usize) -> Res
     }
 }
 
-/// Gives back the free room of a list where more than half of its room is free: a list that is cut in half keeps its room.
+/// Gives back the free room of a list that fills less than half of its room, rounded down: a list that is cut in half keeps its room.
 pub(crate) fn trim<T>(list: &mut Vec<T>)
     ensures { list.new.items ≡ list.old.items }
 {
