@@ -1,10 +1,15 @@
 -- A range that changes places with the one before it, which it belongs before, changes no sort.
-use Rattle.std.proofs.Common.{◌≡◌, ℕ, zero, suc, ◌<◌, Bool, true, false, not, ◌&&◌, cond, List, [], ◌∷◌, length, get_or, slice_set, refl, sym, ◌∙◌, ap, subst, arith}
+use Rattle.std.proofs.Common.{◌≡◌, ℕ, zero, suc, ◌+◌, ◌<◌, Bool, true, false, not, ◌&&◌, cond, List, [], ◌∷◌, length, get_or, slice_set, Option, Some, refl, sym, ◌∙◌, ap, subst, arith}
+use Rattle.std.specs.Prelude.{nat_lt}
 use Rattle.std.specs.Cmp.{IsStrictWeakOrder}
 use Rattle.std.specs.List.{filter}
 use Rattle.std.specs.List.Sorted.{ties}
 use Rattle.stable_order.specs.StableSort.{stable_sort}
 use Rattle.stable_order.proofs.StableSort.{Rises-stable_sort, filter-stable_sort, same_from_ties}
+use Rattle.range_set.specs.Rules.{RangeRules}
+use Rattle.range_set.specs.Order.{fault_from, precedes}
+use Rattle.range_set.specs.declared.ranged.Ranged.{Ranged}
+use Rattle.range_set.specs.declared.range_error.RangeError.TheVariants as fault
 
 module _ {X : Type 0} (lt : X → X → Bool) (o : IsStrictWeakOrder lt) where
   both_false : (a b : Bool) → (not a && not b) ≡ true → (a ≡ false) × (b ≡ false)
@@ -65,3 +70,15 @@ length-set (y ∷ ys) (suc i) x = ap suc (length-set ys i x)
 
 pub length-changed : {X : Type 0} (xs : List X) (i j : ℕ) (x y : X) → length (slice_set (slice_set xs i x) j y) ≡ length xs
 length-changed xs i j x y = length-set (slice_set xs i x) j y ∙ length-set xs i x
+
+module _ {T : Type 0} (rules : RangeRules T) where
+  -- a range that belongs before the one before it is one of them
+  pub fault_within : (i k : ℕ) (last : Option (Ranged T)) (rs : List (Ranged T)) → fault_from rules i last rs ≡ Some (fault.NotSorted k) → k < i + length rs
+  fault_within i k last [] e = cc
+  fault_within i k last (r ∷ rs) e = first (nat_lt r.to r.from) (precedes rules r last) (fault_within (i + 1) k (Some r) rs) e
+    where
+      first : (a b : Bool) → (fault_from rules (i + 1) (Some r) rs ≡ Some (fault.NotSorted k) → k < i + 1 + length rs)
+          → cond a (Some (fault.Reversed i)) (cond b (Some (fault.NotSorted i)) (fault_from rules (i + 1) (Some r) rs)) ≡ Some (fault.NotSorted k) → k < i + suc (length rs)
+      first true b ih h = cc
+      first false true ih h = let is : i ≡ k = cc in omega (arith, is)
+      first false false ih h = let l = ih h in omega (arith, l)

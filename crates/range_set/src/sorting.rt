@@ -1,4 +1,4 @@
-ghost use Rattle.std.specs.Prelude.{IfOk, [], ◌++◌, ◌≡◌};
+ghost use Rattle.std.specs.Prelude.{IfOk, [], ◌++◌, ◌<◌, ◌≡◌, length};
 ghost use Rattle.range_set.specs.Order.{AllForward, before};
 ghost use Rattle.range_set.specs.PrivateChunks.{Ascend};
 ghost use Rattle.range_set.specs.PrivateBuilders.{IsBuilder, built};
@@ -75,11 +75,9 @@ fn sort_unless_sorted<T: RangeValue>(ranges: &mut Vec<Ranged<T>>) -> Result<(), 
 
 /// Moves the range at an index before those before it that it belongs before, up to the first that it doesn't.
 fn move_back<T: RangeValue>(ranges: &mut Vec<Ranged<T>>, index: usize)
+    requires { index < length ranges.old.items }
     ensures { stable_sort (before T.rules) ranges.new.items ≡ stable_sort (before T.rules) ranges.old.items }
 {
-    if index >= ranges.len() {
-        return;
-    }
     let mut at = index;
     while at > 0 && ranges[at].is_before(&ranges[at - 1]) {
         ranges.swap(at - 1, at);

@@ -1,7 +1,9 @@
-use Rattle.std.proofs.Common.{ap, sym, ◌∙◌}
+use Rattle.std.proofs.Common.{◌≡◌, Some, ap, sym, ◌∙◌, arith}
 use Rattle.stable_order.proofs.StableSort.{stable_sort-risen}
 use Rattle.range_set.specs.Order.{before, first_fault}
 use Rattle.range_set.specs.Ranking.{before-order}
+use Rattle.range_set.specs.declared.range_error.RangeError.TheVariants as fault
+use Rattle.range_set.proofs.MovedBack.{fault_within}
 use Rattle.range_set.proofs.RangeOrder.{rises-no_fault}
 use Rattle.range_set.proofs.sorting.sort.Goals as goal
 
@@ -11,3 +13,16 @@ returns-in-None g c =
     let ranges = c.args.ranges.now.items in
     let none = ap (first_fault rules) (sym c.deref.ensures.value) ∙ (sym c.fault_in.ensures.value ∙ c.in-None.is) in
     sym (stable_sort-risen (before rules) (before-order rules) ranges (rises-no_fault rules ranges none))
+
+pub move_back-requires : goal.move_back-requires
+move_back-requires g c =
+    let rules = g.T.RangeValue.rules in
+    let ranges = c.args.ranges.now.items in
+    let index = c.in-Some-NotSorted.index in
+    let found : c.fault_in.result ≡ Some (fault.NotSorted index) =
+    let a = c.in-Some-NotSorted.is in
+    let b = c.in-Some-NotSorted.field-0-is in
+    let d = c.in-Some-NotSorted.index-is in
+    cc in
+    let within = fault_within rules 0 index _ ranges (ap (first_fault rules) (sym c.deref.ensures.value) ∙ (sym c.fault_in.ensures.value ∙ found)) in
+    omega (arith, within)
