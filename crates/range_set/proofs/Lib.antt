@@ -28,3 +28,4 @@ pub mod SharedBefore
 pub mod Opened
 pub mod PartedChunks
 pub mod MovedBack
+pub mod MovedRuns

@@ -1,13 +1,16 @@
--- What a walk over changes keeps of the last clear place. Private.
-use Rattle.std.specs.Prelude.{◌≡◌, ℕ, ◌≤◌, true, false, Some}
+-- What a walk over changes keeps of the last clear place, and the ranges of a chunk that are moved. Private.
+use Rattle.std.specs.Prelude.{◌≡◌, ℕ, ◌+◌, ◌^◌, ◌<◌, ◌≤◌, true, false, List, [], ◌∷◌, ◌++◌, length, map, filter_map, Some}
 use Rattle.std.specs.List.{list_any}
 use Rattle.change_desc.specs.Meeting.{BeginAfter, EndsAtOrAfter}
 use Rattle.change_desc.specs.Places.{place_after}
 use Rattle.change_desc.specs.Ranges.{meets, replaced}
 use Rattle.change_desc.specs.Sections.{old_size}
-use Rattle.range_set.specs.Mapping.{Changes}
+use Rattle.range_set.specs.Mapping.{Changes, moved}
+use Rattle.range_set.specs.PrivateChunks.{shift}
+use Rattle.range_set.specs.Rules.{RangeRules}
 use Rattle.range_set.specs.declared.clear_walk.ClearPlace.{ClearPlace}
 use Rattle.range_set.specs.declared.clear_walk.ClearWalk.{ClearWalk}
+use Rattle.range_set.specs.declared.ranged.Ranged.{Ranged}
 
 -- a place that no replaced range meets, where it goes, and the replaced ranges that may meet what is from it on
 pub record IsClearPlace (d : Changes) (p : ClearPlace) : Type 0 where
@@ -21,3 +24,16 @@ pub record IsClearPlace (d : Changes) (p : ClearPlace) : Type 0 where
 -- the last place of a walk, if any, is such a one
 abbrev pub IsClearWalk : ClearWalk → Type 0
 IsClearWalk w = (p : ClearPlace) → w.last ≡ Some p → IsClearPlace w.walker.desc p
+
+-- ranges that count from a place: none ends before it starts, and each lies in a text of this length
+abbrev pub AreWithin : {T : Type 0} → (len start : ℕ) → List (Ranged T) → Type 0
+AreWithin len start [] = Unit {0}
+AreWithin len start (r ∷ rs) = ((r.from ≤ r.to) × (r.to + start ≤ len) × (r.to + start < 2 ^ 32)) × AreWithin len start rs
+
+-- The first of some ranges, which count from a place, were moved and put after a run, and the others were left. A count was raised by
+-- one for each that was taken, at most.
+pub record AreMoved {T : Type 0} (rules : RangeRules T) (d : Changes) (start : ℕ) (ranges rest old new : List (Ranged T)) (before after : ℕ) : Type 0 where
+  pub taken : List (Ranged T)
+  pub is : ranges ≡ taken ++ rest
+  pub run : new ≡ old ++ filter_map (moved rules d) (map (shift start) taken)
+  pub cost : after + length rest ≤ before + length ranges

@@ -7,7 +7,7 @@ ghost use Rattle.change_desc.specs.Sections.{counted, new_size, old_size};
 ghost use Rattle.range_set.specs.declared.ranged.Ranged.{Ranged};
 ghost use Rattle.range_set.specs.Mapping.{EndWithin, map_ranges, moved, most_mapped};
 ghost use Rattle.range_set.specs.Order.{first_fault};
-ghost use Rattle.range_set.specs.PrivateMoving.{IsClearWalk};
+ghost use Rattle.range_set.specs.PrivateMoving.{AreMoved, AreWithin, IsClearWalk};
 ghost use Rattle.range_set.specs.PrivateChunks.{AreGroups, AreGroupsOf, Ascend, IsChunk, flat, shift, spread};
 
 use crate::chunk::{Chunk, Placed};
@@ -236,18 +236,59 @@ fn map_each<'a, T: RangeValue, L: Ledger>(
     let len = chunk.ranges.len();
     reserve(run, len, len.saturating_add(more))?;
     let mut left = changed;
-    for range in &chunk.ranges {
+    let mut rest = chunk.ranges.as_slice();
+    while let Some((first, others)) = rest.split_first() {
         mapped.tick();
         let range = RangeRef {
-            from: range.from + start,
-            to: range.to + start,
-            value: &range.value,
+            from: first.from + start,
+            to: first.to + start,
+            value: &first.value,
         };
         left = ranges_from(left, range.from);
         match range.moved_among(alloc, left, walk, index)? {
             Some(moved) => run.push(moved)?,
             None => {}
         }
+        rest = move_clear(alloc, start, others, walk, run, mapped)?;
     }
     Ok(())
+}
+
+/// Puts the first of some ranges, which count from the place `start`, after a run of others, each moved as far as the last clear place of
+/// a walk, and gives those that are left: from the first on that begins before that place, or ends at or after the start of the next
+/// replaced range, or is empty with an end side less than its start side. `Err`: out of memory.
+fn move_clear<'b, T: RangeValue, L: Ledger>(
+    alloc: Global,
+    start: u32,
+    ranges: &'b [Ranged<T>],
+    walk: &ClearWalk<'_>,
+    run: &mut Vec<Ranged<T>>,
+    mapped: &mut Steps<L>,
+) -> Result<&'b [Ranged<T>], AllocError>
+    requires walk { IsClearWalk walk.now }
+    requires room { new_size counted walk.now.walker.desc < 2 ^ 32 }
+    requires within { AreWithin (old_size walk.now.walker.desc) start ranges.now }
+    ensures moved { IfOk result (λ rest. AreMoved T.rules walk.now.walker.desc start ranges.now rest.now run.old.items run.new.items mapped.old mapped.new) }
+    ensures cost { mapped.new ≤ mapped.old + length ranges.now }
+{
+    let Some(last) = &walk.last else {
+        return Ok(ranges);
+    };
+    let mut rest = ranges;
+    while let Some((range, others)) = rest.split_first() {
+        let from = range.from + start;
+        let to = range.to + start;
+        if from < last.from || range.is_turned() || first_meets(last.changed, last.from, to) {
+            return Ok(rest);
+        }
+        mapped.tick();
+        let value = range.value.try_copy(alloc)?;
+        run.push(Ranged {
+            from: last.to + (from - last.from),
+            to: last.to + (to - last.from),
+            value,
+        })?;
+        rest = others;
+    }
+    Ok(rest)
 }

@@ -1,24 +1,27 @@
-use Rattle.std.proofs.Common.{◌≡◌, ℕ, ◌+◌, ◌≤◌, List, ◌++◌, take, drop, map, filter_map}
+use Rattle.std.proofs.Common.{◌≡◌, ℕ, List, ◌++◌, length, map}
 use Rattle.std.specs.List.{list_any}
 use Rattle.change_desc.specs.Meeting.{BeginAfter}
 use Rattle.change_desc.specs.Ranges.{meets, replaced}
+use Rattle.change_desc.specs.Sections.{old_size}
 use Rattle.range_set.specs.declared.ranged.Ranged.{Ranged}
-use Rattle.range_set.specs.Mapping.{moved}
 use Rattle.range_set.specs.PrivateChunks.{Ascend, shift}
-use Rattle.range_set.specs.PrivateMoving.{IsClearWalk}
+use Rattle.range_set.specs.PrivateMoving.{AreMoved, AreWithin, IsClearWalk}
 use Rattle.range_set.proofs.Each.{FirstBy}
 use Rattle.range_set.proofs.moving.map_each.Given as goal
 
-abbrev pub invariant-loop-range : goal.invariant-loop-range
-invariant-loop-range g l =
+abbrev pub invariant-loop-first : goal.invariant-loop-first
+invariant-loop-first g l =
     let items = l.chunk.value.ranges.items in
     record {
-      run : l.run.items ≡ l.fn.run.items ++ filter_map (moved g.T.RangeValue.rules l.initial.walk.walker.desc) (map (shift l.start) (take l.range-index items));
+      moved : AreMoved g.T.RangeValue.rules l.initial.walk.walker.desc l.start items l.rest l.fn.run.items l.run.items l.initial.mapped l.mapped;
+      within : AreWithin (old_size l.initial.walk.walker.desc) l.start l.rest;
       desc : l.walk.walker.desc ≡ l.initial.walk.walker.desc;
       walk : (later : List (Ranged g.row.T.Denot)) → Ascend l.initial.walk.walker.reached (map (shift l.start) items ++ later)
-          → Ascend l.walk.walker.reached (map (shift l.start) (drop l.range-index items) ++ later);
+          → Ascend l.walk.walker.reached (map (shift l.start) l.rest ++ later);
       clear : IsClearWalk l.walk;
       begin : BeginAfter 0 l.left;
-      same : (a b : ℕ) → FirstBy a (map (shift l.start) (drop l.range-index items)) → list_any (meets a b) l.left ≡ list_any (meets a b) (replaced l.initial.walk.walker.desc);
-      cost : l.mapped ≤ l.initial.mapped + l.range-index;
+      same : (a b : ℕ) → FirstBy a (map (shift l.start) l.rest) → list_any (meets a b) l.left ≡ list_any (meets a b) (replaced l.initial.walk.walker.desc);
     }
+
+abbrev pub decreases-loop-first : goal.decreases-loop-first
+decreases-loop-first g l = length l.rest
