@@ -10,12 +10,15 @@ use crate::section::Section;
 use std::alloc::{AllocError, Global};
 use std::marker::Model;
 
+/// How many sections a description has for which nothing is kept: a walk goes over so few as fast as a search finds a place.
+const FEW_SECTIONS: usize = 4;
+
 /// Where walks over a description may begin, so that each begins close to its first place: a binary search finds where. It takes
-/// memory for each section. Contracts see the description.
+/// memory for each section, where they aren't few. Contracts see the description.
 #[derive(Drop)]
 pub struct PositionIndex<'a> {
     sections: &'a [Section<u32>],
-    /// The sections that end before each one.
+    /// The sections that end before each one; none where they are few.
     beginnings: Vec<Passed>,
 }
 
@@ -56,11 +59,14 @@ impl<'a> PositionIndex<'a> {
     }
 }
 
-/// For each section of a description, the sections that stand before it.
+/// For each section of a description, the sections that stand before it; none where they are few.
 fn beginnings(alloc: Global, sections: &[Section<u32>]) -> Result<Vec<Passed>, AllocError>
     requires { IsSet counted sections.now }
     ensures { IfOk result (λ all. All (ArePassed sections.now) all.items) }
 {
+    if sections.len() <= FEW_SECTIONS {
+        return Ok(Vec::new(alloc));
+    }
     let mut all = Vec::with_capacity(alloc, sections.len())?;
     let mut passed = Passed {
         count: 0,
