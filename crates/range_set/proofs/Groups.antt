@@ -63,14 +63,6 @@ module _ {T : Type 0} where
   greatest-append [] ys = omega arith
   greatest-append (x ∷ xs) ys = let e = greatest-append xs ys in omega (arith, e)
 
-  pub first-append : (xs ys : List (Ranged T)) → (xs ≡ [] → first_start ys ≡ 0) → first_start xs ≡ 0 → first_start (xs ++ ys) ≡ 0
-  first-append [] ys h k = h refl
-  first-append (x ∷ xs) ys h k = k
-
-  pub first_shifted : (start : ℕ) (rs : List (Ranged T)) → 1 ≤ length rs → first_start (map (shift start) rs) ≡ first_start rs + start
-  first_shifted start [] some = absurd (omega arith)
-  first_shifted start (r ∷ rs) some = refl
-
   -- a list of ranges that isn't empty has a first one, which begins at the place
   pub begins : (start n : ℕ) (rs later : List (Ranged T)) → 1 ≤ length rs → first_start rs ≡ 0 → Ascend n (map (shift start) rs ++ later) → n ≤ start
   begins start n [] later some f h = absurd (omega arith)

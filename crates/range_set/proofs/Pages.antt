@@ -123,7 +123,3 @@ module _ {T : Type 0} (rules : RangeRules T) where
   pub spread_some : (gs : List (PlacedGroup T)) → AreGroups rules gs → 1 ≤ length gs → 1 ≤ length (flat (spread gs))
   spread_some [] h some = absurd (omega arith)
   spread_some (g ∷ gs) h some = some_groups g gs h
-
-  pub spread_none : (gs : List (PlacedGroup T)) → AreGroups rules gs → flat (spread gs) ≡ [] → gs ≡ []
-  spread_none [] h e = refl
-  spread_none (g ∷ gs) h e = absurd (let k = some_groups g gs h in let l = ap length e in omega (arith, k, l))
