@@ -1,4 +1,4 @@
-// Layers under which a text is shown as it is.
+// Whether layers have more than marks: decorations that stand for what they cover.
 ghost use Rattle.std.specs.Prelude.{◌≡◌};
 ghost use Rattle.blocks.specs.Points.{has_point, has_points};
 
@@ -17,6 +17,7 @@ pub fn has_points(layers: &Layers) -> bool
     false
 }
 
+/// Whether the set has a decoration that stands for what it covers: a widget, a replacement or a line decoration.
 fn has_point(set: &DecoSet) -> bool
     ensures { result ≡ has_point set.now }
 {

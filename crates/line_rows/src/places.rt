@@ -1,5 +1,5 @@
 // The column of a place of a line of which nothing but its characters is shown.
-ghost use Rattle.std.specs.Prelude.{◌≡◌, ◌+◌, ◌-◌, ◌<◌, ◌≤◌, ◌^◌, false, true, length, chars, IfOk, IfSome};
+ghost use Rattle.std.specs.Prelude.{◌≡◌, ◌<◌, ◌≤◌, true, length, chars, IfOk, IfSome};
 ghost use Rattle.line_tree.specs.Text.{slice};
 ghost use Rattle.cells.specs.Layout.{clusters};
 ghost use Rattle.line_rows.specs.Place.{is_told, place_of};
