@@ -6,6 +6,7 @@ ghost use Rattle.cells.specs.Layout.{clusters};
 ghost use Rattle.line_tree.specs.Text.{slice};
 ghost use Rattle.cursor_moves.specs.Stops.{ends_from, last_stop, later_stop, next_stop};
 
+use cells::char_count;
 use line_tree::{Line, Text};
 use std::alloc::AllocError;
 use unicode_segmentation::UnicodeSegmentation;
@@ -89,10 +90,4 @@ fn next_end(line: &str, from: u32, to: u32, after: u32) -> u32
         }
     }
     to
-}
-
-fn char_count(text: &str) -> usize
-    ensures { result ≡ length (chars text.now) }
-{
-    text.chars().count()
 }

@@ -18,6 +18,7 @@ use crate::items::items_of;
 use crate::piece::Pieces;
 use crate::shading::{block_style, style_ranges};
 use crate::style_range::{StyleRange, style_at, styles_of};
+use cells::char_count;
 use decoration::{Layers, Style};
 use line_tree::{Text, TextCursor};
 use selection::Selection;
@@ -376,10 +377,4 @@ fn style_of(block: &Block<'_>, place: u32) -> Style
         return block.styles[index];
     }
     style_at(block.style, block.ranges.as_slice(), block.from + place)
-}
-
-fn char_count(text: &str) -> usize
-    ensures { result ≡ length (chars text.now) }
-{
-    text.chars().count()
 }
