@@ -15,8 +15,8 @@ ghost use Rattle.facet_slots.specs.Lent.{flags_in, nodes_before, scene_in, value
 use crate::before::Before;
 use crate::draft::Draft;
 use crate::facet_inputs::FacetInputs;
+use crate::flags::input_flagged;
 use crate::input_values::InputValues;
-use crate::marks::input_flagged;
 use crate::outputs::{combine, node_outputs};
 use crate::shared_val::SharedVal;
 use crate::slot::Slot;

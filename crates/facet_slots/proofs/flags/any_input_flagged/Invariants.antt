@@ -3,7 +3,7 @@ use Rattle.std.specs.List.{list_any}
 use Rattle.facet_slots.specs.Setups.{input_node}
 use Rattle.facet_slots.specs.Lent.{flags_in}
 use Rattle.facet_slots.specs.Nexts.{input_flagged}
-use Rattle.facet_slots.proofs.marks.any_input_flagged.Given as goal
+use Rattle.facet_slots.proofs.flags.any_input_flagged.Given as goal
 
 abbrev pub invariant-loop-node : goal.invariant-loop-node
 invariant-loop-node l =
