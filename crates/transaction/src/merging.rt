@@ -23,8 +23,9 @@ fn start_len<V>(before: &Option<Box<Draft<V>>>, sequential: bool, len: u32) -> u
     }
 }
 
-/// A draft and then that of the next spec.
-fn both<V: Drop, M: EffectMaps<V>>(
+/// A draft joined with that of the next spec, which starts where the draft ends if it is sequential, and else where the draft
+/// starts.
+fn joined<V: Drop, M: EffectMaps<V>>(
     alloc: Global,
     draft: Box<Draft<V>>,
     next: Box<Draft<V>>,
@@ -36,7 +37,7 @@ fn both<V: Drop, M: EffectMaps<V>>(
     requires starts { old_size next.value.changes ≡ start_len frame.now.len (Some draft.value.changes) sequential }
     requires short { new_size spelled next.value.changes ≤ frame.now.max }
     requires inside { SelectionIn (new_size spelled next.value.changes) next.value.selection }
-    ensures draft { IfOk result (λ both. Follows frame.now.len frame.now.max frame.now.kinds.now (M.map_value frame.now.maps.now) (Some draft.value) sequential next.value both.value) }
+    ensures draft { IfOk result (λ joined. Follows frame.now.len frame.now.max frame.now.kinds.now (M.map_value frame.now.maps.now) (Some draft.value) sequential next.value joined.value) }
     ensures refused { IfErr result (λ error. error ≢ TransactionError.NoMemory → too_long frame.now.max (next_total (Some draft.value.changes) sequential next.value.changes) ≡ Some error) }
 {
     let first = Box::into_inner(draft);
@@ -66,7 +67,7 @@ fn after<V: Drop, M: EffectMaps<V>>(
 {
     match before {
         None => Ok(next),
-        Some(draft) => both(alloc, draft, next, sequential, frame),
+        Some(draft) => joined(alloc, draft, next, sequential, frame),
     }
 }
 

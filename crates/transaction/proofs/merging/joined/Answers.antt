@@ -1,6 +1,6 @@
 use Rattle.std.specs.Box.{box_value}
 use Rattle.transaction.proofs.Steps.{follows-beside, follows-sequential}
-use Rattle.transaction.proofs.merging.both.Goals as goal
+use Rattle.transaction.proofs.merging.joined.Goals as goal
 
 pub returns-in_ok-followed-clause-draft : goal.returns-in_ok-followed-clause-draft
 returns-in_ok-followed-clause-draft g c =
