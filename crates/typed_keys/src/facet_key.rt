@@ -2,10 +2,11 @@
 use crate::carried::Carried;
 use crate::key_error::KeyError;
 use cm_plain::Shape;
+use decoration::Layers;
 use registry::{Lookup, Registry};
 use std::alloc::{AllocError, Global};
 use std::marker::{Model, PhantomData};
-use values::Meanings;
+use values::{Meanings, Val};
 
 /// A facet whose inputs are of type `I` and whose value is read as type `O` (Reference Manual, Facet).
 #[derive(Drop)]
@@ -76,10 +77,37 @@ impl<I: Carried, O: Carried> FacetKey<I, O> {
     }
 }
 
-ghost use Rattle.std.specs.Prelude.{◌≡◌, ◌<◌, length, slice_get, IfOk, IfSome};
-ghost use Rattle.cm_plain.specs.Form.{fits};
+impl<I: Carried> FacetKey<I, Layers> {
+    ghost use Rattle.std.specs.Prelude.{◌≡◌};
+    ghost use Rattle.typed_keys.specs.Keys.{KnowsFacet};
+    ghost use Rattle.typed_keys.specs.Read.{layers_in};
+
+    /// The value of the facet, lent as it stands in the lookup: what `get` gives, without memory.
+    pub fn layers<'a, L: Lookup>(&self, lookup: &'a L) -> &'a Layers
+        requires known { KnowsFacet L.rules (L.facet_def lookup.now self.now.id) self.now }
+        ensures { result.now ≡ layers_in (L.facet_value lookup.now self.now.id) }
+    {
+        layers_of(lookup.facet(self.id))
+    }
+}
+
+ghost use Rattle.std.specs.Prelude.{◌≡◌, ◌<◌, true, length, slice_get, IfOk, IfSome};
+ghost use Rattle.cm_plain.specs.Form.{fits, layers};
 ghost use Rattle.cm_plain.specs.Shape.{form_of};
 ghost use Rattle.transaction.specs.Numbers.{IsNumber};
+ghost use Rattle.typed_keys.specs.Read.{layers_in};
+ghost use Rattle.values.specs.Vals.{is_of};
+
+/// The layers that a value of their shape holds.
+fn layers_of(value: &Val) -> &Layers
+    requires { is_of layers value.now ≡ true }
+    ensures { result.now ≡ layers_in value.now }
+{
+    match value {
+        Val::Layers(all) => all,
+        _ => unreachable!(),
+    }
+}
 
 /// The number of a facet's combiner.
 fn combiner_of<M: Meanings>(registry: &Registry<M>, id: u32) -> u32
