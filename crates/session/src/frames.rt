@@ -53,11 +53,11 @@ fn drawn<M: Meanings, L: Ledger>(
     requires shows { ShowsHead (view_of (plain_state state.now) window.now) }
     ensures { IfOk result (λ text. string_bytes text ≡ frame_in (view_of (plain_state state.now) window.now)) }
 {
-    let layers = session.keys.decorations(session.alloc, state)?;
+    let layers = session.keys.decorations(state);
     let tab = session.keys.tab_size(session.alloc, state)?;
     state.known();
     let mut laid: Steps<L> = Steps::new(blank);
-    screen.draw(&view(state, &layers, tab, window), &mut laid)?;
+    screen.draw(&view(state, layers, tab, window), &mut laid)?;
     screen_frame(session.alloc, screen)
 }
 

@@ -87,12 +87,12 @@ impl<M: Meanings> Keys<M> {
         Ok(size.columns())
     }
 
-    /// The decorations, as sets from the highest precedence to the lowest. `Err`: out of memory.
-    pub(crate) fn decorations(&self, alloc: Global, state: &State<M>) -> Result<Layers, AllocError>
-        ensures { IfOk result (λ layers. layers ≡ layers_in (facet_in (plain state.now) DECORATIONS)) }
+    /// The decorations, as sets from the highest precedence to the lowest, lent by the state.
+    pub(crate) fn decorations<'a>(&self, state: &'a State<M>) -> &'a Layers
+        ensures { result.now ≡ layers_in (facet_in (plain state.now) DECORATIONS) }
     {
         state.known();
-        self.decorations.get(alloc, state)
+        self.decorations.layers(state)
     }
 
     /// The history, if the state has one. `Err`: out of memory.

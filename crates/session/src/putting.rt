@@ -58,10 +58,10 @@ pub(crate) fn shown_in<M: Meanings>(
     ensures moved { IfOk result (λ moved. moved ≡ shown_in (plain_state state.now) window.now) }
     ensures shows { IfOk result (λ moved. ShowsHead (view_of (plain_state state.now) moved)) }
 {
-    let layers = session.keys.decorations(session.alloc, state)?;
+    let layers = session.keys.decorations(state);
     let tab = session.keys.tab_size(session.alloc, state)?;
     state.known();
-    reveal(session.alloc, &view(state, &layers, tab, window))
+    reveal(session.alloc, &view(state, layers, tab, window))
 }
 
 /// A window of the same size at the first block and column.

@@ -1,4 +1,4 @@
-ghost use Rattle.std.specs.Prelude.{◌≡◌, ◌≤◌, ◌<◌, ℕ, List, Err, Result, length, true, IfOk, IfSome, Ok, OnErr, Some, string_bytes};
+ghost use Rattle.std.specs.Prelude.{◌≡◌, ◌≢◌, ◌≤◌, ◌<◌, ℕ, List, Err, Option, Result, length, true, IfOk, IfSome, Ok, OnErr, Some, string_bytes};
 ghost use Rattle.cm_outside.specs.Answering.{Answered};
 ghost use Rattle.cm_outside.specs.Faults.{Rose};
 ghost use Rattle.cm_outside.specs.Files.{Files, found_bytes};
@@ -180,23 +180,16 @@ impl<M: Meanings> Session<M> {
     {
         match line {
             MadeLine::Text(text) => self.line(kit, store, text.as_bytes()),
-            MadeLine::Edit { time, edit } => self.made_edit(kit, store, time, edit),
+            MadeLine::Edit { time, edit } => self.made_edit(kit, time, edit),
         }
     }
 
-    /// Does what the line of a transaction asks for that does an edit at a time in milliseconds, and gives the reply. The store isn't
-    /// asked, so `Failed` doesn't come; `NoMemory` changes nothing.
-    fn made_edit<D: Store>(
-        &mut self,
-        kit: &Kit<M>,
-        store: &mut D,
-        time: u32,
-        edit: Edit,
-    ) -> Result<String, StoreFault>
+    /// Does what the line of a transaction asks for that does an edit at a time in milliseconds, and gives the reply. No store is
+    /// asked, so `Failed` doesn't come and the files, whichever they are, stay; `NoMemory` changes nothing.
+    fn made_edit(&mut self, kit: &Kit<M>, time: u32, edit: Edit) -> Result<String, StoreFault>
         requires whole { IsWhole M.rules kit.now }
-        ensures answered { IfSome (desk_of (plain_session self.old) (D.files store.old)) (λ d. Answered (machine M.rules) (edit_line time edit) d (desk_of (plain_session self.new) (D.files store.new)) result) }
-        ensures later { D.faults store.old ≤ D.faults store.new }
-        ensures cause { result ≡ Err StoreFault.Failed → Rose (D.faults store.old) (D.faults store.new) }
+        ensures answered { (files : Option Files) → IfSome (desk_of (plain_session self.old) files) (λ d. Answered (machine M.rules) (edit_line time edit) d (desk_of (plain_session self.new) files) result) }
+        ensures unfailed { result ≢ Err StoreFault.Failed }
     {
         match update_of(self.alloc, time, edit) {
             Err(_) => Err(StoreFault::NoMemory),

@@ -94,12 +94,12 @@ fn drawn<M: Meanings, L: Ledger>(
     requires shows { ShowsHead (view_of (plain_state state.now) session.now.window) }
     ensures { IfOk result (λ shown. shown ≡ shown_screen_of (view_of (plain_state state.now) session.now.window)) }
 {
-    let layers = session.keys.decorations(session.alloc, state)?;
+    let layers = session.keys.decorations(state);
     let tab = session.keys.tab_size(session.alloc, state)?;
     state.known();
     let mut laid: Steps<L> = Steps::new(blank);
     let mut screen = Screen::blank(session.alloc);
-    screen.draw(&view(state, &layers, tab, &session.window), &mut laid)?;
+    screen.draw(&view(state, layers, tab, &session.window), &mut laid)?;
     shown_screen(session.alloc, &screen)
 }
 
@@ -115,9 +115,9 @@ pub(crate) fn screen_of<M: Meanings>(session: &Session<M>) -> Result<Answer, Lin
 fn rows_in<M: Meanings>(session: &Session<M>, state: &State<M>) -> Result<u32, AllocError>
     ensures { IfOk result (λ rows. rows ≡ shown_count (view_of (plain_state state.now) session.now.window)) }
 {
-    let layers = session.keys.decorations(session.alloc, state)?;
+    let layers = session.keys.decorations(state);
     let tab = session.keys.tab_size(session.alloc, state)?;
-    shown_rows(session.alloc, &view(state, &layers, tab, &session.window))
+    shown_rows(session.alloc, &view(state, layers, tab, &session.window))
 }
 
 /// The command `summary`.
