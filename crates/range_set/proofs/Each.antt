@@ -33,10 +33,10 @@ module _ {T : Type 0} where
   end_within len [] h = All-nil (λ (r : Ranged T). (r.from ≤ len) × (r.to ≤ len))
   end_within len (r ∷ rs) h = All-cons (λ (r : Ranged T). (r.from ≤ len) × (r.to ≤ len)) r rs h.0 (end_within len rs h.1)
 
-  pub forward_item : (items : List (Ranged T)) (i : ℕ) (r : Ranged T) → i < length items → r ≡ get_or items i r → AllForward items → r.from ≤ r.to
+  forward_item : (items : List (Ranged T)) (i : ℕ) (r : Ranged T) → i < length items → r ≡ get_or items i r → AllForward items → r.from ≤ r.to
   forward_item items i r l e h = not_less r.to r.from (forward_at items i r l e h)
 
-  pub end_item : (n : ℕ) (items : List (Ranged T)) (i : ℕ) (r : Ranged T) → i < length items → r ≡ get_or items i r → EndBy n items → r.to ≤ n
+  end_item : (n : ℕ) (items : List (Ranged T)) (i : ℕ) (r : Ranged T) → i < length items → r ≡ get_or items i r → EndBy n items → r.to ≤ n
   end_item n [] i r l e h = absurd (omega arith)
   end_item n (q ∷ items) zero r l e h = subst (λ (x : Ranged T). x.to ≤ n) (sym e) h.0
   end_item n (q ∷ items) (suc i) r l e h = end_item n items i r (omega arith) e h.1

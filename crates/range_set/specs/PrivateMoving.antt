@@ -25,13 +25,13 @@ pub record IsClearPlace (d : Changes) (p : ClearPlace) : Type 0 where
 abbrev pub IsClearWalk : ClearWalk → Type 0
 IsClearWalk w = (p : ClearPlace) → w.last ≡ Some p → IsClearPlace w.walker.desc p
 
--- ranges that count from a place: none ends before it starts, and each lies in a text of this length
+-- ranges that count from a place: none ends before it starts, and each ends within a text of this length and before 2 ^ 32
 abbrev pub AreWithin : {T : Type 0} → (len start : ℕ) → List (Ranged T) → Type 0
 AreWithin len start [] = Unit {0}
 AreWithin len start (r ∷ rs) = ((r.from ≤ r.to) × (r.to + start ≤ len) × (r.to + start < 2 ^ 32)) × AreWithin len start rs
 
--- The first of some ranges, which count from a place, were moved and put after a run, and the others were left. A count was raised by
--- one for each that was taken, at most.
+-- The first of some ranges, which count from a place, were moved or dropped, those that stay were put after a run, and the others were
+-- left. A count was raised by one for each that was taken, at most.
 pub record AreMoved {T : Type 0} (rules : RangeRules T) (d : Changes) (start : ℕ) (ranges rest old new : List (Ranged T)) (before after : ℕ) : Type 0 where
   pub taken : List (Ranged T)
   pub is : ranges ≡ taken ++ rest

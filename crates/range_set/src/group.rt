@@ -33,12 +33,6 @@ pub(crate) fn few_of(full: usize) -> usize {
     full / 4
 }
 
-/// The greatest number of chunks that a group which no change meets and the opened chunks before it may have to become one: three
-/// quarters of a full one, so that a few more don't part them again.
-pub(crate) fn joined_of(full: usize) -> usize {
-    full.saturating_sub(few_of(full))
-}
-
 /// Up to 64 chunks in order, whose places count from the start of the first range.
 #[derive(Drop)]
 pub(crate) struct Group<T> {

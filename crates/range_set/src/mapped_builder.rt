@@ -6,10 +6,10 @@ ghost use Rattle.stable_order.specs.StableSort.{stable_sort};
 
 use crate::chunk::{Chunk, MAX_RANGES};
 use crate::chunk_builder::ChunkBuilder;
-use crate::group::{Group, joined_of};
+use crate::group::Group;
 use crate::group_builder::GroupBuilder;
 use crate::group_list::GroupList;
-use crate::parts::reserve;
+use crate::parts::{joined_of, reserve};
 use crate::range_value::RangeValue;
 use crate::ranged::Ranged;
 use crate::sorting::put_sorted;

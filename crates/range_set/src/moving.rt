@@ -256,7 +256,7 @@ fn map_each<'a, T: RangeValue, L: Ledger>(
 
 /// Puts the first of some ranges, which count from the place `start`, after a run of others, each moved as far as the last clear place of
 /// a walk, and gives those that are left: from the first on that begins before that place, or ends at or after the start of the next
-/// replaced range, or is empty with an end side less than its start side. `Err`: out of memory.
+/// replaced range, or is empty with an end side less than its start side. No contract says how many are moved. `Err`: out of memory.
 fn move_clear<'b, T: RangeValue, L: Ledger>(
     alloc: Global,
     start: u32,

@@ -5,7 +5,7 @@ ghost use Rattle.range_set.specs.PrivatePages.{AreGrowing, ArePages, IsPage, fur
 use crate::group::PlacedGroup;
 use crate::group_list::GroupList;
 use crate::page::{MORE_GROUPS, Page, PlacedPage};
-use crate::parts::trim;
+use crate::parts::{joined_of, trim};
 use crate::range_value::RangeValue;
 use std::alloc::{AllocError, Global};
 use std::marker::Model;
@@ -78,8 +78,7 @@ impl<T: RangeValue> PageBuilder<T> {
     /// Whether a page of so many groups is to become one with the groups that are growing: whether there are any, and all of them
     /// fill at most three quarters of a full page. No contract speaks of this: it only decides which pages are shared.
     pub(crate) fn joins(&self, len: usize) -> bool {
-        !self.growing.is_empty()
-            && self.growing.len().saturating_add(len) <= self.full - self.full / 4
+        !self.growing.is_empty() && self.growing.len().saturating_add(len) <= joined_of(self.full)
     }
 
     /// Puts the groups of a page after the others, at a place of its own, and shares it. `Err`: out of memory.
@@ -105,7 +104,8 @@ impl<T: RangeValue> PageBuilder<T> {
     }
 }
 
-/// Puts a group after those that grow at the place `start`. `Err`: out of memory.
+/// Puts a group after those that grow at the place `start`: a function of its own, since what must be proved of this is long. `Err`: out
+/// of memory.
 fn grow<T: RangeValue>(
     growing: &mut Vec<PlacedGroup<T>>,
     start: u32,

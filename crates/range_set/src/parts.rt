@@ -20,6 +20,12 @@ pub(crate) fn part_len(len: usize, most: usize, few: usize) -> usize
     (parts - parts / 2) * most
 }
 
+/// The greatest number of items that two parts may have together to become one part, where so many make a part full: three quarters
+/// of them at most, so that a few more don't part them again. No contract speaks of it.
+pub(crate) fn joined_of(full: usize) -> usize {
+    (full / 4).saturating_mul(3)
+}
+
 /// Makes room for so many more items in a list: for as many as are expected, if those are more, where there are none yet. `Err`: out
 /// of memory.
 pub(crate) fn reserve<T>(list: &mut Vec<T>, more: usize, expected: usize) -> Result<(), AllocError>
