@@ -82,7 +82,7 @@ impl<I: Carried> FacetKey<I, Layers> {
     ghost use Rattle.typed_keys.specs.Keys.{KnowsFacet};
     ghost use Rattle.typed_keys.specs.Read.{layers_in};
 
-    /// The value of the facet, lent as it stands in the lookup: what `get` gives, without memory.
+    /// The value of the facet (Reference Manual, EditorState.facet), lent as it stands in the lookup: what `get` gives, without memory.
     pub fn layers<'a, L: Lookup>(&self, lookup: &'a L) -> &'a Layers
         requires known { KnowsFacet L.rules (L.facet_def lookup.now self.now.id) self.now }
         ensures { result.now ≡ layers_in (L.facet_value lookup.now self.now.id) }
