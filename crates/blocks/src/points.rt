@@ -1,4 +1,4 @@
-// Whether layers have more than marks: decorations that stand for what they cover.
+// Whether layers have a decoration other than a mark: one that stands for what it covers.
 ghost use Rattle.std.specs.Prelude.{◌≡◌};
 ghost use Rattle.blocks.specs.Points.{has_point, has_points};
 

@@ -10,11 +10,11 @@ use crate::section::Section;
 use std::alloc::{AllocError, Global};
 use std::marker::Model;
 
-/// How many sections a description has for which nothing is kept: a walk goes over so few as fast as a search finds a place.
+/// The greatest number of sections for which nothing is kept: a walk goes over so few as fast as a search finds a place.
 const FEW_SECTIONS: usize = 4;
 
 /// Where walks over a description may begin, so that each begins close to its first place: a binary search finds where. It takes
-/// memory for each section, where they aren't few. Contracts see the description.
+/// memory for each section where there are more than four, else none. Contracts see the description.
 #[derive(Drop)]
 pub struct PositionIndex<'a> {
     sections: &'a [Section<u32>],

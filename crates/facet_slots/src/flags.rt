@@ -1,4 +1,4 @@
-// The flags that were found so far.
+// Whether an input of a slot reads something that is flagged.
 ghost use Rattle.std.specs.Prelude.{◌≡◌, map, slice_get};
 ghost use Rattle.configuration.specs.Pairs.{reads_of};
 ghost use Rattle.facet_slots.specs.Flags.{any_flagged as any_flagged_of};

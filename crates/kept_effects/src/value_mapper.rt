@@ -8,7 +8,8 @@ use std::alloc::{AllocError, Global};
 use std::marker::Model;
 
 /// Maps the values of kept effects over changes: it looks places up in an index of the changes, so that a value takes the
-/// logarithm of their number. It takes memory for each section. Contracts see the description.
+/// logarithm of their number. It takes memory for each section where there are more than four, else none. Contracts see the
+/// description.
 #[derive(Drop)]
 pub struct ValueMapper<'a> {
     len: u32,

@@ -2,9 +2,10 @@
 //!
 //! `row` gives the cells that the window shows of a block's pieces, and counts that it did; `column_of` tells in which
 //! column of its block a place stands, and `place_in_line` the same of a line of which its characters alone are shown,
-//! where those up to the place tell it; `runs_of` cuts a row where its style changes. A layer above may rely on their
-//! exact results, on each row having exactly as many cells as the window has columns, and on its showing whole groups of
-//! cells, so that no wide cluster is half shown. Each character of a block stands in exactly one of these groups.
+//! where those up to the one after the place tell it; `runs_of` cuts a row where its style changes. A layer above may
+//! rely on their exact results, on each row having exactly as many cells as the window has columns, and on its showing
+//! whole groups of cells, so that no wide cluster is half shown. Each character of a block stands in exactly one of these
+//! groups.
 #![tactic(auto)]
 
 mod columns;

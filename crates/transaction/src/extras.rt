@@ -42,7 +42,7 @@ fn moved_selection(
 }
 
 /// One list after another.
-fn joined<T: Drop>(first: Listed<T>, second: Listed<T>) -> Result<Listed<T>, AllocError>
+fn appended<T: Drop>(first: Listed<T>, second: Listed<T>) -> Result<Listed<T>, AllocError>
     ensures { IfOk result (λ both. both ≡ first ++ second) }
 {
     let mut items = first.into_vec();
@@ -131,8 +131,8 @@ impl<V: Drop> Extras<V> {
     {
         Ok(Extras {
             selection: next.selection.or(self.selection),
-            effects: joined(self.effects, next.effects)?,
-            annotations: joined(self.annotations, next.annotations)?,
+            effects: appended(self.effects, next.effects)?,
+            annotations: appended(self.annotations, next.annotations)?,
             filter: self.filter && next.filter,
         })
     }
