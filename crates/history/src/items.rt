@@ -7,6 +7,9 @@ use crate::shared_item::SharedItem;
 use std::alloc::{AllocError, Global};
 use std::marker::Model;
 
+/// How many times as many items as a list has its chain may have that are cut off. No contract speaks of it.
+const MOST_CUT: usize = 4;
+
 /// Items, newest first: the newest of a chain, which other lists share. The oldest items of the chain may be cut off: a cut makes
 /// no link, since it leaves the chain as it is, and what is cut off stays in memory until `compact` makes the list a chain of its
 /// own. Contracts see the list of the items.
@@ -101,12 +104,13 @@ impl Items {
         }
     }
 
-    /// The same list, which gets a chain of its own where more items of its chain are cut off than it has. So no more items that
-    /// were cut off stay in memory than the list has, and no more links are made than items were cut off. `Err`: out of memory.
+    /// The same list, which gets a chain of its own where more than `MOST_CUT` times as many items of its chain are cut off as it has.
+    /// So at most so many times as many stay in memory that were cut off, and a link is made anew for `MOST_CUT` of them at most.
+    /// `Err`: out of memory.
     pub(crate) fn compact(self, alloc: Global) -> Result<Items, AllocError>
         ensures { IfOk result (λ same. same ≡ self) }
     {
-        if self.chain.len() - self.len <= self.len {
+        if self.chain.len() - self.len <= self.len.saturating_mul(MOST_CUT) {
             return Ok(self);
         }
         let items = self.shared_items(alloc)?;
