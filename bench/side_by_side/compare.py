@@ -3,10 +3,13 @@
 
 Usage: bench/side_by_side/compare.py [N ..]    1,000, 10,000 and 100,000 transactions where no number is given
 
-For each program and N the script prints how many transactions it makes in a second of processor time, from the least of
-three runs without what a run of one transaction takes (`-` where that is less than 10 milliseconds), and the most memory
-that it holds, in MiB. A program that isn't installed is left out, and the script says what to install. All programs must
-come to the same length and number of lines: the script ends with status 1 where they don't.
+The programs run in five rounds for each N. In a round each runs once, and then again and again, always the one that took least
+so far, until all took as much processor time as the slowest's first run: so each sees a machine whose speed changes at all of
+its speeds. For each program and N the script prints how many transactions it makes in a second of processor time, over all
+rounds, without what a run of one transaction takes (`-` where less than 10 milliseconds are left for a run); how many times as
+many `ccm` makes, and the least and the most of this among the rounds; and the most memory that it holds, in MiB. A program that
+isn't installed is left out, and the script says what to install. All programs must come to the same length and number of lines:
+the script ends with status 1 where they don't.
 
 CODEMIRROR (the path of codemirror.js), NODE and NVIM in the environment name others than the installed ones.
 """
@@ -27,7 +30,9 @@ CODEMIRRORS = (
     "/usr/share/javascript/codemirror/lib/codemirror.js",
     "/usr/share/nodejs/codemirror/lib/codemirror.js",
 )
-RUNS = 3
+ROUNDS = 5
+MOST_RUNS = 50  # of one program in a round
+SHORTEST = 0.01  # seconds of a run that tell a rate
 SECONDS = 600
 
 WHAT_EACH_DOES = """\
@@ -101,10 +106,73 @@ def counted(text):
     return int(length), int(lines)
 
 
-def least(peer, n):
-    """What a program came to, its least time in seconds and its least memory in MiB."""
-    runs = [run(peer.command(n)) for _ in range(RUNS)]
-    return counted(runs[0][0]), min(r[1] for r in runs), min(r[2] for r in runs)
+class Used:
+    """What the runs of one program for so many transactions took in a round."""
+
+    def __init__(self):
+        self.runs, self.seconds, self.memory, self.ends = 0, 0.0, 0.0, set()
+
+    def add(self, command):
+        out, seconds, memory = run(command)
+        self.runs += 1
+        self.seconds += seconds
+        self.memory = max(self.memory, memory)
+        self.ends.add(counted(out))
+
+    def a_run(self):
+        return self.seconds / self.runs
+
+
+def one_round(peers, n):
+    """What each program took, by its name, in a round in which all take about as long as the slowest."""
+    used = {peer.name: Used() for peer in peers}
+    for peer in peers:
+        used[peer.name].add(peer.command(n))
+    longest = max(u.seconds for u in used.values())
+    while True:
+        behind = [p for p in peers if used[p.name].seconds < longest and used[p.name].runs < MOST_RUNS]
+        if not behind:
+            return used
+        peer = min(behind, key=lambda p: used[p.name].seconds)
+        used[peer.name].add(peer.command(n))
+
+
+def rate(rounds, name, n, start):
+    """How many transactions a program makes in a second in some rounds, if its runs are long enough to tell."""
+    runs = sum(used[name].runs for used in rounds)
+    left = sum(used[name].seconds for used in rounds) - runs * start
+    return n * runs / left if left >= runs * SHORTEST else None
+
+
+def times(rounds, name, n, starts):
+    """How many times as many transactions `ccm` makes as a program, if their runs are long enough to tell."""
+    mine = rate(rounds, "ccm", n, starts["ccm"]) if "ccm" in starts else None
+    theirs = rate(rounds, name, n, starts[name])
+    return mine / theirs if mine and theirs else None
+
+
+def shown(number, form):
+    return "-" if number is None else format(number, form)
+
+
+def print_counts(peers, n, starts):
+    """Prints what the programs do for so many transactions, and gives what they came to."""
+    rounds = [one_round(peers, n) for _ in range(ROUNDS)]
+    ends = set()
+    for peer in peers:
+        name = peer.name
+        came_to = set().union(*(used[name].ends for used in rounds))
+        ends |= came_to
+        each = [times([used], name, n, starts) for used in rounds]
+        span = "-" if None in each else f"{min(each):.2f}-{max(each):.2f}"
+        length, lines = sorted(came_to)[0]
+        memory = max(used[name].memory for used in rounds)
+        print(
+            f"{name:14}{n:>12,}{shown(rate(rounds, name, n, starts[name]), ',.0f'):>12}"
+            f"{shown(times(rounds, name, n, starts), '.2f'):>8}{span:>14}{memory:>8.0f}{length:>10,}{lines:>8,}",
+            flush=True,
+        )
+    return ends
 
 
 def main():
@@ -116,21 +184,12 @@ def main():
     there = [peer for peer in peers if peer.command]
     if not there:
         raise SystemExit(1)
-    starts = {peer.name: least(peer, 1)[1] for peer in there}
-    same = True
-    print(f"{'':14}{'transactions':>14}{'a second':>14}{'MiB':>10}{'length':>12}{'lines':>10}")
-    for n in counts:
-        ends = set()
-        for peer in there:
-            end, seconds, memory = least(peer, n)
-            ends.add(end)
-            used = seconds - starts[peer.name]
-            rate = f"{n / used:,.0f}" if used >= 0.01 else "-"
-            print(f"{peer.name:14}{n:>14,}{rate:>14}{memory:>10.0f}{end[0]:>12,}{end[1]:>10,}", flush=True)
-        same = same and len(ends) == 1
+    starts = {name: used.a_run() for name, used in one_round(there, 1).items()}
+    print(f"{'':14}{'transactions':>12}{'a second':>12}{'ccm is':>8}{'in a round':>14}{'MiB':>8}{'length':>10}{'lines':>8}")
+    ends = [print_counts(there, n, starts) for n in counts]
     print()
     print(WHAT_EACH_DOES)
-    if not same:
+    if any(len(ends_of) != 1 for ends_of in ends):
         raise SystemExit("the programs came to different documents")
 
 
