@@ -15,7 +15,7 @@ use Rattle.range_set.specs.declared.page.Page.{Page}
 use Rattle.range_set.proofs.Chunks.{ascend-less, ascend-rest, greatest_shifted, length_shifted}
 use Rattle.range_set.proofs.Clear.{none-narrow}
 use Rattle.range_set.proofs.Groups.{begins, flat-spread, flat-spread_append, greatest-append, turned_any}
-use Rattle.range_set.proofs.Pages.{flat-further, hull_first, hull_others}
+use Rattle.range_set.proofs.Pages.{flat-further, hull_first, hull_others, some_group}
 use Rattle.range_set.proofs.Passing.{or_first_false, or_second_false}
 use Rattle.range_set.proofs.Walked.{ascend_hull}
 
@@ -37,6 +37,19 @@ module _ {T : Type 0} where
   pub fit_rest : (from to : ℕ) (changed : List ChangedRange) (gs hs : List (PlacedGroup T)) → FitCarried from to changed (gs ++ hs) → FitCarried from to changed hs
   fit_rest from to changed [] hs h = h
   fit_rest from to changed (g ∷ gs) hs h = fit_rest from to changed gs hs h.1
+
+  pub fit_first : (from to : ℕ) (changed : List ChangedRange) (gs hs : List (PlacedGroup T)) → FitCarried from to changed (gs ++ hs) → FitCarried from to changed gs
+  fit_first from to changed [] hs h = tt
+  fit_first from to changed (g ∷ gs) hs h = (h.0, fit_first from to changed gs hs h.1)
+
+  -- what was put after ranges of the first of some groups was put of all of them
+  pub shared_first : (from to : ℕ) (changed : List ChangedRange) (gs rest hs : List (PlacedGroup T)) (old new : List (Ranged T)) → AreShared from to changed gs rest old new → AreShared from to changed (gs ++ hs) (rest ++ hs) old new
+  shared_first from to changed gs rest hs old new h = record {
+    taken = h.taken;
+    is = ap (λ xs. xs ++ hs) h.is ∙ append_assoc h.taken rest hs;
+    apart = h.apart;
+    ranges = h.ranges;
+  }
 
   -- the first of some groups were put after ranges, and then more
   pub shared_on : (from to : ℕ) (changed : List ChangedRange) (gs mid_rest rest : List (PlacedGroup T)) (old mid new : List (Ranged T)) → AreShared from to changed gs mid_rest old mid → AreShared from to changed mid_rest rest mid new
@@ -135,10 +148,6 @@ module _ {T : Type 0} (rules : RangeRules T) where
       let b = greatest_shifted g.start (flat g.group.value.chunks.items) h.0.1 in
       let c = h.0.0.reach in
       omega (arith, here, more, a, b, c, s)
-
-  some_group : (gs : List (PlacedGroup T)) → 1 ≤ length (flat (spread gs)) → 1 ≤ length gs
-  some_group [] some = some
-  some_group (g ∷ gs) some = omega arith
 
   -- what a page gives that is the first of some groups, and that no replaced range meets from a place on
   pub record IsCarriedPage (from to start : ℕ) (page : Page T) (changed : List ChangedRange) (others : List (PlacedGroup T)) : Type 0 where

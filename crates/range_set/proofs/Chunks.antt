@@ -35,6 +35,9 @@ or_second x false t e h = e
 pub nonempty : (n len : ℕ) → (len == 0) ≡ false → len ≡ n → 1 ≤ n
 nonempty n len h e = grind (arith, nat_tests)
 
+pub none_left : (len : ℕ) → (len == 0) ≡ true → len ≡ 0
+none_left len h = grind (arith, nat_tests)
+
 pub rest_at : {X : Type 0} (xs : List X) (i : ℕ) (x : X) → i < length xs → x ≡ get_or xs i x → drop i xs ≡ x ∷ drop (i + 1) xs
 rest_at xs i x l e = at xs i x l e ∙ ap (λ n. x ∷ drop n xs) (sym (add-one i))
   where

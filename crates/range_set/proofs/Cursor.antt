@@ -6,14 +6,14 @@ use Rattle.std.specs.declared.rc.Rc.{Rc}
 use Rattle.range_set.specs.Rules.{RangeRules}
 use Rattle.range_set.specs.Points.{points_of}
 use Rattle.range_set.specs.PrivateChunks.{AreGroups, ArePassed, IsGroup, flat, move, shift, spread}
-use Rattle.range_set.specs.PrivatePages.{AreLast, ArePages, AreGroupsLeft, PlacesFirst, PlacesPage, further, laid}
+use Rattle.range_set.specs.PrivatePages.{AreLast, ArePages, AreGroupsLeft, PlacesFirst, PlacesOpened, PlacesPage, further, laid}
 use Rattle.range_set.specs.declared.chunk.Placed.{Placed}
 use Rattle.range_set.specs.declared.group.Group.{Group}
 use Rattle.range_set.specs.declared.group.PlacedGroup.{PlacedGroup}
 use Rattle.range_set.specs.declared.page.PlacedPage.{PlacedPage}
 use Rattle.range_set.proofs.Chunks.{end_by_greatest}
 use Rattle.range_set.proofs.Groups.{flat-spread_append, spread-append}
-use Rattle.range_set.proofs.Pages.{flat-further, no_groups, page_opened}
+use Rattle.range_set.proofs.Pages.{flat-further, no_groups, page_opened, some_group}
 use Rattle.range_set.proofs.Passing.{HaveNoPoint, no_points, passed_hull}
 
 module _ {T : Type 0} where
@@ -52,6 +52,17 @@ module _ {T : Type 0} (rules : RangeRules T) where
         },
         record { opened = opened.1; others = all.1 },
       )
+
+  -- the groups of the page that comes next
+  pub open_page : (base : ℕ) (groups : List (PlacedGroup T)) (pages : List (PlacedPage T)) (p : PlacedPage T) (ps : List (PlacedPage T)) → length groups ≡ 0 → pages ≡ p ∷ ps → AreGroupsLeft rules base groups pages
+      → PlacesOpened rules (map (further base) groups ++ laid pages) p.start p.page.value.groups.items ps
+  open_page base groups pages p ps none some h =
+      let all = subst (ArePages rules) some h.others in
+      record {
+        is = ap (λ hs. map (further base) hs ++ laid pages) (no_groups groups none) ∙ ap laid some;
+        left = record { opened = page_opened rules p.start p.page.value all.0.0; others = all.1 };
+        some = some_group p.page.value.groups.items all.0.1;
+      }
 
   -- the ranges of the page that comes next, and of the groups after it
   pub ranges_of_page : (groups : List (PlacedGroup T)) (p : PlacedPage T) (others : List (PlacedGroup T)) → PlacesPage rules groups p others

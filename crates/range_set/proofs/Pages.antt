@@ -51,6 +51,10 @@ module _ {T : Type 0} where
   laid_take ps i p l e = take_more ps i p l ∙ ap (λ x. take i ps ++ x ∷ []) (sym e)
 
   -- groups without chunks
+  pub some_group : (gs : List (PlacedGroup T)) → 1 ≤ length (flat (spread gs)) → 1 ≤ length gs
+  some_group [] some = some
+  some_group (g ∷ gs) some = omega arith
+
   pub no_groups : (gs : List (PlacedGroup T)) → length gs ≡ 0 → gs ≡ []
   no_groups [] h = refl
   no_groups (g ∷ gs) h = absurd (omega (arith, h))

@@ -116,7 +116,11 @@ impl<T: RangeValue> ChunkBuilder<T> {
             if placed.chunk.is_turned || first_meets(changed, from, end) {
                 return Ok(rest);
             }
-            self.share(start - from + to, &placed.chunk)?;
+            // What `share` does stands here once more: most chunks that are shared come by here, and a call costs as much as the work.
+            self.done.push(Placed {
+                start: start - from + to,
+                chunk: placed.chunk.clone()?,
+            })?;
             rest = others;
         }
         Ok(rest)

@@ -1,6 +1,6 @@
 ghost use Rattle.std.specs.Prelude.{IfOk, [], ◌++◌, ◌+◌, ◌≡◌, ◌≤◌, ◌<◌, ◌^◌, length, map};
 ghost use Rattle.change_desc.specs.Meeting.{BeginAfter, EndsAtOrAfter};
-ghost use Rattle.range_set.specs.PrivateChunks.{FitCarried, AreChunks, AreGroupsOf, AreShared, Ascend, IsGroup, flat, move, spread};
+ghost use Rattle.range_set.specs.PrivateChunks.{FitCarried, AreChunks, AreGroups, AreGroupsOf, AreShared, Ascend, IsGroup, flat, move, spread};
 ghost use Rattle.range_set.specs.PrivateBuilders.{IsGroupBuilder, grouped};
 ghost use Rattle.range_set.specs.PrivatePages.{IsPage, further};
 ghost use Rattle.range_set.specs.PrivateUpdates.{AreSharedBefore};
@@ -115,7 +115,7 @@ impl<T: RangeValue> GroupBuilder<T> {
         ensures ranges { IfOk result (λ _. grouped self.new ≡ grouped self.old ++ map (move start) group.now.value.chunks.items) }
     {
         let count = group.count;
-        self.done.push(PlacedGroup {
+        self.done.push_quick(PlacedGroup {
             start,
             group: group.clone()?,
         })?;
@@ -159,17 +159,45 @@ impl<T: RangeValue> GroupBuilder<T> {
         ensures shared { IfOk result (λ rest. AreShared from to changed.now groups.entry rest (flat (grouped self.old)) (flat (grouped self.new))) }
     {
         let mut rest = self.share_carried_pages(groups, from, to, changed)?;
-        while let Some((start, group, others)) = rest.split_first() {
-            let end = start + group.reach;
-            if group.is_turned || first_meets(changed, from, end) {
+        while let Some((base, opened, pages)) = rest.open() {
+            let left = self.share_carried_groups(opened, base, from, to, changed)?;
+            if !left.is_empty() {
+                return Ok(GroupCursor::at(base, left, pages));
+            }
+            rest = self.share_carried_pages(GroupCursor::over(pages), from, to, changed)?;
+        }
+        Ok(rest)
+    }
+
+    /// Shares the first groups as `share_carried` does, of groups of a page, which count from the place `base`, one by one, and gives the
+    /// others. `Err`: out of memory.
+    fn share_carried_groups<'a>(
+        &mut self,
+        groups: &'a [PlacedGroup<T>],
+        base: u32,
+        from: u32,
+        to: u32,
+        changed: &[ChangedRange],
+    ) -> Result<&'a [PlacedGroup<T>], AllocError>
+        requires builder { IsGroupBuilder T.rules self.old }
+        requires groups { AreGroups T.rules (map (further base) groups.now) }
+        requires ascend { Ascend from (flat (spread (map (further base) groups.now))) }
+        requires fits { FitCarried from to changed.now (map (further base) groups.now) }
+        requires order { BeginAfter 0 changed.now }
+        requires first { EndsAtOrAfter from changed.now }
+        requires room { length (flat (grouped self.old)) + length (flat (spread (map (further base) groups.now))) < 2 ^ 64 }
+        ensures builder { IfOk result (λ _. IsGroupBuilder T.rules self.new) }
+        ensures shared { IfOk result (λ rest. AreShared from to changed.now (map (further base) groups.now) (map (further base) rest.now) (flat (grouped self.old)) (flat (grouped self.new))) }
+    {
+        let mut rest = groups;
+        while let Some((placed, others)) = rest.split_first() {
+            let start = placed.start + base;
+            let end = start + placed.group.reach;
+            if placed.group.is_turned || first_meets(changed, from, end) {
                 return Ok(rest);
             }
-            self.share(start - from + to, group)?;
-            rest = if others.begins_page() {
-                self.share_carried_pages(others, from, to, changed)?
-            } else {
-                others
-            };
+            self.share(start - from + to, &placed.group)?;
+            rest = others;
         }
         Ok(rest)
     }

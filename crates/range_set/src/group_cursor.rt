@@ -1,7 +1,7 @@
-ghost use Rattle.std.specs.Prelude.{IfSome, IsTrue, None, [], ◌≡◌};
+ghost use Rattle.std.specs.Prelude.{IfSome, IsTrue, None, [], ◌++◌, ◌≡◌, map};
 ghost use Rattle.range_set.specs.Points.{points_of};
 ghost use Rattle.range_set.specs.PrivateChunks.{ArePassed, flat, spread};
-ghost use Rattle.range_set.specs.PrivatePages.{AreLast, ArePages, NextBegins, PlacesFirst, PlacesPage, laid};
+ghost use Rattle.range_set.specs.PrivatePages.{AreGroupsLeft, AreLast, ArePages, NextBegins, PlacesFirst, PlacesOpened, PlacesPage, further, laid};
 
 use crate::group::{Group, PlacedGroup};
 use crate::page::PlacedPage;
@@ -39,6 +39,22 @@ impl<'a, T: RangeValue> GroupCursor<'a, T> {
         GroupCursor {
             base: 0,
             groups: &[],
+            pages,
+        }
+    }
+
+    /// The place before some groups of a page, which count from the place `base`, and the pages after it.
+    pub(crate) fn at(
+        base: u32,
+        groups: &'a [PlacedGroup<T>],
+        pages: &'a [PlacedPage<T>],
+    ) -> GroupCursor<'a, T>
+        requires { AreGroupsLeft T.rules base groups.now pages.now }
+        ensures { result ≡ map (further base) groups.now ++ laid pages.now }
+    {
+        GroupCursor {
+            base,
+            groups,
             pages,
         }
     }
@@ -99,9 +115,16 @@ impl<'a, T: RangeValue> GroupCursor<'a, T> {
         Some((placed, GroupCursor::over(others)))
     }
 
-    /// Whether it stands before a page. No contract speaks of this: it only decides what is shared as a whole.
-    pub(crate) fn begins_page(&self) -> bool {
-        self.groups.is_empty()
+    /// The next groups up to the end of their page, the place from which they count, and the pages after it.
+    pub(crate) fn open(&self) -> Option<(u32, &'a [PlacedGroup<T>], &'a [PlacedPage<T>])>
+        ensures some { IfSome result (λ x. PlacesOpened T.rules self.now x.0 x.1.now x.2.now) }
+        ensures none { result ≡ None → self.now ≡ [] }
+    {
+        if !self.groups.is_empty() {
+            return Some((self.base, self.groups, self.pages));
+        }
+        let (placed, others) = self.pages.split_first()?;
+        Some((placed.start, placed.page.groups.as_slice(), others))
     }
 
     /// Whether a group follows that begins before a place. No contract says so of one that follows: it only decides what is shared.

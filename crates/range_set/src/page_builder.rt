@@ -65,14 +65,36 @@ impl<T: RangeValue> PageBuilder<T> {
         ensures { IfOk result (λ _. self.new ≡ self.old ++ placed ∷ []) }
     {
         // Groups come in order, so none begins before the growing page: this is asked so that no contract needs to say it.
-        if self.growing.len() >= self.full || placed.start < self.start {
-            seal(&mut self.done, self.start, &mut self.growing)?;
+        if !self.growing.is_empty()
+            && (self.growing.len() >= self.full || placed.start < self.start)
+        {
+            make_page(&mut self.done, self.start, &mut self.growing)?;
         }
         if self.growing.is_empty() {
             self.growing.reserve_exact(self.room)?;
             self.start = placed.start;
         }
         grow(&mut self.growing, self.start, placed)
+    }
+
+    /// Does what `push` does, and is short where no page begins and the list of the growing one has room: for loops over many groups.
+    /// `Err`: out of memory.
+    pub(crate) fn push_quick(&mut self, placed: PlacedGroup<T>) -> Result<(), AllocError>
+        requires group { IsGroup T.rules placed.start placed.group.value }
+        requires some { 1 ≤ length (flat placed.group.value.chunks.items) }
+        requires room { length (flat (spread self.old)) + length (flat placed.group.value.chunks.items) < 2 ^ 64 }
+        ensures { IfOk result (λ _. self.new ≡ self.old ++ placed ∷ []) }
+    {
+        let len = self.growing.len();
+        if len == 0
+            || len >= self.full
+            || len >= self.growing.capacity()
+            || placed.start < self.start
+        {
+            return self.push(placed);
+        }
+        self.growing.push_reserved(placed);
+        Ok(())
     }
 
     /// Whether a page of so many groups is to become one with the groups that are growing: whether there are any, and all of them
@@ -141,6 +163,23 @@ fn seal<T: RangeValue>(
     if growing.is_empty() {
         return Ok(());
     }
+    make_page(done, start, growing)
+}
+
+/// Makes a page of the groups that grow at the place `start`, and begins a list without groups. `Err`: out of memory.
+fn make_page<T: RangeValue>(
+    done: &mut Vec<PlacedPage<T>>,
+    start: u32,
+    growing: &mut Vec<PlacedGroup<T>>,
+) -> Result<(), AllocError>
+    requires pages { ArePages T.rules done.old.items }
+    requires growing { AreGrowing T.rules start growing.old.items }
+    requires some { 1 ≤ length growing.old.items }
+    ensures pages { ArePages T.rules done.new.items }
+    ensures groups { IfOk result (λ _. laid done.new.items ≡ laid done.old.items ++ growing.old.items) }
+    ensures growing { AreGrowing T.rules start growing.new.items }
+    ensures empty { IfOk result (λ _. growing.new.items ≡ []) }
+{
     let alloc = *done.allocator();
     let mut groups = mem::replace(growing, Vec::new(alloc));
     trim(&mut groups);

@@ -1,11 +1,12 @@
-use Rattle.std.proofs.Common.{◌+◌, map, ap, sym, subst, ◌∙◌}
+use Rattle.std.proofs.Common.{◌+◌, ◌-◌, ◌++◌, ◌≤◌, length, map, ap, sym, subst, ◌∙◌}
 use Rattle.std.specs.List.{list_any}
 use Rattle.change_desc.specs.Ranges.{meets}
-use Rattle.range_set.specs.PrivateChunks.{FitCarriedChunks, AreChunks, AreChunksShared, Ascend, flat, move}
+use Rattle.range_set.specs.PrivateChunks.{FitCarriedChunks, AreChunks, AreChunksShared, Ascend, IsChunk, flat, move, shift}
 use Rattle.range_set.specs.PrivateBuilders.{built}
 use Rattle.range_set.specs.declared.chunk.Chunk.{Chunk}
 use Rattle.range_set.proofs.Carried.{chunks_shared_more}
-use Rattle.range_set.proofs.Chunks.{ascend-less}
+use Rattle.range_set.proofs.Chunks.{AreChunks-push, ascend-less, flat-push}
+use Rattle.range_set.proofs.Groups.{chunk_placed}
 use Rattle.range_set.proofs.Walked.{ascend_hull}
 use Rattle.range_set.proofs.chunk_builder.ChunkBuilder.share_carried.Goals as goal
 
@@ -24,11 +25,20 @@ loop-placed-preserved g c =
     let hull = ascend_hull from p.start p.chunk.value.ranges.items (flat others) chunks.0.1 chunks.0.0.first ascend in
     let turned = sym (ap (λ (x : Chunk g.row.T.Denot). x.is_turned) c.deref-in-Some.ensures) ∙ c.if-deref.false in
     let met = ap (λ (x : Chunk g.row.T.Denot). list_any (meets from (p.start + x.reach)) c.args.changed.now) (sym c.deref.ensures) ∙ (sym c.first_meets.ensures ∙ c.if-first_meets.false) in
+    let fits = (subst (FitCarriedChunks from to c.args.changed.now) is at.fits).0 met in
+    let place = p.start - from + to in
+    let value = c.in_ok-clone.ensures.cases in
+    let here = chunk_placed rules p.start place p.chunk.value chunks.0.0 fits in
     record {
-      builder = c.in_ok-share.ensures.builder;
+      builder = record {
+        chunks = rw c.in_ok-push.ensures.items (AreChunks-push rules c.loop-placed.self.done.items _ at.builder.chunks
+            (subst (IsChunk rules place) (sym value) here) (subst (λ (ch : Chunk g.row.T.Denot). 1 ≤ length ch.ranges.items) (sym value) chunks.0.1));
+      };
       chunks = chunks.1;
       ascend = ascend-less from p.start (flat others) hull.0 hull.1;
       fits = (subst (FitCarriedChunks from to c.args.changed.now) is at.fits).1;
       shared = chunks_shared_more from to c.args.changed.now (map (move base) c.args.chunks.now) p others (built c.args.self.now) (built c.loop-placed.self) _
-          (subst (λ ps. AreChunksShared from to c.args.changed.now (map (move base) c.args.chunks.now) ps (built c.args.self.now) (built c.loop-placed.self)) is at.shared) turned met c.in_ok-share.ensures.ranges;
+          (subst (λ ps. AreChunksShared from to c.args.changed.now (map (move base) c.args.chunks.now) ps (built c.args.self.now) (built c.loop-placed.self)) is at.shared) turned met
+          (ap flat c.in_ok-push.ensures.items ∙ (flat-push c.loop-placed.self.done.items _
+          ∙ ap (λ (ch : Chunk g.row.T.Denot). built c.loop-placed.self ++ map (shift place) ch.ranges.items) value));
     }

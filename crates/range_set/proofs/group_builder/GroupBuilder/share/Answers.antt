@@ -6,8 +6,8 @@ use Rattle.range_set.proofs.Builders.{grown_one}
 use Rattle.range_set.proofs.Groups.{spread-push}
 use Rattle.range_set.proofs.group_builder.GroupBuilder.share.Goals as goal
 
-pub push-requires : goal.push-requires
-push-requires g c =
+pub push_quick-requires : goal.push_quick-requires
+push_quick-requires g c =
     let rules = g.T.RangeValue.rules in
     let is = sym c.in_ok-clone.ensures.cases in
     record {
@@ -23,7 +23,7 @@ returns-clause-builder g c =
     let n = ap (λ (x : Group g.row.T.Denot). x.count) c.deref.ensures in
     let k = ap (λ (x : Group g.row.T.Denot). length (flat x.chunks.items)) is in
     let count = c.requires.group.count in
-    grown_one rules c.args.self.now _ _ c.deref.result.now.count c.requires.builder c.in_ok-push.ensures refl refl (omega (arith, n, k, count))
+    grown_one rules c.args.self.now _ _ c.deref.result.now.count c.requires.builder c.in_ok-push_quick.ensures refl refl (omega (arith, n, k, count))
     (subst (IsGroup rules c.args.start) is c.requires.group)
     (subst (λ (x : Group g.row.T.Denot). 1 ≤ length (flat x.chunks.items)) is c.requires.some)
     (subst (λ (x : Group g.row.T.Denot). length (flat (grouped c.args.self.now)) + length (flat x.chunks.items) < 2 ^ 64) is c.requires.room)
@@ -31,5 +31,5 @@ returns-clause-builder g c =
 pub returns-clause-ranges : goal.returns-clause-ranges
 returns-clause-ranges g c =
     let old = c.args.self.now in
-    ap spread c.in_ok-push.ensures
+    ap spread c.in_ok-push_quick.ensures
     ∙ (spread-push old.done _ ∙ ap (λ (x : Group g.row.T.Denot). grouped old ++ map (move c.args.start) x.chunks.items) c.in_ok-clone.ensures.cases)

@@ -1,19 +1,16 @@
-use Rattle.std.proofs.Common.{◌+◌, ◌<◌, ◌^◌, length, map, ap, sym, subst, ◌∙◌, arith}
+use Rattle.std.proofs.Common.{◌+◌, ◌<◌, ◌^◌, ◌++◌, length, map, ap, sym, subst, ◌∙◌, arith}
 use Rattle.std.proofs.lemmas.List.{length-append}
-use Rattle.std.specs.List.{list_any}
-use Rattle.change_desc.specs.Ranges.{meets}
-use Rattle.range_set.specs.PrivateChunks.{Ascend, flat, shift, spread}
+use Rattle.range_set.specs.PrivateChunks.{AreGroups, AreShared, Ascend, FitCarried, flat, spread}
 use Rattle.range_set.specs.PrivateBuilders.{grouped}
-use Rattle.range_set.specs.declared.group.Group.{Group}
-use Rattle.range_set.specs.declared.group.PlacedGroup.{PlacedGroup}
-use Rattle.range_set.proofs.Carried.{shared_group}
-use Rattle.range_set.proofs.CarriedPages.{left_shared, shared_on}
-use Rattle.range_set.proofs.Chunks.{length_shifted}
-use Rattle.range_set.proofs.Groups.{begins, flat-spread}
+use Rattle.range_set.specs.PrivatePages.{further, laid}
+use Rattle.range_set.proofs.CarriedPages.{fit_first, left_shared, shared_first, shared_on}
+use Rattle.range_set.proofs.Chunks.{ascend-prefix, none_left}
+use Rattle.range_set.proofs.Groups.{flat-spread_append, groups_right}
+use Rattle.range_set.proofs.Pages.{no_groups}
 use Rattle.range_set.proofs.group_builder.GroupBuilder.share_carried.Goals as goal
 
-pub loop-start-init : goal.loop-start-init
-loop-start-init g c =
+pub loop-base-init : goal.loop-base-init
+loop-base-init g c =
     let from = c.args.from in
     let to = c.args.to in
     let changed = c.args.changed.now in
@@ -32,83 +29,94 @@ loop-start-init g c =
       shared = shared;
     }
 
-pub overflow_sub-start : goal.overflow_sub-start
-overflow_sub-start g c =
-    let p : PlacedGroup g.row.T.Denot = record { start = c.in-Some.start; group = c.in-Some.group.now } in
+pub share_carried_groups-requires : goal.share_carried_groups-requires
+share_carried_groups-requires g c =
+    let from = c.args.from in
+    let at = c.loop-base.invariant in
     let next = c.in-Some.ensures.some in
-    let ascend = subst (λ gs. Ascend c.args.from (flat (spread gs))) next.is c.loop-start.invariant.ascend in
-    begins p.start c.args.from (flat p.group.value.chunks.items) (flat (spread c.in-Some.others)) next.some next.first.first (subst (Ascend c.args.from) (flat-spread p c.in-Some.others) ascend)
+    let opened = map (further c.in-Some.base) c.in-Some.opened.now in
+    let others = laid c.in-Some.pages.now in
+    let parts = flat-spread_append opened others in
+    let n = ap length parts ∙ length-append (flat (spread opened)) (flat (spread others)) in
+    let room = subst (λ gs. length (flat (grouped c.loop-base.self)) + length (flat (spread gs)) < 2 ^ 64) next.is at.room in
+    record {
+      builder = at.builder;
+      groups = next.left.opened;
+      ascend = ascend-prefix from (flat (spread opened)) (flat (spread others)) (subst (Ascend from) parts (subst (λ gs. Ascend from (flat (spread gs))) next.is at.ascend));
+      fits = fit_first from c.args.to c.args.changed.now opened others (subst (FitCarried from c.args.to c.args.changed.now) next.is at.fits);
+      order = c.requires.order;
+      first = c.requires.first;
+      room = omega (arith, n, room);
+    }
 
-pub share-requires-clause-room : goal.share-requires-clause-room
-share-requires-clause-room g c =
-    let p : PlacedGroup g.row.T.Denot = record { start = c.in-Some.start; group = c.in-Some.group.now } in
-    let others = c.in-Some.others in
-    let room = subst (λ gs. length (flat (grouped c.loop-start.self)) + length (flat (spread gs)) < 2 ^ 64) c.in-Some.ensures.some.is c.loop-start.invariant.room in
-    let n = ap length (flat-spread p others) ∙ length-append (map (shift p.start) (flat p.group.value.chunks.items)) (flat (spread others)) in
-    let m = length_shifted g.T.RangeValue.rules p.start (flat p.group.value.chunks.items) in
-    omega (arith, room, n, m)
+pub at-requires : goal.at-requires
+at-requires g c =
+    let left = c.in-Some.ensures.some.left in
+    let one = c.in_ok-left.ensures.shared in
+    record {
+      opened = groups_right g.T.RangeValue.rules one.taken (map (further c.in-Some.base) c.in_ok-left.left.now) (subst (AreGroups g.T.RangeValue.rules) one.is left.opened);
+      others = left.others;
+    }
 
-pub share_carried_pages-requires-then-begins_page : goal.share_carried_pages-requires-then-begins_page
-share_carried_pages-requires-then-begins_page g c =
+pub returns-then-not-is_empty-clause-shared : goal.returns-then-not-is_empty-clause-shared
+returns-then-not-is_empty-clause-shared g c =
     let from = c.args.from in
     let to = c.args.to in
     let changed = c.args.changed.now in
-    let p : PlacedGroup g.row.T.Denot = record { start = c.in-Some.start; group = c.in-Some.group.now } in
-    let at = c.loop-start.invariant in
-    let turned = sym (ap (λ (x : Group g.row.T.Denot). x.is_turned) c.deref-in-Some.ensures) ∙ c.if-deref.false in
-    let met = ap (λ (x : Group g.row.T.Denot). list_any (meets from (p.start + x.reach)) changed) (sym c.deref.ensures) ∙ (sym c.first_meets.ensures ∙ c.if-first_meets.false) in
-    let one = shared_group from to changed c.loop-start.rest p c.in-Some.others (grouped c.loop-start.self) (grouped c.share.new.self) c.in-Some.ensures.some.is turned met c.in_ok-share.ensures.ranges in
-    let left = left_shared g.T.RangeValue.rules from to changed _ _ _ _ one at.ascend at.fits in
-    let n = left.room in
-    let most = at.room in
+    let next = c.in-Some.ensures.some in
+    let left = map (further c.in-Some.base) c.in_ok-left.left.now in
+    let others = laid c.in-Some.pages.now in
+    let mid = flat (grouped c.loop-base.self) in
+    let new = flat (grouped c.share_carried_groups.new.self) in
+    let wide = subst (λ gs. AreShared from to changed gs (left ++ others) mid new) (sym next.is) (shared_first from to changed (map (further c.in-Some.base) c.in-Some.opened.now) left others mid new c.in_ok-left.ensures.shared) in
+    shared_on from to changed _ _ _ _ _ _ c.loop-base.invariant.shared (subst (λ gs. AreShared from to changed c.loop-base.rest gs mid new) (sym c.at.ensures) wide)
+
+pub share_carried_pages-requires-in-Some : goal.share_carried_pages-requires-in-Some
+share_carried_pages-requires-in-Some g c =
+    let from = c.args.from in
+    let to = c.args.to in
+    let changed = c.args.changed.now in
+    let next = c.in-Some.ensures.some in
+    let left = map (further c.in-Some.base) c.in_ok-left.left.now in
+    let others = laid c.in-Some.pages.now in
+    let mid = flat (grouped c.loop-base.self) in
+    let new = flat (grouped c.share_carried_groups.new.self) in
+    let wide = subst (λ gs. AreShared from to changed gs (left ++ others) mid new) (sym next.is) (shared_first from to changed (map (further c.in-Some.base) c.in-Some.opened.now) left others mid new c.in_ok-left.ensures.shared) in
+    let none = ap (λ gs. map (further c.in-Some.base) gs ++ others) (no_groups c.in_ok-left.left.now (none_left _ (sym c.is_empty.ensures ∙ c.if-not-is_empty.false))) in
+    let page = subst (λ gs. AreShared from to changed c.loop-base.rest gs mid new) (none ∙ sym c.over.ensures) wide in
+    let after = left_shared g.T.RangeValue.rules from to changed _ _ _ _ page c.loop-base.invariant.ascend c.loop-base.invariant.fits in
+    let n = after.room in
+    let most = c.loop-base.invariant.room in
     record {
-      builder = c.in_ok-share.ensures.builder;
-      ascend = left.ascend;
-      fits = left.fits;
+      builder = c.in_ok-left.ensures.builder;
+      ascend = after.ascend;
+      fits = after.fits;
       order = c.requires.order;
       first = c.requires.first;
       room = omega (arith, n, most);
     }
 
-pub loop-start-preserved : goal.loop-start-preserved
-loop-start-preserved g c =
+pub loop-base-preserved : goal.loop-base-preserved
+loop-base-preserved g c =
     let from = c.args.from in
     let to = c.args.to in
     let changed = c.args.changed.now in
-    let p : PlacedGroup g.row.T.Denot = record { start = c.in-Some.start; group = c.in-Some.group.now } in
-    let at = c.loop-start.invariant in
-    let turned = sym (ap (λ (x : Group g.row.T.Denot). x.is_turned) c.deref-in-Some.ensures) ∙ c.if-deref.false in
-    let met = ap (λ (x : Group g.row.T.Denot). list_any (meets from (p.start + x.reach)) changed) (sym c.deref.ensures) ∙ (sym c.first_meets.ensures ∙ c.if-first_meets.false) in
-    let one = shared_group from to changed c.loop-start.rest p c.in-Some.others (grouped c.loop-start.self) (grouped c.share.new.self) c.in-Some.ensures.some.is turned met c.in_ok-share.ensures.ranges in
-    let left = left_shared g.T.RangeValue.rules from to changed _ _ _ _ one at.ascend at.fits in
-    let n = left.room in
-    let most = at.room in
-    record {
-      builder = c.in_ok-share.ensures.builder;
-      ascend = left.ascend;
-      fits = left.fits;
-      room = omega (arith, n, most);
-      shared = shared_on from to changed _ _ _ _ _ _ at.shared one;
-    }
-
-pub loop-start-preserved-in_ok-rest-2 : goal.loop-start-preserved-in_ok-rest-2
-loop-start-preserved-in_ok-rest-2 g c =
-    let from = c.args.from in
-    let to = c.args.to in
-    let changed = c.args.changed.now in
-    let p : PlacedGroup g.row.T.Denot = record { start = c.in-Some.start; group = c.in-Some.group.now } in
-    let at = c.loop-start.invariant in
-    let turned = sym (ap (λ (x : Group g.row.T.Denot). x.is_turned) c.deref-in-Some.ensures) ∙ c.if-deref.false in
-    let met = ap (λ (x : Group g.row.T.Denot). list_any (meets from (p.start + x.reach)) changed) (sym c.deref.ensures) ∙ (sym c.first_meets.ensures ∙ c.if-first_meets.false) in
-    let one = shared_group from to changed c.loop-start.rest p c.in-Some.others (grouped c.loop-start.self) (grouped c.share.new.self) c.in-Some.ensures.some.is turned met c.in_ok-share.ensures.ranges in
-    let two = shared_on from to changed _ _ _ _ _ _ one c.in_ok-rest-2.ensures.shared in
-    let left = left_shared g.T.RangeValue.rules from to changed _ _ _ _ two at.ascend at.fits in
-    let n = left.room in
-    let most = at.room in
+    let next = c.in-Some.ensures.some in
+    let left = map (further c.in-Some.base) c.in_ok-left.left.now in
+    let others = laid c.in-Some.pages.now in
+    let mid = flat (grouped c.loop-base.self) in
+    let new = flat (grouped c.share_carried_groups.new.self) in
+    let wide = subst (λ gs. AreShared from to changed gs (left ++ others) mid new) (sym next.is) (shared_first from to changed (map (further c.in-Some.base) c.in-Some.opened.now) left others mid new c.in_ok-left.ensures.shared) in
+    let none = ap (λ gs. map (further c.in-Some.base) gs ++ others) (no_groups c.in_ok-left.left.now (none_left _ (sym c.is_empty.ensures ∙ c.if-not-is_empty.false))) in
+    let page = subst (λ gs. AreShared from to changed c.loop-base.rest gs mid new) (none ∙ sym c.over.ensures) wide in
+    let all = shared_on from to changed _ _ _ _ _ _ page c.in_ok-rest-2.ensures.shared in
+    let after = left_shared g.T.RangeValue.rules from to changed _ _ _ _ all c.loop-base.invariant.ascend c.loop-base.invariant.fits in
+    let n = after.room in
+    let most = c.loop-base.invariant.room in
     record {
       builder = c.in_ok-rest-2.ensures.builder;
-      ascend = left.ascend;
-      fits = left.fits;
+      ascend = after.ascend;
+      fits = after.fits;
       room = omega (arith, n, most);
-      shared = shared_on from to changed _ _ _ _ _ _ at.shared two;
+      shared = shared_on from to changed _ _ _ _ _ _ c.loop-base.invariant.shared all;
     }
