@@ -1,5 +1,5 @@
 -- Where places go that no replaced range overlaps or touches.
-use Rattle.std.proofs.Common.{◌≡◌, ℕ, zero, suc, ◌+◌, ◌-◌, ◌<◌, ◌≤◌, Bool, true, false, ◌&&◌, ◌||◌, cond, leb, ltb, List, [], ◌∷◌, Option, Some, None, ◌⊎◌, inl, inr, refl, sym, ap, ◌∙◌, subst, arith}
+use Rattle.std.proofs.Common.{◌≡◌, ℕ, zero, suc, ◌+◌, ◌-◌, ◌<◌, ◌≤◌, Bool, true, false, ◌&&◌, ◌||◌, cond, leb, ltb, not, List, [], ◌∷◌, Option, Some, None, ◌⊎◌, inl, inr, refl, sym, ap, ◌∙◌, subst, arith}
 use Rattle.std.proofs.lemmas.Bool.Decides.{nat_tests}
 use Rattle.std.specs.List.{list_any}
 use Rattle.change_desc.specs.declared.section.Section.{Section}
@@ -34,6 +34,18 @@ or_right true b h = cc
 both_false : (a b : Bool) → a ≡ false → b ≡ false → (a || b) ≡ false
 both_false false b h k = k
 both_false true b h k = cc
+
+-- what a clear place carries begins at it or after it, and none meets what is from it on
+pub carried_parts : (a b : ℕ) (met : Bool) → (leb a b && not met) ≡ true → (a ≤ b) × (met ≡ false)
+carried_parts a b met h = (from met h, clear met h)
+  where
+    from : (met : Bool) → (leb a b && not met) ≡ true → a ≤ b
+    from true h = grind (arith, nat_tests)
+    from false h = grind (arith, nat_tests)
+
+    clear : (met : Bool) → (leb a b && not met) ≡ true → met ≡ false
+    clear true h = grind (arith, nat_tests)
+    clear false h = refl
 
 -- a narrower range meets less
 meets-narrow : (a b c d : ℕ) (r : ChangedRange) → a ≤ c → d ≤ b → meets a b r ≡ false → meets c d r ≡ false

@@ -1,4 +1,4 @@
-ghost use Rattle.std.specs.Prelude.{◌≡◌, ◌≤◌, ◌<◌, ◌^◌, ℕ, false, true};
+ghost use Rattle.std.specs.Prelude.{◌&&◌, ◌+◌, ◌-◌, ◌≡◌, ◌≤◌, ◌<◌, ◌^◌, ℕ, false, nat_le, not, true};
 ghost use Rattle.std.specs.List.{list_any};
 ghost use Rattle.change_desc.specs.Meeting.{BeginAfter, EndsAtOrAfter};
 ghost use Rattle.change_desc.specs.Places.{place_after};
@@ -15,6 +15,27 @@ pub(crate) struct ClearPlace<'a> {
     pub(crate) from: u32,
     pub(crate) to: u32,
     pub(crate) changed: &'a [ChangedRange],
+}
+
+impl ClearPlace<'_> {
+    /// Whether what lies from one place to another goes as far as this one: it begins here or after it, and no replaced range meets
+    /// what is from here to its end.
+    pub(crate) fn carries(&self, from: u32, to: u32) -> bool
+        requires order { BeginAfter 0 self.now.changed.now }
+        requires first { EndsAtOrAfter self.now.from self.now.changed.now }
+        ensures { result ≡ (nat_le self.now.from from && not (list_any (meets self.now.from to) self.now.changed.now)) }
+    {
+        self.from <= from && !first_meets(self.changed, self.from, to)
+    }
+
+    /// Where a place goes that this one carries.
+    pub(crate) fn carry(&self, pos: u32) -> u32
+        requires after { self.now.from ≤ pos }
+        requires fits { self.now.to + (pos - self.now.from) < 2 ^ 32 }
+        ensures { result ≡ self.now.to + (pos - self.now.from) }
+    {
+        self.to + (pos - self.from)
+    }
 }
 
 /// A walk over changes that keeps the last place that it looked for in them and that no replaced range meets: all from it up to the
@@ -54,8 +75,8 @@ impl<'a> ClearWalk<'a> {
         ensures reached { self.new.walker.reached ≤ pos }
     {
         if let Some(last) = &self.last {
-            if last.from <= pos && !first_meets(last.changed, last.from, pos) {
-                return last.to + (pos - last.from);
+            if last.carries(pos, pos) {
+                return last.carry(pos);
             }
         }
         let to = self.walker.place_after(pos, -1);

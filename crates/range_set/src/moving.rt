@@ -278,14 +278,14 @@ fn move_clear<'b, T: RangeValue, L: Ledger>(
     while let Some((range, others)) = rest.split_first() {
         let from = range.from + start;
         let to = range.to + start;
-        if from < last.from || range.is_turned() || first_meets(last.changed, last.from, to) {
+        if !last.carries(from, to) || range.is_turned() {
             return Ok(rest);
         }
         mapped.tick();
         let value = range.value.try_copy(alloc)?;
         run.push(Ranged {
-            from: last.to + (from - last.from),
-            to: last.to + (to - last.from),
+            from: last.carry(from),
+            to: last.carry(to),
             value,
         })?;
         rest = others;

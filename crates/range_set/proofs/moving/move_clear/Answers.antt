@@ -2,36 +2,39 @@ use Rattle.std.proofs.Common.{◌+◌, ◌-◌, List, Some, ap, subst, sym, ◌�
 use Rattle.change_desc.specs.Sections.{old_size}
 use Rattle.range_set.specs.PrivateMoving.{AreMoved, AreWithin}
 use Rattle.range_set.specs.declared.ranged.Ranged.{Ranged}
+use Rattle.range_set.proofs.Clear.{carried_parts}
 use Rattle.range_set.proofs.MovedRuns.{goes_along, moved_more}
 use Rattle.range_set.proofs.moving.move_clear.Goals as goal
 
-pub first_meets-requires-clause-first : goal.first_meets-requires-clause-first
-first_meets-requires-clause-first g c = (c.requires.walk c.in-Some.last c.in-Some.is).first
+pub carries-requires-clause-first : goal.carries-requires-clause-first
+carries-requires-clause-first g c = (c.requires.walk c.in-Some.last c.in-Some.is).first
 
-pub overflow_add-last : goal.overflow_add-last
-overflow_add-last g c =
+pub carry-requires-clause-fits : goal.carry-requires-clause-fits
+carry-requires-clause-fits g c =
     let rules = g.T.RangeValue.rules in
     let d = c.args.walk.now.walker.desc in
     let start = c.args.start in
     let p = c.in-Some.last in
     let r = c.in-Some-split_first.range.now in
     let within = subst (AreWithin (old_size d) start) c.in-Some-split_first.ensures.cases.0 c.loop-range.invariant.within in
-    let along = goes_along rules d start p r (c.requires.walk p c.in-Some.is) within.0.0 within.0.1 (sym c.is_turned.ensures ∙ c.if-is_turned.false) (let l = c.if-from-last.false in omega (arith, l)) (sym c.first_meets.ensures ∙ c.if-first_meets.false) in
+    let carried = carried_parts _ _ _ (sym c.carries.ensures ∙ c.if-not-carries.false) in
+    let along = goes_along rules d start p r (c.requires.walk p c.in-Some.is) within.0.0 within.0.1 (sym c.is_turned.ensures ∙ c.if-is_turned.false) carried.0 carried.1 in
     let fits = along.fits in
     let room = c.requires.room in
     let forward = within.0.0 in
-    let from = c.if-from-last.false in
+    let from = carried.0 in
     omega (arith, fits, room, forward, from)
 
-pub overflow_add-last-in-Some-split_first : goal.overflow_add-last-in-Some-split_first
-overflow_add-last-in-Some-split_first g c =
+pub carry-requires-in-Some-split_first-clause-fits : goal.carry-requires-in-Some-split_first-clause-fits
+carry-requires-in-Some-split_first-clause-fits g c =
     let rules = g.T.RangeValue.rules in
     let d = c.args.walk.now.walker.desc in
     let start = c.args.start in
     let p = c.in-Some.last in
     let r = c.in-Some-split_first.range.now in
     let within = subst (AreWithin (old_size d) start) c.in-Some-split_first.ensures.cases.0 c.loop-range.invariant.within in
-    let along = goes_along rules d start p r (c.requires.walk p c.in-Some.is) within.0.0 within.0.1 (sym c.is_turned.ensures ∙ c.if-is_turned.false) (let l = c.if-from-last.false in omega (arith, l)) (sym c.first_meets.ensures ∙ c.if-first_meets.false) in
+    let carried = carried_parts _ _ _ (sym c.carries.ensures ∙ c.if-not-carries.false) in
+    let along = goes_along rules d start p r (c.requires.walk p c.in-Some.is) within.0.0 within.0.1 (sym c.is_turned.ensures ∙ c.if-is_turned.false) carried.0 carried.1 in
     let fits = along.fits in
     let room = c.requires.room in
     omega (arith, fits, room)
@@ -46,12 +49,15 @@ loop-range-preserved g c =
     let others = c.in-Some-split_first.others.now in
     let is = c.in-Some-split_first.ensures.cases.0 in
     let within = subst (AreWithin (old_size d) start) is c.loop-range.invariant.within in
-    let along = goes_along rules d start p r (c.requires.walk p c.in-Some.is) within.0.0 within.0.1 (sym c.is_turned.ensures ∙ c.if-is_turned.false) (let l = c.if-from-last.false in omega (arith, l)) (sym c.first_meets.ensures ∙ c.if-first_meets.false) in
+    let carried = carried_parts _ _ _ (sym c.carries.ensures ∙ c.if-not-carries.false) in
+    let along = goes_along rules d start p r (c.requires.walk p c.in-Some.is) within.0.0 within.0.1 (sym c.is_turned.ensures ∙ c.if-is_turned.false) carried.0 carried.1 in
+    let at = ap (λ n. let q : Ranged g.row.T.Denot = record { from = n; to = c.carry-in-Some-split_first.result; value = c.in_ok-value.value } in Some q) c.carry.ensures in
+    let to = ap (λ n. let q : Ranged g.row.T.Denot = record { from = p.to + (r.from + start - p.from); to = n; value = c.in_ok-value.value } in Some q) c.carry-in-Some-split_first.ensures in
     let value = ap (λ v. let q : Ranged g.row.T.Denot = record { from = p.to + (r.from + start - p.from); to = p.to + (r.to + start - p.from); value = v } in Some q) c.in_ok-value.ensures in
     let counted = c.tick.ensures in
     let moved = subst (λ (rs : List (Ranged g.row.T.Denot)). AreMoved rules d start c.args.ranges.now rs c.args.run.now.items c.loop-range.run.items c.args.mapped.now c.loop-range.mapped) is c.loop-range.invariant.moved in
     record {
       within = within.1;
       moved = moved_more rules d start c.args.ranges.now others c.args.run.now.items c.loop-range.run.items c.push.new.self.items r _ c.args.mapped.now c.loop-range.mapped c.tick.new.self
-          moved (value ∙ along.moves) c.in_ok-push.ensures.items (omega (arith, counted));
+          moved (at ∙ (to ∙ (value ∙ along.moves))) c.in_ok-push.ensures.items (omega (arith, counted));
     }
