@@ -1,28 +1,20 @@
 -- Pages that are made at once of groups in order, and lists of groups that grow.
 use Rattle.std.proofs.Common.{◌≡◌, ℕ, zero, suc, ◌+◌, ◌-◌, ◌^◌, ◌<◌, ◌≤◌, max, ◌||◌, List, [], ◌∷◌, ◌++◌, length, get_or, take, map, refl, sym, ◌∙◌, ap, arith}
 use Rattle.std.proofs.lemmas.List.{length-append, map-append, take_more}
+use Rattle.std.proofs.lemmas.List.Elements.{All-head, All-push, All-tail}
 use Rattle.std.proofs.lemmas.List.Folds.{list_any-append}
+use Rattle.std.specs.Prelude.{All}
 use Rattle.std.specs.List.{list_any}
 use Rattle.range_set.specs.Rules.{RangeRules}
 use Rattle.range_set.specs.Mapping.{is_turned}
 use Rattle.range_set.specs.Points.{stands}
 use Rattle.range_set.specs.PrivateChunks.{AreGroups, IsGroup, first_start, flat, greatest_end, shift, spread}
-use Rattle.range_set.specs.PrivatePages.{AreGrowing, BeginFrom, IsPage, further}
+use Rattle.range_set.specs.PrivatePages.{AreGrowing, IsPage, further}
 use Rattle.range_set.specs.declared.ranged.Ranged.{Ranged}
 use Rattle.range_set.specs.declared.group.PlacedGroup.{PlacedGroup}
 use Rattle.range_set.specs.declared.page.Page.{Page}
 use Rattle.range_set.proofs.Chunks.{greatest_shifted, length_shifted}
 use Rattle.range_set.proofs.Groups.{AreGroups-push, flat-spread, flat-spread_push, greatest-append, group_placed, points_any, turned_any}
-
-module _ {T : Type 0} where
-  pub begins_at : (n : ℕ) (gs : List (PlacedGroup T)) (i : ℕ) (g : PlacedGroup T) → i < length gs → BeginFrom n gs → n ≤ (get_or gs i g).start
-  begins_at n [] i g l h = absurd (omega arith)
-  begins_at n (q ∷ gs) zero g l h = h.0
-  begins_at n (q ∷ gs) (suc i) g l h = begins_at n gs i g (omega arith) h.1
-
-  begin_push : (n : ℕ) (gs : List (PlacedGroup T)) (g : PlacedGroup T) → BeginFrom n gs → n ≤ g.start → BeginFrom n (gs ++ g ∷ [])
-  begin_push n [] g h l = (l, tt)
-  begin_push n (q ∷ gs) g h l = (h.0, begin_push n gs g h.1 l)
 
 module _ {T : Type 0} (rules : RangeRules T) where
   -- a group that counts from a place
@@ -140,10 +132,10 @@ module _ {T : Type 0} (rules : RangeRules T) where
       let e : g.start - start + start ≡ g.start = omega arith in
       ap (λ n. let q : PlacedGroup T = record { start = n; group = g.group } in q) e
 
-  pub groups_back : (start : ℕ) (gs : List (PlacedGroup T)) → BeginFrom start gs → map (further start) (map (counted_group start) gs) ≡ gs
+  pub groups_back : (start : ℕ) (gs : List (PlacedGroup T)) → All (λ g. start ≤ g.start) gs → map (further start) (map (counted_group start) gs) ≡ gs
   groups_back start [] h = refl
   groups_back start (g ∷ gs) h =
-      ap (λ q. q ∷ map (further start) (map (counted_group start) gs)) (placed_back start g h.0) ∙ ap (λ qs. g ∷ qs) (groups_back start gs h.1)
+      ap (λ q. q ∷ map (further start) (map (counted_group start) gs)) (placed_back start g (All-head (λ q. start ≤ q.start) g gs h)) ∙ ap (λ qs. g ∷ qs) (groups_back start gs (All-tail (λ q. start ≤ q.start) g gs h))
 
   pub whole_page : (start : ℕ) (page : Page T) (gs : List (PlacedGroup T)) → page.groups.items ≡ map (counted_group start) gs → AreGrowing rules start gs → page.count ≡ length (flat (spread gs))
       → page.reach ≡ greatest_end (flat (spread (map (counted_group start) gs))) → page.is_turned ≡ list_any (is_turned rules) (flat (spread gs)) → page.has_point ≡ list_any (stands rules) (flat (spread gs))
@@ -166,7 +158,7 @@ module _ {T : Type 0} (rules : RangeRules T) where
       let b = length_shifted rules g.start (flat g.group.value.chunks.items) in
       record {
         groups = AreGroups-push rules gs g h.groups group some;
-        after = begin_push start gs g h.after l;
+        after = All-push (λ q. start ≤ q.start) gs g h.after l;
         first = first_grown gs h.groups h.first f;
         room = omega (arith, a, b, room);
       }

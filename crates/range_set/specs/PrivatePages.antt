@@ -1,5 +1,5 @@
 -- Pages of groups as one list of groups at their places. Private: contracts of sets see the ranges alone.
-use Rattle.std.specs.Prelude.{◌≡◌, ℕ, ◌+◌, ◌^◌, ◌<◌, ◌≤◌, List, [], ◌∷◌, ◌++◌, length, map}
+use Rattle.std.specs.Prelude.{◌≡◌, ℕ, ◌+◌, ◌^◌, ◌<◌, ◌≤◌, All, List, [], ◌∷◌, ◌++◌, length, map}
 use Rattle.std.specs.List.{list_any}
 use Rattle.std.specs.declared.alloc.Global.{Global}
 use Rattle.std.specs.declared.rc.Rc.{Rc}
@@ -21,11 +21,6 @@ module _ {T : Type 0} where
   abbrev pub laid : List (PlacedPage T) → List (PlacedGroup T)
   laid [] = []
   laid (p ∷ ps) = map (further p.start) p.page.value.groups.items ++ laid ps
-
-  -- each group begins at n or after
-  abbrev pub BeginFrom : ℕ → List (PlacedGroup T) → Type 0
-  BeginFrom n [] = Unit {0}
-  BeginFrom n (g ∷ gs) = (n ≤ g.start) × BeginFrom n gs
 
   -- groups that are the last of others
   pub record AreLast (groups rest : List (PlacedGroup T)) : Type 0 where
@@ -51,7 +46,7 @@ module _ {T : Type 0} (rules : RangeRules T) where
   -- groups at their places, of which the first begins at a place and the others there or after it, and whose ranges can be counted
   pub record AreGrowing (start : ℕ) (gs : List (PlacedGroup T)) : Type 0 where
     pub groups : AreGroups rules gs
-    pub after : BeginFrom start gs
+    pub after : All (λ g. start ≤ g.start) gs
     pub first : 1 ≤ length gs → first_start (flat (spread gs)) ≡ start
     pub room : length (flat (spread gs)) < 2 ^ 64
 

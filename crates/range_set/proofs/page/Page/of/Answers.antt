@@ -9,7 +9,7 @@ use Rattle.range_set.specs.declared.group.Group.{Group}
 use Rattle.range_set.proofs.Chunks.{or_first, or_second}
 use Rattle.range_set.proofs.Groups.{flat-spread_append}
 use Rattle.range_set.proofs.Whole.{item_at, written, written-all}
-use Rattle.range_set.proofs.WholePages.{begins_at, count_more, counted_group, group_item, groups_back, page_reach_more, points_more, turned_more, whole_page}
+use Rattle.range_set.proofs.WholePages.{count_more, counted_group, group_item, groups_back, page_reach_more, points_more, turned_more, whole_page}
 use Rattle.range_set.proofs.page.Page.of.Goals as goal
 use Rattle.range_set.proofs.page.Page.of.Goals.{then-is_turned, else-is_turned, then-has_point, else-has_point}
 
@@ -21,7 +21,7 @@ overflow_sub-from g c =
     let x = c.placed-item.result in
     let lt : i < length olds = subst (λ (ps : List _). i < length ps) c.deref_mut-placed-items.ensures.value c.loop-placed-test.true in
     let from = ap (λ p. p.start) (item_at (counted_group rules c.args.start) c.loop-placed.placed-items olds i x c.loop-placed.invariant.items lt) in
-    let k = begins_at c.args.start olds i x lt c.requires.after in
+    let k = c.requires.after i x lt in
     omega (arith, from, k)
 
 pub overflow_add-count : goal.overflow_add-count
@@ -83,7 +83,7 @@ loop-placed-preserved g c =
       reach = let k = at.reach in let m = page_reach_more rules start olds i x lt group.0 group.1 in omega (arith, most, from, reach, k, m);
       fits =
           let k = at.fits in
-          let l = begins_at start olds i x lt c.requires.after in
+          let l = c.requires.after i x lt in
           let m = group.0.fits in
           omega (arith, most, from, reach, k, l, m);
       turned = turned ∙ (ap (λ b. b || (get_or olds i x).group.value.is_turned) at.turned ∙ sym (turned_more rules olds i x lt group.0));
