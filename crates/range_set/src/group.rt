@@ -33,7 +33,8 @@ pub(crate) fn few_of(full: usize) -> usize {
     full / 4
 }
 
-/// Up to 64 chunks in order, whose places count from the start of the first range.
+/// Chunks in order, whose places count from the start of the first range. Contracts allow up to 64 of them; a group that is made has
+/// no more than make it full, which are 16 to 32.
 #[derive(Drop)]
 pub(crate) struct Group<T> {
     /// How many ranges they have.
