@@ -15,7 +15,7 @@ use Rattle.range_set.specs.declared.chunk.Placed.{Placed}
 use Rattle.range_set.specs.declared.chunk.Chunk.{Chunk}
 use Rattle.range_set.specs.declared.group.Group.{Group}
 use Rattle.range_set.specs.declared.group.PlacedGroup.{PlacedGroup}
-use Rattle.range_set.proofs.Chunks.{chunk-at, end_by_greatest, fit_chunk, flat-append, flat-push, forward_shifted, greatest_shifted, length_shifted, turned-shifted}
+use Rattle.range_set.proofs.Chunks.{end_by_greatest, fit_chunk, flat-append, flat-push, forward_shifted, greatest_shifted, length_shifted, turned-shifted}
 use Rattle.range_set.proofs.RangeOrder.{forward-append}
 
 module _ {T : Type 0} where
@@ -36,6 +36,15 @@ module _ {T : Type 0} where
       ap (λ rs. map (shift (p.start + by)) p.chunk.value.ranges.items ++ rs) (flat-moved by ps)
       ∙ (ap (λ rs. rs ++ map (shift by) (flat ps)) (sym (shift-twice by p.start p.chunk.value.ranges.items))
       ∙ sym (map-append (shift by) (map (shift p.start) p.chunk.value.ranges.items) (flat ps)))
+
+  pub moved_none : (ps : List (Placed T)) → map (move 0) ps ≡ ps
+  moved_none [] = refl
+  moved_none (p ∷ ps) =
+      let e : p.start + 0 ≡ p.start = omega arith in
+      ap (λ n. let q : Placed T = record { start = n; chunk = p.chunk } in q ∷ map (move 0) ps) e ∙ ap (λ qs. p ∷ qs) (moved_none ps)
+
+  pub flat-unmoved : (ps : List (Placed T)) → map (shift 0) (flat ps) ≡ flat ps
+  flat-unmoved ps = sym (flat-moved 0 ps) ∙ ap flat (moved_none ps)
 
   pub spread-append : (gs hs : List (PlacedGroup T)) → spread (gs ++ hs) ≡ spread gs ++ spread hs
   spread-append [] hs = refl
@@ -224,12 +233,10 @@ module _ {T : Type 0} (rules : RangeRules T) where
       ∙ (map-append (shift start) (flat (take i ps)) (map (shift p.start) p.chunk.value.ranges.items)
       ∙ ap (λ rs. map (shift start) (flat (take i ps)) ++ rs) (shift-twice start p.start p.chunk.value.ranges.items ∙ ap (λ k. map (shift k) p.chunk.value.ranges.items) n)))
 
-  pub open_fits : (start : ℕ) (group : Group T) (i : ℕ) (p : Placed T) → IsGroup rules start group → i < length group.chunks.items → p ≡ get_or group.chunks.items i p
-      → (start + p.start + p.chunk.value.reach < 2 ^ 32) × (IsChunk rules (start + p.start) p.chunk.value × (1 ≤ length p.chunk.value.ranges.items))
-  open_fits start group i p h l e =
-      let chunk = chunk-at rules group.chunks.items i p l e h.chunks in
-      let a = hull_at group.chunks.items i p l e h.chunks in
-      let b = h.reach in
-      let c = h.fits in
-      let d : start + p.start + p.chunk.value.reach < 2 ^ 32 = omega (arith, a, b, c) in
-      (d, (chunk_placed p.start (start + p.start) p.chunk.value chunk.0 d, chunk.1))
+  pub moved_chunk : (base : ℕ) (ps : List (Placed T)) (i : ℕ) (p : Placed T) → i < length ps → p ≡ get_or ps i p → AreChunks rules (map (move base) ps)
+      → IsChunk rules (base + p.start) p.chunk.value × (1 ≤ length p.chunk.value.ranges.items)
+  moved_chunk base [] i p l e h = absurd (omega arith)
+  moved_chunk base (q ∷ ps) zero p l e h =
+      let n : q.start + base ≡ base + q.start = omega arith in
+      subst (λ (x : Placed T). IsChunk rules (base + x.start) x.chunk.value × (1 ≤ length x.chunk.value.ranges.items)) (sym e) (subst (λ k. IsChunk rules k q.chunk.value) n h.0.0, h.0.1)
+  moved_chunk base (q ∷ ps) (suc i) p l e h = moved_chunk base ps i p (omega arith) e h.1

@@ -1,6 +1,5 @@
 -- Chunks that are parted at places, and an update of those between.
 use Rattle.std.proofs.Common.{◌≡◌, ℕ, zero, suc, ◌+◌, ◌-◌, ◌<◌, ◌≤◌, true, List, [], ◌∷◌, ◌++◌, length, get_or, take, drop, map, Some, None, sym, ap, subst, ◌∙◌, append_assoc, arith}
-use Rattle.std.proofs.lemmas.List.{take_more}
 use Rattle.std.specs.List.Sorted.{IsNonDecreasingBy}
 use Rattle.std.specs.Prelude.{slice_get}
 use Rattle.stable_order.proofs.StableSort.{Rises}
@@ -12,17 +11,12 @@ use Rattle.range_set.specs.PrivateUpdates.{BeginPast, BeginUnder}
 use Rattle.range_set.specs.declared.ranged.Ranged.{Ranged}
 use Rattle.range_set.specs.declared.chunk.Placed.{Placed}
 use Rattle.range_set.proofs.Adding.{add_parts, first_of, last_of, past_hull, under_append, under_less}
-use Rattle.range_set.proofs.Chunks.{ascend-rest, begin_by-next, flat-append, flat-push}
+use Rattle.range_set.proofs.Chunks.{ascend-rest, begin_by-next, flat-append}
 use Rattle.range_set.proofs.Groups.{flat_forward}
 use Rattle.range_set.proofs.RangeOrder.{no_fault_from, rises-no_fault}
 use Rattle.range_set.proofs.Under.{rises_ascend, rises_left, rises_right}
 use Rattle.range_set.proofs.Walked.{ascend_hull}
 use Rattle.range_set.proofs.WholeGroups.{placed_at}
-
-module _ {T : Type 0} where
-  -- one more of the first chunks
-  pub flat_taken : (ps : List (Placed T)) (i : ℕ) (p : Placed T) → i < length ps → p ≡ get_or ps i p → flat (take (i + 1) ps) ≡ flat (take i ps) ++ map (shift p.start) p.chunk.value.ranges.items
-  flat_taken ps i p l e = ap flat (take_more ps i p l ∙ ap (λ x. take i ps ++ x ∷ []) (sym e)) ∙ flat-push (take i ps) p
 
 module _ {T : Type 0} (rules : RangeRules T) where
   -- the first of some chunks, and the others

@@ -1,5 +1,5 @@
 ghost use Rattle.std.specs.Prelude.{IfOk, map, ◌≡◌, ◌++◌};
-ghost use Rattle.range_set.specs.PrivateChunks.{AreChunks, Ascend, IsGroup, flat, shift, spread};
+ghost use Rattle.range_set.specs.PrivateChunks.{AreChunks, Ascend, IsGroup, flat, move, shift, spread};
 ghost use Rattle.range_set.specs.PrivateUpdates.{AreOpened};
 
 use crate::chunk::Placed;
@@ -60,11 +60,24 @@ fn open<T: RangeValue>(
     ensures chunks { IfOk result (λ _. AreChunks T.rules chunks.new.items) }
 {
     chunks.reserve(group.chunks.len())?;
-    for inner in &group.chunks {
-        let start = base + inner.start;
-        chunks.push(Placed {
-            start,
-            chunk: inner.chunk.clone()?,
+    share_each(base, group.chunks.as_slice(), chunks)
+}
+
+/// Puts chunks that count from the place `base` after others, shared. `Err`: out of memory.
+pub(crate) fn share_each<T: RangeValue>(
+    base: u32,
+    chunks: &[Placed<T>],
+    made: &mut Vec<Placed<T>>,
+) -> Result<(), AllocError>
+    requires chunks { AreChunks T.rules (map (move base) chunks.now) }
+    requires made { AreChunks T.rules made.old.items }
+    ensures chunks { IfOk result (λ _. AreChunks T.rules made.new.items) }
+    ensures ranges { IfOk result (λ _. flat made.new.items ≡ flat made.old.items ++ map (shift base) (flat chunks.now)) }
+{
+    for placed in chunks {
+        made.push(Placed {
+            start: base + placed.start,
+            chunk: placed.chunk.clone()?,
         })?;
     }
     Ok(())

@@ -9,7 +9,7 @@ use crate::chunk_builder::ChunkBuilder;
 use crate::group_builder::GroupBuilder;
 use crate::group_cursor::GroupCursor;
 use crate::group_list::GroupList;
-use crate::opening::opened_by;
+use crate::opening::{opened_by, share_each};
 use crate::parts::reserve;
 use crate::range_ref::RangeRef;
 use crate::range_value::RangeValue;
@@ -69,10 +69,10 @@ fn with_all<T: RangeValue>(
     let (before, rest) = parted_under(chunks, first.from);
     let (around, after) = parted_past(rest, last.from);
     let mut made = Vec::with_capacity(alloc, chunks.len().saturating_add(1))?;
-    share_each(before, &mut made)?;
+    share_each(0, before, &mut made)?;
     let mut updated = updated_chunks(alloc, around, add, &|_range: &RangeRef<'_, T>| true)?;
     made.append(&mut updated)?;
-    share_each(after, &mut made)?;
+    share_each(0, after, &mut made)?;
     Ok(made)
 }
 
@@ -98,25 +98,6 @@ fn parted_past<T: RangeValue>(chunks: &[Placed<T>], place: u32) -> (&[Placed<T>]
 {
     let begun = chunks.partition_point(|placed| placed.start <= place);
     chunks.split_at(begun.saturating_add(1).min(chunks.len()))
-}
-
-/// Puts chunks after others, shared. `Err`: out of memory.
-fn share_each<T: RangeValue>(
-    chunks: &[Placed<T>],
-    made: &mut Vec<Placed<T>>,
-) -> Result<(), AllocError>
-    requires chunks { AreChunks T.rules chunks.now }
-    requires made { AreChunks T.rules made.old.items }
-    ensures chunks { IfOk result (λ _. AreChunks T.rules made.new.items) }
-    ensures ranges { IfOk result (λ _. flat made.new.items ≡ flat made.old.items ++ flat chunks.now) }
-{
-    for placed in chunks {
-        made.push(Placed {
-            start: placed.start,
-            chunk: placed.chunk.clone()?,
-        })?;
-    }
-    Ok(())
 }
 
 /// The chunks of the ranges of others that a test allows and of added ones, which stand in order.

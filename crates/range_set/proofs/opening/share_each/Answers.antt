@@ -1,0 +1,40 @@
+use Rattle.std.proofs.Common.{◌++◌, ◌+◌, ◌≤◌, length, map, take, ap, subst, sym, ◌∙◌, arith, append_assoc}
+use Rattle.std.proofs.lemmas.List.{take_all}
+use Rattle.range_set.specs.PrivateChunks.{IsChunk, flat, shift}
+use Rattle.range_set.specs.declared.chunk.Chunk.{Chunk}
+use Rattle.range_set.proofs.Chunks.{AreChunks-push, flat-push}
+use Rattle.range_set.proofs.Groups.{moved_chunk, open_more}
+use Rattle.range_set.proofs.opening.share_each.Goals as goal
+
+pub overflow_add-base : goal.overflow_add-base
+overflow_add-base g c =
+    let here = moved_chunk g.T.RangeValue.rules c.args.base c.args.chunks.now c.loop-placed.placed-index c.placed-item.result c.loop-placed-test.true c.placed-item.is c.requires.chunks in
+    let fits = here.0.fits in
+    omega (arith, fits)
+
+pub loop-placed-preserved : goal.loop-placed-preserved
+loop-placed-preserved g c =
+    let rules = g.T.RangeValue.rules in
+    let base = c.args.base in
+    let ps = c.args.chunks.now in
+    let i = c.loop-placed.placed-index in
+    let p = c.placed-item.result in
+    let made = c.loop-placed.made.items in
+    let old = flat c.args.made.now.items in
+    let here = moved_chunk rules base ps i p c.loop-placed-test.true c.placed-item.is c.requires.chunks in
+    let value = c.in_ok-clone.ensures.cases in
+    record {
+      chunks = rw c.in_ok-push.ensures.items (AreChunks-push rules made _ c.loop-placed.invariant.chunks
+          (subst (IsChunk rules (base + p.start)) (sym value) here.0) (subst (λ (ch : Chunk g.row.T.Denot). 1 ≤ length ch.ranges.items) (sym value) here.1));
+      ranges = ap flat c.in_ok-push.ensures.items
+          ∙ (flat-push made _
+          ∙ (ap (λ (ch : Chunk g.row.T.Denot). flat made ++ map (shift (base + p.start)) ch.ranges.items) value
+          ∙ (ap (λ rs. rs ++ map (shift (base + p.start)) p.chunk.value.ranges.items) c.loop-placed.invariant.ranges
+          ∙ (append_assoc old (map (shift base) (flat (take i ps))) (map (shift (base + p.start)) p.chunk.value.ranges.items)
+          ∙ ap (λ rs. old ++ rs) (sym (open_more rules base ps i p c.loop-placed-test.true c.placed-item.is))))));
+    }
+
+pub returns-clause-ranges : goal.returns-clause-ranges
+returns-clause-ranges g c =
+    c.loop-placed.invariant.ranges
+    ∙ ap (λ ps. flat c.args.made.now.items ++ map (shift c.args.base) (flat ps)) (take_all c.loop-placed.placed-index c.args.chunks.now c.loop-placed-test.false)
