@@ -278,7 +278,7 @@ fn move_clear<'b, T: RangeValue, L: Ledger>(
     while let Some((range, others)) = rest.split_first() {
         let from = range.from + start;
         let to = range.to + start;
-        if !last.carries(from, to) || range.is_turned() {
+        if range.is_turned() || !last.carries(from, to) {
             return Ok(rest);
         }
         mapped.tick();
