@@ -1,6 +1,7 @@
 pub mod Advance
 pub mod Calls
 pub mod Changing
+pub mod Continuing
 pub mod Creation
 pub mod Declared
 pub mod Earlier
@@ -26,3 +27,4 @@ pub mod Stated
 pub mod Still
 pub mod Unflagged
 pub mod Walking
+pub mod WithoutInputs

@@ -1,5 +1,5 @@
 // The value of one field, from its old value and what it reads.
-ghost use Rattle.std.specs.Prelude.{◌≡◌, ◌+◌, ◌≤◌, cond, is_none, option_copied, unwrap_or, IfOk, IsSomeAnd, IsTrue, MatchOption, None, Some};
+ghost use Rattle.std.specs.Prelude.{◌≡◌, ◌+◌, ◌≤◌, cond, is_none, not, option_copied, unwrap_or, IfOk, IsSomeAnd, MatchOption, None, Some};
 ghost use Rattle.values.specs.Vals.{IsOf};
 ghost use Rattle.values.specs.Whole.{IsWhole};
 ghost use Rattle.facet_slots.specs.Scenes.{IsScene, shown as shown_of};
@@ -7,8 +7,11 @@ ghost use Rattle.facet_slots.specs.Stepping.{equal_init, kept_value as kept_valu
 ghost use Rattle.facet_slots.specs.Keeping.{held};
 ghost use Rattle.facet_slots.specs.Lawful.{IsLawfulField};
 ghost use Rattle.facet_slots.specs.Due.{field_calls};
+ghost use Rattle.values.specs.Stored.{Compares};
+ghost use Rattle.facet_slots.specs.Setups.{field_at};
+ghost use Rattle.facet_slots.specs.Flags.{field_flag, same_value};
 ghost use Rattle.facet_slots.specs.Found.{scene_of};
-ghost use Rattle.facet_slots.specs.Lent.{present_of, state_in, transition_of, values_in};
+ghost use Rattle.facet_slots.specs.Lent.{present_of, setup_of, state_in, transition_of, values_in};
 ghost use Rattle.facet_slots.specs.Stepping.{Enter, Update};
 
 use crate::deps::shown;
@@ -22,10 +25,10 @@ use configuration::Vertex;
 use std::alloc::{AllocError, Global};
 use std::sync::ledger::Ledger;
 use steps::Steps;
-use values::{Kit, Meanings, Scene, TrView, UpdateView, Val};
+use values::{Comparer, Kit, Meanings, Scene, TrView, UpdateView, Val};
 
 /// Whether two first values are the same, or there are none.
-pub fn same_init(was: Option<&Val>, is: Option<&Val>) -> bool
+fn same_init(was: Option<&Val>, is: Option<&Val>) -> bool
     ensures { result ≡ equal_init (option_copied was.entry) (option_copied is.entry) }
 {
     match was {
@@ -82,15 +85,8 @@ fn created<M: Meanings, L: Ledger>(
     }
 }
 
-/// The value of a field after a transition, and whether it is known to be the one before, which it then shares.
-#[derive(Drop)]
-pub struct FieldFound {
-    pub value: SharedVal,
-    pub is_old: bool,
-}
-
-/// A field that enters a configuration: it keeps its value, or else is created.
-fn entered<M: Meanings, L: Ledger>(
+/// The value of a field that enters a configuration: it keeps it, or else is created.
+fn entered_value<M: Meanings, L: Ledger>(
     alloc: Global,
     kit: &Kit<M>,
     old_setup: &Setup,
@@ -113,40 +109,86 @@ fn entered<M: Meanings, L: Ledger>(
     }
 }
 
-/// What the updater of a field is shown.
-fn update_view(
-    alloc: Global,
-    transaction: &TrView,
-    scene: &Scene,
+/// Whether a field that enters a configuration came, was made anew, or has a value that isn't known to be the same.
+fn is_changed<M: Meanings>(
+    kit: &Kit<M>,
+    old_setup: &Setup,
+    old: &Kept,
+    place: u32,
     field: &Present,
-    shelf: &Shelf,
-) -> Result<UpdateView, AllocError>
-    requires scene { IsScene (scene_of scene.now) }
-    ensures transaction { IfOk result (λ view. view.transaction ≡ heard_of (present_of field.now).def.listens transaction.now) }
-    ensures deps { IfOk result (λ view. view.deps ≡ shown_of (scene_of scene.now) (held shelf.now.facets shelf.now.fields) (present_of field.now).def.reads) }
+    value: &SharedVal,
+) -> bool
+    requires whole { IsWhole M.rules kit.now }
+    requires lawful { IsLawfulField M.rules (present_of field.now) }
+    ensures { result ≡ field_flag M.rules (field_at (setup_of old_setup.now) place) (Some (present_of field.now)) (values_in old.now (Vertex.Field place)) (Some value.now) }
 {
-    Ok(UpdateView {
-        transaction: heard(alloc, transaction, field.def.listens.as_slice())?,
-        deps: shown(alloc, scene, field.def.reads.as_slice(), shelf)?,
-    })
+    match old_setup.field(place) {
+        Some(was) => match old.shelf.field(place) {
+            Some(old) => {
+                let comparer = kit.comparer(field.def.compare);
+                !(same_init(was.init, field.init) && comparer.call(old.value(), value.value()))
+            }
+            None => true,
+        },
+        None => true,
+    }
 }
 
-ghost use Rattle.facet_slots.specs.Stepping.{heard as heard_of};
+/// The value of a field after a transition, and whether it is flagged.
+#[derive(Drop)]
+pub struct FieldFound {
+    pub value: SharedVal,
+    pub flag: bool,
+}
+
+/// A field that enters a configuration.
+fn entered<M: Meanings, L: Ledger>(
+    alloc: Global,
+    kit: &Kit<M>,
+    old_setup: &Setup,
+    old: &Kept,
+    scene: &Scene,
+    place: u32,
+    field: &Present,
+    shelf: &Shelf,
+    calls: &mut Steps<L>,
+) -> Result<FieldFound, AllocError>
+    requires whole { IsWhole M.rules kit.now }
+    requires scene { IsScene (scene_of scene.now) }
+    requires lawful { IsLawfulField M.rules (present_of field.now) }
+    ensures value { IfOk result (λ found. found.value ≡ enters M.rules (state_in old_setup.now old.now) place (present_of field.now) (shown_of (scene_of scene.now) (held shelf.now.facets shelf.now.fields) (present_of field.now).def.reads)) }
+    ensures flag { IfOk result (λ found. found.flag ≡ field_flag M.rules (field_at (setup_of old_setup.now) place) (Some (present_of field.now)) (values_in old.now (Vertex.Field place)) (Some found.value)) }
+    ensures cost { calls.new ≤ calls.old + field_calls Enter (state_in old_setup.now old.now) place (present_of field.now) }
+{
+    let value = entered_value(
+        alloc, kit, old_setup, old, scene, place, field, shelf, calls,
+    )?;
+    let flag = is_changed(kit, old_setup, old, place, field, &value);
+    Ok(FieldFound { value, flag })
+}
 
 /// What an updater's answer makes of the old value of a field, which is shared where it stays.
-fn answered(alloc: Global, old: &SharedVal, answer: Option<Val>) -> Result<FieldFound, AllocError>
+fn answered<M: Meanings>(
+    alloc: Global,
+    comparer: &Comparer<M>,
+    old: &SharedVal,
+    answer: Option<Val>,
+) -> Result<FieldFound, AllocError>
+    requires compares { Compares M.rules comparer.now }
     ensures value { IfOk result (λ found. found.value ≡ unwrap_or answer old.now) }
-    ensures old { IfOk result (λ found. IsTrue found.is_old → old.now ≡ found.value) }
+    ensures flag { IfOk result (λ found. found.flag ≡ not (M.rules.compare comparer.now.number old.now found.value)) }
 {
     match answer {
-        Some(value) => Ok(FieldFound {
-            value: SharedVal::new(alloc, value)?,
-            is_old: false,
-        }),
-        None => Ok(FieldFound {
-            value: old.share()?,
-            is_old: true,
-        }),
+        Some(value) => {
+            let value = SharedVal::new(alloc, value)?;
+            let flag = !comparer.call(old.value(), value.value());
+            Ok(FieldFound { value, flag })
+        }
+        None => {
+            let value = old.share()?;
+            let flag = !(comparer.is_reflexive() || comparer.call(old.value(), old.value()));
+            Ok(FieldFound { value, flag })
+        }
     }
 }
 
@@ -168,22 +210,24 @@ fn updated<M: Meanings, L: Ledger>(
     requires lawful { IsLawfulField M.rules (present_of field.now) }
     requires fits { IsSomeAnd (values_in old.now (Vertex.Field place)) (IsOf (M.rules.update_shape (present_of field.now).def.update)) }
     ensures value { IfOk result (λ found. found.value ≡ updates M.rules (state_in old_setup.now old.now) transaction.now place (present_of field.now) (shown_of (scene_of scene.now) (held shelf.now.facets shelf.now.fields) (present_of field.now).def.reads)) }
-    ensures old { IfOk result (λ found. IsTrue found.is_old → values_in old.now (Vertex.Field place) ≡ Some found.value) }
+    ensures flag { IfOk result (λ found. found.flag ≡ not (same_value M.rules (present_of field.now).def.compare (values_in old.now (Vertex.Field place)) (Some found.value))) }
     ensures cost { calls.new ≤ calls.old + 1 }
 {
     match old.shelf.field(place) {
         Some(value) => {
-            let view = update_view(alloc, transaction, scene, field, shelf)?;
+            let transaction = heard(alloc, transaction, field.def.listens.as_slice())?;
+            let deps = shown(alloc, scene, field.def.reads.as_slice(), shelf)?;
+            let view = UpdateView { transaction, deps };
             let answer = kit
                 .updater(field.def.update)
                 .call(value.value(), &view, calls)?;
-            answered(alloc, value, answer)
+            answered(alloc, kit.comparer(field.def.compare), value, answer)
         }
         None => unreachable!(),
     }
 }
 
-/// The value of a present field after a transition. `Err`: out of memory.
+/// A present field after a transition. A transaction doesn't flag it for its first value, which stays. `Err`: out of memory.
 pub fn field_found<M: Meanings, L: Ledger>(
     alloc: Global,
     kit: &Kit<M>,
@@ -201,16 +245,13 @@ pub fn field_found<M: Meanings, L: Ledger>(
     requires lawful { IsLawfulField M.rules (present_of field.now) }
     requires fits { (t : TransactionView) → transition_of transition.now ≡ Update t → IsSomeAnd (values_in old.now (Vertex.Field place)) (IsOf (M.rules.update_shape (present_of field.now).def.update)) }
     ensures value { IfOk result (λ found. found.value ≡ rule_of M.rules (transition_of transition.now) (state_in old_setup.now old.now) place (present_of field.now) (shown_of (scene_of scene.now) (held shelf.now.facets shelf.now.fields) (present_of field.now).def.reads)) }
-    ensures old { IfOk result (λ found. IsTrue found.is_old → values_in old.now (Vertex.Field place) ≡ Some found.value) }
+    ensures flag { IfOk result (λ found. ((t : TransactionView) → transition_of transition.now ≡ Update t → field_at (setup_of old_setup.now) place ≡ Some (present_of field.now)) → found.flag ≡ field_flag M.rules (field_at (setup_of old_setup.now) place) (Some (present_of field.now)) (values_in old.now (Vertex.Field place)) (Some found.value)) }
     ensures cost { calls.new ≤ calls.old + field_calls (transition_of transition.now) (state_in old_setup.now old.now) place (present_of field.now) }
 {
     match *transition {
-        Transition::Enter => Ok(FieldFound {
-            value: entered(
-                alloc, kit, old_setup, old, scene, place, field, shelf, calls,
-            )?,
-            is_old: false,
-        }),
+        Transition::Enter => entered(
+            alloc, kit, old_setup, old, scene, place, field, shelf, calls,
+        ),
         Transition::Update(transaction) => updated(
             alloc,
             kit,

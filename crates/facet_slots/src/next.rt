@@ -1,5 +1,5 @@
 // A facet after a transition: only what is due is computed.
-ghost use Rattle.std.specs.Prelude.{◌≡◌, ◌+◌, ◌≤◌, ◌||◌, cond, map, not, slice_get, IfOk, IsSomeAnd, MatchOption, All, List, Some, None, []};
+ghost use Rattle.std.specs.Prelude.{◌≡◌, ◌+◌, ◌≤◌, ◌||◌, map, not, slice_get, IfOk, IsSomeAnd, All, List, Some, None, []};
 ghost use Rattle.std.specs.List.{AllByRecursion, list_any};
 ghost use Rattle.transaction.specs.Numbers.{IsNumber};
 ghost use Rattle.values.specs.Vals.{IsOf};

@@ -1,27 +1,27 @@
 // One facet or field after a transition.
-ghost use Rattle.std.specs.Prelude.{◌≡◌, ◌+◌, ◌≤◌, IfOk, IsSomeAnd, IsTrue, Some, None, map, true, false, []};
+ghost use Rattle.std.specs.Prelude.{◌≡◌, ◌+◌, ◌≤◌, IfOk, IfSome, IsSomeAnd, IsTrue, Some, None, get_or, map, true, false, []};
 ghost use Rattle.std.specs.Option.{unwrap_or, option_map};
 ghost use Rattle.std.specs.List.{list_any};
 ghost use Rattle.values.specs.Whole.{IsWhole};
 ghost use Rattle.facet_slots.specs.Setups.{facet_at, field_at, input_node};
 ghost use Rattle.facet_slots.specs.Scenes.{IsScene};
 ghost use Rattle.facet_slots.specs.Agreement.{Follows};
-ghost use Rattle.facet_slots.specs.Lawful.{IsLawful, IsLawfulFacet, IsLawfulField};
+ghost use Rattle.facet_slots.specs.Lawful.{IsLawful, IsLawfulFacet};
 ghost use Rattle.facet_slots.specs.Keeping.{held_inputs};
-ghost use Rattle.facet_slots.specs.Flags.{field_flag, same_nodes};
+ghost use Rattle.facet_slots.specs.Flags.{same_nodes};
 ghost use Rattle.facet_slots.specs.Due.{field_calls};
 ghost use Rattle.facet_slots.specs.Nexts.{facet_next_calls, input_flagged, next_calls, IsNext, IsNextFacet, IsNextField};
-ghost use Rattle.facet_slots.specs.Lent.{facet_before, facet_in, flags_in, nodes_before, present_of, scene_in, setup_of, state_in, transition_of, values_in, IsKeptIn};
+ghost use Rattle.facet_slots.specs.Lent.{facet_before, facet_in, flags_in, nodes_before, scene_in, setup_of, state_in, transition_of, values_in, IsKeptIn};
 
 use crate::before::Before;
 use crate::draft::Draft;
 use crate::facet_inputs::FacetInputs;
-use crate::field::{FieldFound, field_found, same_init};
+use crate::field::{FieldFound, field_found};
 use crate::flags::any_input_flagged;
 use crate::kept::Kept;
 use crate::next::next_facet;
 use crate::outputs::facet_found;
-use crate::setup::{Present, Setup};
+use crate::setup::Setup;
 use crate::shared_val::SharedVal;
 use crate::slot::Slot;
 use crate::transition::Transition;
@@ -29,7 +29,7 @@ use configuration::{FacetDef, NodeDef, Vertex};
 use std::alloc::{AllocError, Global};
 use std::sync::ledger::Ledger;
 use steps::Steps;
-use values::{Comparer, Kit, Meanings, Val};
+use values::{Kit, Meanings, Val};
 
 /// A facet as it was, with what is kept of its inputs.
 fn facet_was<'a>(old_setup: &Setup<'a>, old: &'a Kept, was: &'a FacetDef, place: u32) -> Before<'a>
@@ -156,8 +156,8 @@ fn nothing(flag: bool) -> Slot
     }
 }
 
-/// A facet after a transition. `Err`: out of memory.
-pub fn step_facet<M: Meanings, L: Ledger>(
+/// A facet after a transition, with inputs or without.
+fn any_facet<M: Meanings, L: Ledger>(
     alloc: Global,
     kit: &Kit<M>,
     transition: &Transition,
@@ -189,40 +189,65 @@ pub fn step_facet<M: Meanings, L: Ledger>(
     }
 }
 
-/// Whether the value that was found of a field is known to be the same as the old one.
-fn is_same<M: Meanings>(comparer: &Comparer<M>, old: &SharedVal, found: &FieldFound) -> bool
-    requires compares { Compares M.rules comparer.now }
-    requires old { IsTrue found.now.is_old → old.now ≡ found.now.value }
-    ensures { result ≡ M.rules.compare comparer.now.number old.now found.now.value }
+/// The value of a facet that has no inputs now and had none before.
+fn value_without_inputs<'a>(old: &'a Kept, setup: &Setup, place: u32) -> Option<&'a SharedVal>
+    ensures value { IfSome result (λ v. values_in old.now (Vertex.Facet place) ≡ Some v.now) }
+    ensures before { IfSome result (λ v. held_inputs old.now.shelf.inputs (Vertex.Facet place) ≡ []) }
+    ensures now { IfSome result (λ v. get_or (setup_of setup.now).config.inputs place [] ≡ []) }
 {
-    (found.is_old && comparer.is_reflexive()) || comparer.call(old.value(), found.value.value())
+    match old.shelf.facet_without_inputs(place) {
+        Some(value) => {
+            if setup.inputs(place).is_empty() {
+                Some(value)
+            } else {
+                None
+            }
+        }
+        None => None,
+    }
 }
 
-ghost use Rattle.values.specs.Stored.{Compares};
+/// A facet that keeps its value and has no inputs.
+fn facet_without_inputs(value: &SharedVal) -> Result<Slot, AllocError>
+    ensures value { IfOk result (λ n. n.value ≡ Some value.now) }
+    ensures flag { IfOk result (λ n. n.flag ≡ false) }
+    ensures inputs { IfOk result (λ n. n.inputs ≡ []) }
+{
+    let value = value.share()?;
+    Ok(Slot {
+        inputs: FacetInputs::none(),
+        value: Some(value),
+        flag: false,
+    })
+}
 
-/// Whether a present field came, was made anew, or has a value that isn't known to be the same.
-fn is_changed<M: Meanings>(
+/// A facet after a transition. `Err`: out of memory.
+pub fn step_facet<M: Meanings, L: Ledger>(
+    alloc: Global,
     kit: &Kit<M>,
+    transition: &Transition,
     old_setup: &Setup,
     old: &Kept,
+    setup: &Setup,
     place: u32,
-    field: &Present,
-    found: &FieldFound,
-) -> bool
+    draft: &Draft,
+    calls: &mut Steps<L>,
+) -> Result<Slot, AllocError>
     requires whole { IsWhole M.rules kit.now }
-    requires lawful { IsLawfulField M.rules (present_of field.now) }
-    requires old { IsTrue found.now.is_old → values_in old.now (Vertex.Field place) ≡ Some found.now.value }
-    ensures { result ≡ field_flag M.rules (field_at (setup_of old_setup.now) place) (Some (present_of field.now)) (values_in old.now (Vertex.Field place)) (Some found.now.value) }
+    requires old_scene { IsScene (scene_in old.now) }
+    requires scene { IsScene (scene_in draft.now.kept) }
+    requires kept { IsKeptIn M.rules old_setup.now old.now }
+    requires old_lawful { IsLawful M.rules (setup_of old_setup.now) }
+    requires lawful { IsLawful M.rules (setup_of setup.now) }
+    requires follows { Follows (transition_of transition.now) (setup_of old_setup.now) (setup_of setup.now) }
+    ensures next { IfOk result (λ n. IsNext M.rules (transition_of transition.now) (setup_of setup.now) (scene_in draft.now.kept) draft.now.moved (flags_in draft.now.kept) (values_in draft.now.kept) (state_in old_setup.now old.now) (held_inputs old.now.shelf.inputs) (Vertex.Facet place) n.value n.flag n.inputs) }
+    ensures cost { calls.new ≤ calls.old + next_calls M.rules (transition_of transition.now) (setup_of setup.now) (scene_in draft.now.kept) draft.now.moved (flags_in draft.now.kept) (values_in draft.now.kept) (state_in old_setup.now old.now) (held_inputs old.now.shelf.inputs) (Vertex.Facet place) }
 {
-    match old_setup.field(place) {
-        Some(was) => match old.shelf.field(place) {
-            Some(old) => {
-                !(same_init(was.init, field.init)
-                    && is_same(kit.comparer(field.def.compare), old, found))
-            }
-            None => true,
-        },
-        None => true,
+    match value_without_inputs(old, setup, place) {
+        Some(value) => facet_without_inputs(value),
+        None => any_facet(
+            alloc, kit, transition, old_setup, old, setup, place, draft, calls,
+        ),
     }
 }
 
@@ -248,7 +273,7 @@ pub fn step_field<M: Meanings, L: Ledger>(
 {
     match setup.field(place) {
         Some(field) => {
-            let found = field_found(
+            let FieldFound { value, flag } = field_found(
                 alloc,
                 kit,
                 transition,
@@ -260,10 +285,9 @@ pub fn step_field<M: Meanings, L: Ledger>(
                 &draft.kept.shelf,
                 calls,
             )?;
-            let flag = is_changed(kit, old_setup, old, place, &field, &found);
             Ok(Slot {
                 inputs: FacetInputs::none(),
-                value: Some(found.value),
+                value: Some(value),
                 flag,
             })
         }

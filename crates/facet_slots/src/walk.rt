@@ -8,10 +8,10 @@ ghost use Rattle.facet_slots.specs.Making.{IsMadeIn};
 ghost use Rattle.facet_slots.specs.Order.{IsOrdered, IsVertex};
 ghost use Rattle.facet_slots.specs.Agreement.{Follows};
 ghost use Rattle.facet_slots.specs.Lawful.{IsLawful};
-ghost use Rattle.facet_slots.specs.Keeping.{held_inputs, inputs_put, HasRoom, Puts};
+ghost use Rattle.facet_slots.specs.Keeping.{held_inputs, inputs_put, Puts};
 ghost use Rattle.facet_slots.specs.Flags.{moved_by};
 ghost use Rattle.facet_slots.specs.Due.{transition_calls};
-ghost use Rattle.facet_slots.specs.Nexts.{next_calls, HasFlagRoom, IsNext};
+ghost use Rattle.facet_slots.specs.Nexts.{next_calls, IsNext};
 ghost use Rattle.facet_slots.specs.Lent.{flags_in, scene_in, setup_of, state_in, transition_of, values_in, HasFlagRoomIn, HasRoomIn, IsKeptIn};
 ghost use Rattle.facet_slots.specs.Found.{scene_of};
 
