@@ -32,9 +32,6 @@ pub or_second : (x s t : Bool) → x ≡ t → s ≡ false → x ≡ (s || t)
 or_second x true t e h = cc
 or_second x false t e h = e
 
-pub nonempty : (n len : ℕ) → (len == 0) ≡ false → len ≡ n → 1 ≤ n
-nonempty n len h e = grind (arith, nat_tests)
-
 pub none_left : (len : ℕ) → (len == 0) ≡ true → len ≡ 0
 none_left len h = grind (arith, nat_tests)
 

@@ -6,7 +6,7 @@ use Rattle.std.specs.declared.rc.Rc.{Rc}
 use Rattle.range_set.specs.Rules.{RangeRules}
 use Rattle.range_set.specs.Points.{points_of}
 use Rattle.range_set.specs.PrivateChunks.{AreGroups, ArePassed, IsGroup, flat, move, shift, spread}
-use Rattle.range_set.specs.PrivatePages.{AreLast, ArePages, AreGroupsLeft, PlacesFirst, PlacesOpened, PlacesPage, further, laid}
+use Rattle.range_set.specs.PrivatePages.{AreLast, ArePages, AreGroupsLeft, PlacesFirst, PlacesGroups, PlacesPage, further, laid}
 use Rattle.range_set.specs.declared.chunk.Placed.{Placed}
 use Rattle.range_set.specs.declared.group.Group.{Group}
 use Rattle.range_set.specs.declared.group.PlacedGroup.{PlacedGroup}
@@ -55,7 +55,7 @@ module _ {T : Type 0} (rules : RangeRules T) where
 
   -- the groups of the page that comes next
   pub open_page : (base : ℕ) (groups : List (PlacedGroup T)) (pages : List (PlacedPage T)) (p : PlacedPage T) (ps : List (PlacedPage T)) → length groups ≡ 0 → pages ≡ p ∷ ps → AreGroupsLeft rules base groups pages
-      → PlacesOpened rules (map (further base) groups ++ laid pages) p.start p.page.value.groups.items ps
+      → PlacesGroups rules (map (further base) groups ++ laid pages) p.start p.page.value.groups.items ps
   open_page base groups pages p ps none some h =
       let all = subst (ArePages rules) some h.others in
       record {

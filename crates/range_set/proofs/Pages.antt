@@ -50,11 +50,12 @@ module _ {T : Type 0} where
   pub laid_take : (ps : List (PlacedPage T)) (i : ℕ) (p : PlacedPage T) → i < length ps → p ≡ get_or ps i p → take (i + 1) ps ≡ take i ps ++ p ∷ []
   laid_take ps i p l e = take_more ps i p l ∙ ap (λ x. take i ps ++ x ∷ []) (sym e)
 
-  -- groups without chunks
+  -- groups with ranges are some groups
   pub some_group : (gs : List (PlacedGroup T)) → 1 ≤ length (flat (spread gs)) → 1 ≤ length gs
   some_group [] some = some
   some_group (g ∷ gs) some = omega arith
 
+  -- groups without chunks
   pub no_groups : (gs : List (PlacedGroup T)) → length gs ≡ 0 → gs ≡ []
   no_groups [] h = refl
   no_groups (g ∷ gs) h = absurd (omega (arith, h))

@@ -67,7 +67,7 @@ module _ {T : Type 0} (rules : RangeRules T) where
     pub some : 1 ≤ length (flat group.value.chunks.items)
 
   -- groups that count from a place are the first of some groups, and those of pages come after them
-  pub record PlacesOpened (groups : List (PlacedGroup T)) (base : ℕ) (opened : List (PlacedGroup T)) (pages : List (PlacedPage T)) : Type 0 where
+  pub record PlacesGroups (groups : List (PlacedGroup T)) (base : ℕ) (opened : List (PlacedGroup T)) (pages : List (PlacedPage T)) : Type 0 where
     pub is : groups ≡ map (further base) opened ++ laid pages
     pub left : AreGroupsLeft base opened pages
     pub some : 1 ≤ length opened

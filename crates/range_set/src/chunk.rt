@@ -19,7 +19,8 @@ pub(crate) const FEW_RANGES: usize = 12;
 /// away meet it, and would map the others with it.
 pub(crate) const MAX_SHARED_LEN: u32 = 256;
 
-/// Up to 128 ranges in order, whose places count from the start of the first.
+/// Ranges in order, whose places count from the start of the first. Contracts allow up to 128 of them; a chunk that is made has at most
+/// 32.
 #[derive(Drop)]
 pub(crate) struct Chunk<T> {
     /// Their greatest end: the hull of the chunk runs from its place to its place and this.

@@ -18,8 +18,8 @@ pub(crate) struct ClearPlace<'a> {
 }
 
 impl ClearPlace<'_> {
-    /// Whether what lies from one place to another goes as far as this one: it begins here or after it, and no replaced range meets
-    /// what is from here to its end.
+    /// Whether a range is moved as a whole as far as this place: it begins at this place or after it, and no replaced range meets what
+    /// lies from this place to its end.
     pub(crate) fn carries(&self, from: u32, to: u32) -> bool
         requires order { BeginAfter 0 self.now.changed.now }
         requires first { EndsAtOrAfter self.now.from self.now.changed.now }
@@ -28,7 +28,7 @@ impl ClearPlace<'_> {
         self.from <= from && !first_meets(self.changed, self.from, to)
     }
 
-    /// Where a place goes that this one carries.
+    /// Where a place goes that is moved as far as this one.
     pub(crate) fn carry(&self, pos: u32) -> u32
         requires after { self.now.from ≤ pos }
         requires fits { self.now.to + (pos - self.now.from) < 2 ^ 32 }

@@ -22,7 +22,7 @@ use std::rc::Rc;
 pub(crate) struct GroupBuilder<T: RangeValue> {
     pub(crate) done: PageBuilder<T>,
     pub(crate) len: usize,
-    /// How many chunks make a group full, from 1 to 64. Beyond that it only decides where groups are cut.
+    /// How many chunks make a group full: 16 to 32, where contracts ask for 1 to 64. It only decides where groups are cut.
     pub(crate) full: usize,
 }
 
@@ -159,7 +159,7 @@ impl<T: RangeValue> GroupBuilder<T> {
         ensures shared { IfOk result (λ rest. AreShared from to changed.now groups.entry rest (flat (grouped self.old)) (flat (grouped self.new))) }
     {
         let mut rest = self.share_carried_pages(groups, from, to, changed)?;
-        while let Some((base, opened, pages)) = rest.open() {
+        while let Some((base, opened, pages)) = rest.split_groups() {
             let left = self.share_carried_groups(opened, base, from, to, changed)?;
             if !left.is_empty() {
                 return Ok(GroupCursor::at(base, left, pages));

@@ -1,7 +1,7 @@
 ghost use Rattle.std.specs.Prelude.{IfSome, IsTrue, None, [], ◌++◌, ◌≡◌, map};
 ghost use Rattle.range_set.specs.Points.{points_of};
 ghost use Rattle.range_set.specs.PrivateChunks.{ArePassed, flat, spread};
-ghost use Rattle.range_set.specs.PrivatePages.{AreGroupsLeft, AreLast, ArePages, NextBegins, PlacesFirst, PlacesOpened, PlacesPage, further, laid};
+ghost use Rattle.range_set.specs.PrivatePages.{AreGroupsLeft, AreLast, ArePages, NextBegins, PlacesFirst, PlacesGroups, PlacesPage, further, laid};
 
 use crate::group::{Group, PlacedGroup};
 use crate::page::PlacedPage;
@@ -115,9 +115,10 @@ impl<'a, T: RangeValue> GroupCursor<'a, T> {
         Some((placed, GroupCursor::over(others)))
     }
 
-    /// The next groups up to the end of their page, the place from which they count, and the pages after it.
-    pub(crate) fn open(&self) -> Option<(u32, &'a [PlacedGroup<T>], &'a [PlacedPage<T>])>
-        ensures some { IfSome result (λ x. PlacesOpened T.rules self.now x.0 x.1.now x.2.now) }
+    /// The place from which the next groups of a page count, these groups up to the page's end, and the pages after it; none where no
+    /// groups are left.
+    pub(crate) fn split_groups(&self) -> Option<(u32, &'a [PlacedGroup<T>], &'a [PlacedPage<T>])>
+        ensures some { IfSome result (λ x. PlacesGroups T.rules self.now x.0 x.1.now x.2.now) }
         ensures none { result ≡ None → self.now ≡ [] }
     {
         if !self.groups.is_empty() {
