@@ -14,8 +14,8 @@ pub(crate) fn kept_count(depth: i64) -> usize
     if depth <= 0 { 0 } else { depth as usize }
 }
 
-/// So many of the newest Changes; the next one and all older items go. No more links are made than items went since the list
-/// got its chain.
+/// So many of the newest Changes; the next one and all older items go. Less than a quarter as many links are made anew as items went
+/// since the list got its chain.
 pub(crate) fn keep_changes(alloc: Global, count: usize, items: Items) -> Result<Items, AllocError>
     ensures { IfOk result (λ kept. kept ≡ keep_changes count items) }
 {

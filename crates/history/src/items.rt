@@ -7,7 +7,7 @@ use crate::shared_item::SharedItem;
 use std::alloc::{AllocError, Global};
 use std::marker::Model;
 
-/// How many times as many items as a list has its chain may have that are cut off. No contract speaks of it.
+/// How many items that are cut off may stay in a chain for each item of its list. No contract speaks of it.
 const MOST_CUT: usize = 4;
 
 /// Items, newest first: the newest of a chain, which other lists share. The oldest items of the chain may be cut off: a cut makes
@@ -104,9 +104,9 @@ impl Items {
         }
     }
 
-    /// The same list, which gets a chain of its own where more than `MOST_CUT` times as many items of its chain are cut off as it has.
-    /// So at most so many times as many stay in memory that were cut off, and a link is made anew for `MOST_CUT` of them at most.
-    /// `Err`: out of memory.
+    /// The same list, which gets a chain of its own where more than `MOST_CUT` items of its chain are cut off for each item that it has.
+    /// So at most `MOST_CUT` items that were cut off stay in memory for each item of the list, and each link that is made anew stands for
+    /// more than `MOST_CUT` items that were cut off. `Err`: out of memory.
     pub(crate) fn compact(self, alloc: Global) -> Result<Items, AllocError>
         ensures { IfOk result (λ same. same ≡ self) }
     {

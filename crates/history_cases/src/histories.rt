@@ -289,11 +289,12 @@ fn a_history_of_another_document_counts_as_empty(rt: HostRuntime) -> Result<(), 
     Ok(())
 }
 
-/// The numbers of Changes, of items and of characters after so many insertions at the start, each a group, and as many undos,
-/// where so many Changes are kept.
+/// The numbers of Changes, of items and of characters after so many insertions at the start, each a group, which the selection
+/// leaves or not, and as many undos, where so many Changes are kept.
 fn counts_after(
     alloc: Global,
     count: u32,
+    leaves: bool,
     depth: i64,
 ) -> Result<((usize, usize), (usize, usize), u32), Fail> {
     let mut scene = played(alloc, &[], &[])?;
@@ -306,6 +307,9 @@ fn counts_after(
             Twist::Depth(depth),
             time,
         )?;
+        if leaves {
+            scene = acted(alloc, &scene, Act::Select(0, 0), Twist::Depth(depth), time)?;
+        }
         time = time.saturating_add(1000);
     }
     for _ in 0..count {
@@ -320,9 +324,13 @@ fn counts_after(
 
 #[test]
 fn many_steps_are_undone(rt: HostRuntime) -> Result<(), Fail> {
-    for (count, depth, undone, left) in &[(2_000, 1_000_000, 2_000, 0), (30, 3, 3, 27)] {
-        let counts = counts_after(rt.alloc(), *count, *depth)?;
-        assert!(rt; counts == ((0, *undone), (0, *undone), *left));
+    for (count, leaves, depth, items, left) in &[
+        (2_000, false, 1_000_000, (0, 2_000), 0),
+        (30, false, 3, (0, 3), 27),
+        (30, true, 3, (1, 3), 27),
+    ] {
+        let counts = counts_after(rt.alloc(), *count, *leaves, *depth)?;
+        assert!(rt; counts == ((0, items.1), *items, *left));
     }
     Ok(())
 }
