@@ -4,12 +4,13 @@
 Usage: bench/side_by_side/compare.py [N ..]    1,000, 10,000 and 100,000 transactions where no number is given
 
 The programs run in five rounds for each N. In a round each runs once, and then again and again, always the one that took least
-so far, until all took as much processor time as the slowest's first run: so each sees a machine whose speed changes at all of
-its speeds. For each program and N the script prints how many transactions it makes in a second of processor time, over all
-rounds, without what a run of one transaction takes (`-` where less than 10 milliseconds are left for a run); how many times as
-many `ccm` makes, and the least and the most of this among the rounds; and the most memory that it holds, in MiB. A program that
-isn't installed is left out, and the script says what to install. All programs must come to the same length and number of lines:
-the script ends with status 1 where they don't.
+so far, until each took as much processor time as the slowest's first run, or ran 50 times: so those that aren't slowest take
+turns, and the slowest runs before them in each round. The same is done for one transaction, to tell what the start takes. For
+each program and N the script prints how many transactions it makes in a second of processor time, over all rounds, without the
+start (`-` where less than 10 milliseconds are left for a run on average); how many times as many `ccm` makes (`-` where either
+rate is), and the least and the most of this among the rounds (`-` where one of them doesn't tell); and the most memory that it
+held, in MiB. A program that isn't there is left out, and the script says why. All programs must come to the same length and
+number of lines: the script ends with status 1 where they don't.
 
 CODEMIRROR (the path of codemirror.js), NODE and NVIM in the environment name others than the installed ones.
 """
@@ -43,7 +44,7 @@ ccm           makes each transaction's command, of which it is proved that readi
               makes the reply; keeps the 100 newest groups of changes to undo, joined by the times of the workload; keeps a field
               of marks and one that counts, and the facet that the marks are provided to.
 CodeMirror 5  is called by a script in its own process, and finds a place by going through the lines; each change is a step to
-              undo; each mark is an object. It has no fields and no facets, and it makes no replies.
+              undo, and all are kept; each mark is an object. It has no fields and no facets, and it makes no replies.
 Neovim        is called by a script in its own process, and finds a place in its index of lines; the whole run is one step to undo;
               each mark is an extmark. It has no fields and no facets, and it makes no replies."""
 
@@ -60,20 +61,35 @@ def ccm():
     return Peer("ccm", command, "it isn't built, or a source is newer than it; ./build proves and builds it")
 
 
+def found(variable, name):
+    """The path of the program that a variable of the environment names, or else of the one of this name."""
+    return shutil.which(os.environ.get(variable) or name)
+
+
 def codemirror():
-    node = os.environ.get("NODE") or shutil.which("node") or shutil.which("nodejs")
+    node = found("NODE", "node") or found("NODE", "nodejs")
     given = os.environ.get("CODEMIRROR")
     path = next((p for p in ((given,) if given else CODEMIRRORS) if os.path.exists(p)), None)
     there = node and path
     command = (lambda n: [node, os.path.join(HERE, "codemirror5.js"), path, str(n)]) if there else None
-    return Peer("CodeMirror 5", command, "it isn't installed; apt-get install nodejs libjs-codemirror")
+    missing = f"there is no file {given}" if given and not path else "it isn't installed; apt-get install nodejs libjs-codemirror"
+    return Peer("CodeMirror 5", command, missing)
 
 
 def neovim():
-    nvim = os.environ.get("NVIM") or shutil.which("nvim")
+    nvim = found("NVIM", "nvim")
     script = os.path.join(HERE, "neovim.lua")
     command = (lambda n: [nvim, "--clean", "--headless", "-n", "-c", f"let g:count = {n}", "-c", f"luafile {script}"]) if nvim else None
     return Peer("Neovim", command, "it isn't installed; apt-get install neovim")
+
+
+def held(pid):
+    """The most memory that a process held so far, in MiB. What `wait4` tells would be what this script held as it began one."""
+    try:
+        with open(f"/proc/{pid}/status", encoding="ascii", errors="replace") as status:
+            return next((int(line.split()[1]) / 1024 for line in status if line.startswith("VmHWM:")), None)
+    except OSError:
+        return None
 
 
 def run(command):
@@ -81,10 +97,12 @@ def run(command):
     with tempfile.TemporaryFile() as out:
         start = time.monotonic()
         process = subprocess.Popen(command, stdin=subprocess.DEVNULL, stdout=out)
+        memory = 0.0
         while True:
             pid, status, usage = os.wait4(process.pid, os.WNOHANG)
             if pid:
                 break
+            memory = held(process.pid) or memory
             if time.monotonic() - start > SECONDS:
                 process.kill()
                 os.wait4(process.pid, 0)
@@ -94,7 +112,7 @@ def run(command):
         if process.returncode != 0:
             raise SystemExit(f"{' '.join(command)}: status {process.returncode}")
         out.seek(0)
-        return out.read().decode(), usage.ru_utime + usage.ru_stime, usage.ru_maxrss / 1024
+        return out.read().decode(), usage.ru_utime + usage.ru_stime, memory
 
 
 def counted(text):
@@ -112,14 +130,14 @@ class Used:
     def __init__(self):
         self.runs, self.seconds, self.memory, self.ends = 0, 0.0, 0.0, set()
 
-    def add(self, command):
+    def run_once(self, command):
         out, seconds, memory = run(command)
         self.runs += 1
         self.seconds += seconds
         self.memory = max(self.memory, memory)
         self.ends.add(counted(out))
 
-    def a_run(self):
+    def seconds_a_run(self):
         return self.seconds / self.runs
 
 
@@ -127,27 +145,42 @@ def one_round(peers, n):
     """What each program took, by its name, in a round in which all take about as long as the slowest."""
     used = {peer.name: Used() for peer in peers}
     for peer in peers:
-        used[peer.name].add(peer.command(n))
+        used[peer.name].run_once(peer.command(n))
     longest = max(u.seconds for u in used.values())
     while True:
         behind = [p for p in peers if used[p.name].seconds < longest and used[p.name].runs < MOST_RUNS]
         if not behind:
             return used
         peer = min(behind, key=lambda p: used[p.name].seconds)
-        used[peer.name].add(peer.command(n))
+        used[peer.name].run_once(peer.command(n))
 
 
-def rate(rounds, name, n, start):
-    """How many transactions a program makes in a second in some rounds, if its runs are long enough to tell."""
-    runs = sum(used[name].runs for used in rounds)
-    left = sum(used[name].seconds for used in rounds) - runs * start
+class Round:
+    """What the programs took for one transaction, and then for so many."""
+
+    def __init__(self, peers, n):
+        self.starts, self.used = one_round(peers, 1), one_round(peers, n)
+
+    def runs(self, name):
+        return self.used[name].runs
+
+    def left(self, name):
+        """The seconds that the runs of a program took without their starts."""
+        return self.used[name].seconds - self.runs(name) * self.starts[name].seconds_a_run()
+
+
+def rate(rounds, name, n):
+    """How many transactions a program makes in a second in some rounds, if it is there and its runs are long enough to tell."""
+    if not all(name in a_round.used for a_round in rounds):
+        return None
+    runs = sum(a_round.runs(name) for a_round in rounds)
+    left = sum(a_round.left(name) for a_round in rounds)
     return n * runs / left if left >= runs * SHORTEST else None
 
 
-def times(rounds, name, n, starts):
+def times(rounds, name, n):
     """How many times as many transactions `ccm` makes as a program, if their runs are long enough to tell."""
-    mine = rate(rounds, "ccm", n, starts["ccm"]) if "ccm" in starts else None
-    theirs = rate(rounds, name, n, starts[name])
+    mine, theirs = rate(rounds, "ccm", n), rate(rounds, name, n)
     return mine / theirs if mine and theirs else None
 
 
@@ -155,28 +188,44 @@ def shown(number, form):
     return "-" if number is None else format(number, form)
 
 
-def print_counts(peers, n, starts):
+def beside(rounds, name, n):
+    """The columns that tell how many times as many `ccm` makes as another program: over all rounds, and the span of each."""
+    if name == "ccm":
+        return "", ""
+    each = [times([a_round], name, n) for a_round in rounds]
+    return shown(times(rounds, name, n), ".2f"), "-" if None in each else f"{min(each):.2f}-{max(each):.2f}"
+
+
+def print_counts(peers, n):
     """Prints what the programs do for so many transactions, and gives what they came to."""
-    rounds = [one_round(peers, n) for _ in range(ROUNDS)]
+    rounds = [Round(peers, n) for _ in range(ROUNDS)]
     ends = set()
     for peer in peers:
-        name = peer.name
-        came_to = set().union(*(used[name].ends for used in rounds))
+        used = [a_round.used[peer.name] for a_round in rounds]
+        came_to = set().union(*(u.ends for u in used))
+        if len(came_to) != 1:
+            raise SystemExit(f"{peer.name} came to different documents in its runs")
         ends |= came_to
-        each = [times([used], name, n, starts) for used in rounds]
-        span = "-" if None in each else f"{min(each):.2f}-{max(each):.2f}"
-        length, lines = sorted(came_to)[0]
-        memory = max(used[name].memory for used in rounds)
+        (length, lines), = came_to
+        ratio, span = beside(rounds, peer.name, n)
+        memory = max(u.memory for u in used)
         print(
-            f"{name:14}{n:>12,}{shown(rate(rounds, name, n, starts[name]), ',.0f'):>12}"
-            f"{shown(times(rounds, name, n, starts), '.2f'):>8}{span:>14}{memory:>8.0f}{length:>10,}{lines:>8,}",
+            f"{peer.name:14}{n:>12,}{shown(rate(rounds, peer.name, n), ',.0f'):>12}{ratio:>8}{span:>14}"
+            f"{shown(memory or None, '.0f'):>8}{length:>10,}{lines:>8,}",
             flush=True,
         )
     return ends
 
 
+def counts_given(words):
+    try:
+        return [int(word) for word in words]
+    except ValueError:
+        raise SystemExit(f"compare.py: counts of transactions are numbers, not {' '.join(words)}") from None
+
+
 def main():
-    counts = [int(word) for word in sys.argv[1:]] or [1_000, 10_000, 100_000]
+    counts = counts_given(sys.argv[1:]) or [1_000, 10_000, 100_000]
     peers = [ccm(), codemirror(), neovim()]
     for peer in peers:
         if not peer.command:
@@ -184,9 +233,10 @@ def main():
     there = [peer for peer in peers if peer.command]
     if not there:
         raise SystemExit(1)
-    starts = {name: used.a_run() for name, used in one_round(there, 1).items()}
+    for peer in there:
+        run(peer.command(1))  # so that no run that counts is the first one
     print(f"{'':14}{'transactions':>12}{'a second':>12}{'ccm is':>8}{'in a round':>14}{'MiB':>8}{'length':>10}{'lines':>8}")
-    ends = [print_counts(there, n, starts) for n in counts]
+    ends = [print_counts(there, n) for n in counts]
     print()
     print(WHAT_EACH_DOES)
     if any(len(ends_of) != 1 for ends_of in ends):
