@@ -1,5 +1,5 @@
 -- A facet that has no inputs now and had none before keeps its value.
-use Rattle.std.proofs.Common.{◌≡◌, ◌∙◌, ℕ, List, [], ◌∷◌, Bool, true, false, not, ◌&&◌, ◌||◌, cond, Option, None, Some, Result, Ok, Err, IfOk, IsSomeAnd, get_or, map, slice_get, refl, sym, ap, subst}
+use Rattle.std.proofs.Common.{◌≡◌, ◌∙◌, ℕ, List, [], ◌∷◌, Bool, false, not, ◌||◌, Option, None, Some, Result, Ok, Err, IfOk, get_or, map, slice_get, refl, sym, ap, subst}
 use Rattle.std.specs.Option.{option_map, unwrap_or}
 use Rattle.std.specs.List.{list_any}
 use Rattle.configuration.specs.declared.facet_def.FacetDef.{FacetDef}

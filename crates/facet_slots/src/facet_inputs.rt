@@ -1,4 +1,4 @@
-ghost use Rattle.std.specs.Prelude.{◌≡◌, ◌∷◌, [], IfOk, IsTrue};
+ghost use Rattle.std.specs.Prelude.{◌≡◌, ◌∷◌, [], IfOk};
 
 use crate::input_values::InputValues;
 use std::alloc::{AllocError, Global};
@@ -64,16 +64,6 @@ impl FacetInputs {
                 inputs: Inputs::Many(lists),
             }),
             Err(_) => Err(AllocError),
-        }
-    }
-
-    /// Whether there are none, which no list is kept of. Takes no memory.
-    pub fn is_empty(&self) -> bool
-        ensures { IsTrue result → self.now ≡ [] }
-    {
-        match &self.inputs {
-            Inputs::Empty => true,
-            _ => false,
         }
     }
 

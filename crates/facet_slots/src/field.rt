@@ -1,18 +1,17 @@
-// The value of one field, from its old value and what it reads.
+// A field after a transition: its value, from its old value and what it reads, and whether it is flagged.
 ghost use Rattle.std.specs.Prelude.{◌≡◌, ◌+◌, ◌≤◌, cond, is_none, not, option_copied, unwrap_or, IfOk, IsSomeAnd, MatchOption, None, Some};
 ghost use Rattle.values.specs.Vals.{IsOf};
 ghost use Rattle.values.specs.Whole.{IsWhole};
-ghost use Rattle.facet_slots.specs.Scenes.{IsScene, shown as shown_of};
-ghost use Rattle.facet_slots.specs.Stepping.{equal_init, kept_value as kept_value_of, created as created_of, enters, updates, rule_of};
-ghost use Rattle.facet_slots.specs.Keeping.{held};
-ghost use Rattle.facet_slots.specs.Lawful.{IsLawfulField};
-ghost use Rattle.facet_slots.specs.Due.{field_calls};
 ghost use Rattle.values.specs.Stored.{Compares};
 ghost use Rattle.facet_slots.specs.Setups.{field_at};
+ghost use Rattle.facet_slots.specs.Scenes.{IsScene, shown as shown_of};
+ghost use Rattle.facet_slots.specs.Stepping.{equal_init, kept_value as kept_value_of, created as created_of, enters, updates, rule_of, Enter, Update};
+ghost use Rattle.facet_slots.specs.Keeping.{held};
+ghost use Rattle.facet_slots.specs.Lawful.{IsLawfulField};
 ghost use Rattle.facet_slots.specs.Flags.{field_flag, same_value};
+ghost use Rattle.facet_slots.specs.Due.{field_calls};
 ghost use Rattle.facet_slots.specs.Found.{scene_of};
 ghost use Rattle.facet_slots.specs.Lent.{present_of, setup_of, state_in, transition_of, values_in};
-ghost use Rattle.facet_slots.specs.Stepping.{Enter, Update};
 
 use crate::deps::shown;
 use crate::heard::heard;
@@ -85,89 +84,15 @@ fn created<M: Meanings, L: Ledger>(
     }
 }
 
-/// The value of a field that enters a configuration: it keeps it, or else is created.
-fn entered_value<M: Meanings, L: Ledger>(
-    alloc: Global,
-    kit: &Kit<M>,
-    old_setup: &Setup,
-    old: &Kept,
-    scene: &Scene,
-    place: u32,
-    field: &Present,
-    shelf: &Shelf,
-    calls: &mut Steps<L>,
-) -> Result<SharedVal, AllocError>
-    requires whole { IsWhole M.rules kit.now }
-    requires scene { IsScene (scene_of scene.now) }
-    requires lawful { IsLawfulField M.rules (present_of field.now) }
-    ensures value { IfOk result (λ v. v ≡ enters M.rules (state_in old_setup.now old.now) place (present_of field.now) (shown_of (scene_of scene.now) (held shelf.now.facets shelf.now.fields) (present_of field.now).def.reads)) }
-    ensures cost { calls.new ≤ calls.old + field_calls Enter (state_in old_setup.now old.now) place (present_of field.now) }
-{
-    match kept_value(old_setup, old, place, field) {
-        Some(value) => value.share(),
-        None => SharedVal::new(alloc, created(alloc, kit, scene, field, shelf, calls)?),
-    }
-}
-
-/// Whether a field that enters a configuration came, was made anew, or has a value that isn't known to be the same.
-fn is_changed<M: Meanings>(
-    kit: &Kit<M>,
-    old_setup: &Setup,
-    old: &Kept,
-    place: u32,
-    field: &Present,
-    value: &SharedVal,
-) -> bool
-    requires whole { IsWhole M.rules kit.now }
-    requires lawful { IsLawfulField M.rules (present_of field.now) }
-    ensures { result ≡ field_flag M.rules (field_at (setup_of old_setup.now) place) (Some (present_of field.now)) (values_in old.now (Vertex.Field place)) (Some value.now) }
-{
-    match old_setup.field(place) {
-        Some(was) => match old.shelf.field(place) {
-            Some(old) => {
-                let comparer = kit.comparer(field.def.compare);
-                !(same_init(was.init, field.init) && comparer.call(old.value(), value.value()))
-            }
-            None => true,
-        },
-        None => true,
-    }
-}
-
-/// The value of a field after a transition, and whether it is flagged.
+/// A field after a transition: its value, and whether it is flagged.
 #[derive(Drop)]
 pub struct FieldFound {
     pub value: SharedVal,
     pub flag: bool,
 }
 
-/// A field that enters a configuration.
-fn entered<M: Meanings, L: Ledger>(
-    alloc: Global,
-    kit: &Kit<M>,
-    old_setup: &Setup,
-    old: &Kept,
-    scene: &Scene,
-    place: u32,
-    field: &Present,
-    shelf: &Shelf,
-    calls: &mut Steps<L>,
-) -> Result<FieldFound, AllocError>
-    requires whole { IsWhole M.rules kit.now }
-    requires scene { IsScene (scene_of scene.now) }
-    requires lawful { IsLawfulField M.rules (present_of field.now) }
-    ensures value { IfOk result (λ found. found.value ≡ enters M.rules (state_in old_setup.now old.now) place (present_of field.now) (shown_of (scene_of scene.now) (held shelf.now.facets shelf.now.fields) (present_of field.now).def.reads)) }
-    ensures flag { IfOk result (λ found. found.flag ≡ field_flag M.rules (field_at (setup_of old_setup.now) place) (Some (present_of field.now)) (values_in old.now (Vertex.Field place)) (Some found.value)) }
-    ensures cost { calls.new ≤ calls.old + field_calls Enter (state_in old_setup.now old.now) place (present_of field.now) }
-{
-    let value = entered_value(
-        alloc, kit, old_setup, old, scene, place, field, shelf, calls,
-    )?;
-    let flag = is_changed(kit, old_setup, old, place, field, &value);
-    Ok(FieldFound { value, flag })
-}
-
-/// What an updater's answer makes of the old value of a field, which is shared where it stays.
+/// What an updater's answer makes of a field; the old value is shared where it stays. It is flagged where the comparer doesn't say
+/// 'same' of the old value and the new one.
 fn answered<M: Meanings>(
     alloc: Global,
     comparer: &Comparer<M>,
@@ -192,7 +117,55 @@ fn answered<M: Meanings>(
     }
 }
 
-/// A field that a transaction updates.
+/// A field that enters a configuration: it keeps its value, or else is created.
+fn entered<M: Meanings, L: Ledger>(
+    alloc: Global,
+    kit: &Kit<M>,
+    old_setup: &Setup,
+    old: &Kept,
+    scene: &Scene,
+    place: u32,
+    field: &Present,
+    shelf: &Shelf,
+    calls: &mut Steps<L>,
+) -> Result<FieldFound, AllocError>
+    requires whole { IsWhole M.rules kit.now }
+    requires scene { IsScene (scene_of scene.now) }
+    requires lawful { IsLawfulField M.rules (present_of field.now) }
+    ensures value { IfOk result (λ found. found.value ≡ enters M.rules (state_in old_setup.now old.now) place (present_of field.now) (shown_of (scene_of scene.now) (held shelf.now.facets shelf.now.fields) (present_of field.now).def.reads)) }
+    ensures flag { IfOk result (λ found. found.flag ≡ field_flag M.rules (field_at (setup_of old_setup.now) place) (Some (present_of field.now)) (values_in old.now (Vertex.Field place)) (Some found.value)) }
+    ensures cost { calls.new ≤ calls.old + field_calls Enter (state_in old_setup.now old.now) place (present_of field.now) }
+{
+    match kept_value(old_setup, old, place, field) {
+        Some(value) => answered(alloc, kit.comparer(field.def.compare), value, None),
+        None => {
+            let value = SharedVal::new(alloc, created(alloc, kit, scene, field, shelf, calls)?)?;
+            Ok(FieldFound { value, flag: true })
+        }
+    }
+}
+
+/// What the updater of a field is shown.
+fn update_view(
+    alloc: Global,
+    transaction: &TrView,
+    scene: &Scene,
+    field: &Present,
+    shelf: &Shelf,
+) -> Result<UpdateView, AllocError>
+    requires scene { IsScene (scene_of scene.now) }
+    ensures transaction { IfOk result (λ view. view.transaction ≡ heard_of (present_of field.now).def.listens transaction.now) }
+    ensures deps { IfOk result (λ view. view.deps ≡ shown_of (scene_of scene.now) (held shelf.now.facets shelf.now.fields) (present_of field.now).def.reads) }
+{
+    Ok(UpdateView {
+        transaction: heard(alloc, transaction, field.def.listens.as_slice())?,
+        deps: shown(alloc, scene, field.def.reads.as_slice(), shelf)?,
+    })
+}
+
+ghost use Rattle.facet_slots.specs.Stepping.{heard as heard_of};
+
+/// A field that a transaction updates, flagged by its comparer alone.
 fn updated<M: Meanings, L: Ledger>(
     alloc: Global,
     kit: &Kit<M>,
@@ -215,9 +188,7 @@ fn updated<M: Meanings, L: Ledger>(
 {
     match old.shelf.field(place) {
         Some(value) => {
-            let transaction = heard(alloc, transaction, field.def.listens.as_slice())?;
-            let deps = shown(alloc, scene, field.def.reads.as_slice(), shelf)?;
-            let view = UpdateView { transaction, deps };
+            let view = update_view(alloc, transaction, scene, field, shelf)?;
             let answer = kit
                 .updater(field.def.update)
                 .call(value.value(), &view, calls)?;
@@ -227,7 +198,8 @@ fn updated<M: Meanings, L: Ledger>(
     }
 }
 
-/// A present field after a transition. A transaction doesn't flag it for its first value, which stays. `Err`: out of memory.
+/// A present field after a transition, and whether it is flagged. Of a transaction the flag is said where the old configuration has
+/// the same field at this place, since then only the values are compared. `Err`: out of memory.
 pub fn field_found<M: Meanings, L: Ledger>(
     alloc: Global,
     kit: &Kit<M>,

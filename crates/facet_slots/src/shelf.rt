@@ -102,27 +102,6 @@ fn inputs_again(slots: &[Slot], place: u32) -> Result<FacetInputs, AllocError>
     }
 }
 
-/// The value at a place whose inputs give nothing.
-#[tactic(auto, using(crate::proofs::Shelving::value_at, crate::proofs::Shelving::inputs_at))]
-fn value_without_inputs(slots: &[Slot], place: u32) -> Option<&SharedVal>
-    ensures value { IfSome result (λ v. option_flatten (slice_get (slot_values slots.now) place) ≡ Some v.now) }
-    ensures inputs { IfSome result (λ v. unwrap_or (slice_get (slot_inputs slots.now) place) [] ≡ []) }
-{
-    match slots.get(place as usize) {
-        Some(slot) => match &slot.value {
-            Some(value) => {
-                if slot.inputs.is_empty() {
-                    Some(value)
-                } else {
-                    None
-                }
-            }
-            None => None,
-        },
-        None => None,
-    }
-}
-
 /// The flag at a place.
 #[tactic(auto, using(crate::proofs::Shelving::flag_at))]
 fn flag_at(slots: &[Slot], place: u32) -> bool
@@ -192,15 +171,6 @@ impl Shelf {
             Vertex::Facet(facet) => self.facet(facet),
             Vertex::Field(field) => self.field(field),
         }
-    }
-
-    /// The value of a facet whose inputs give nothing. Takes no memory.
-    pub fn facet_without_inputs(&self, facet: u32) -> Option<&SharedVal>
-        ensures value { IfSome result (λ v. held self.now.facets self.now.fields (vertex.Facet facet) ≡ Some v.now) }
-        ensures inputs { IfSome result (λ v. held_inputs self.now.inputs (vertex.Facet facet) ≡ []) }
-    {
-        let (facets, _) = self.slots.as_slice().split_at(self.facet_count);
-        value_without_inputs(facets, facet)
     }
 
     /// What the inputs of a facet give. Takes no memory.

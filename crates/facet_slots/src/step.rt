@@ -156,8 +156,8 @@ fn nothing(flag: bool) -> Slot
     }
 }
 
-/// A facet after a transition, with inputs or without.
-fn any_facet<M: Meanings, L: Ledger>(
+/// A facet after a transition, by the definitions that it had and has.
+fn facet_after<M: Meanings, L: Ledger>(
     alloc: Global,
     kit: &Kit<M>,
     transition: &Transition,
@@ -189,21 +189,16 @@ fn any_facet<M: Meanings, L: Ledger>(
     }
 }
 
-/// The value of a facet that has no inputs now and had none before.
+/// The value of a facet that has no inputs now and had none before. Takes no memory.
 fn value_without_inputs<'a>(old: &'a Kept, setup: &Setup, place: u32) -> Option<&'a SharedVal>
     ensures value { IfSome result (λ v. values_in old.now (Vertex.Facet place) ≡ Some v.now) }
     ensures before { IfSome result (λ v. held_inputs old.now.shelf.inputs (Vertex.Facet place) ≡ []) }
     ensures now { IfSome result (λ v. get_or (setup_of setup.now).config.inputs place [] ≡ []) }
 {
-    match old.shelf.facet_without_inputs(place) {
-        Some(value) => {
-            if setup.inputs(place).is_empty() {
-                Some(value)
-            } else {
-                None
-            }
-        }
-        None => None,
+    if setup.inputs(place).is_empty() && old.shelf.inputs(place).is_empty() {
+        old.shelf.facet(place)
+    } else {
+        None
     }
 }
 
@@ -245,7 +240,7 @@ pub fn step_facet<M: Meanings, L: Ledger>(
 {
     match value_without_inputs(old, setup, place) {
         Some(value) => facet_without_inputs(value),
-        None => any_facet(
+        None => facet_after(
             alloc, kit, transition, old_setup, old, setup, place, draft, calls,
         ),
     }

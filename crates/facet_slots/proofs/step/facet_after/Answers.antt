@@ -7,7 +7,7 @@ use Rattle.facet_slots.specs.Keeping.{held_inputs}
 use Rattle.facet_slots.specs.Nexts.{IsNext, IsNextFacet}
 use Rattle.facet_slots.specs.Lent.{facet_in, flags_in, scene_in, setup_of, state_in, transition_of, values_in}
 use Rattle.facet_slots.proofs.Nexting.{next-vertex, next-vertex-calls}
-use Rattle.facet_slots.proofs.step.any_facet.Goals as goal
+use Rattle.facet_slots.proofs.step.facet_after.Goals as goal
 
 pub known_facet-requires-clause-same_combine : goal.known_facet-requires-clause-same_combine
 known_facet-requires-clause-same_combine g c =
