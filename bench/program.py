@@ -5,6 +5,7 @@ import os
 import subprocess
 import sys
 import tempfile
+import time
 
 ROOT = os.path.dirname(os.path.dirname(os.path.abspath(__file__)))
 PROGRAM = os.path.join(ROOT, "crates", "ccm", "out", "ccm")
@@ -37,17 +38,41 @@ def program():
     return PROGRAM
 
 
+def held(pid):
+    """The most memory that a process held so far, in bytes. What `wait4` tells is no less than this script held then."""
+    try:
+        with open(f"/proc/{pid}/status", encoding="ascii", errors="replace") as status:
+            return next((int(line.split()[1]) * 1024 for line in status if line.startswith("VmHWM:")), None)
+    except OSError:
+        return None
+
+
+def watched(child, seconds=None):
+    """Waits for a process, at most so many seconds: its processor time in seconds, and the most memory that it held, in bytes."""
+    start, memory = time.monotonic(), 0
+    while True:
+        pid, status, usage = os.wait4(child.pid, os.WNOHANG)
+        if pid:
+            child.returncode = os.waitstatus_to_exitcode(status)
+            return usage.ru_utime + usage.ru_stime, memory
+        memory = held(child.pid) or memory
+        if seconds and time.monotonic() - start > seconds:
+            child.kill()
+            os.wait4(child.pid, 0)
+            raise SystemExit(f"{child.args[0]}: no answer within {seconds} seconds")
+        time.sleep(0.001)
+
+
 def run(words, lines, folder, out):
     """One run in a folder: its processor time in seconds, and the most memory that it held, in bytes."""
     with tempfile.TemporaryFile() as script:
         script.writelines(line.encode() for line in lines)
         script.seek(0)
         child = subprocess.Popen([program(), *words], stdin=script, stdout=out, cwd=folder)
-        _, status, usage = os.wait4(child.pid, 0)
-        child.returncode = os.waitstatus_to_exitcode(status)
+        used = watched(child)
     if child.returncode != 0:
         end(f"ccm {' '.join(words)} ended with status {child.returncode}")
-    return usage.ru_utime + usage.ru_stime, usage.ru_maxrss * 1024
+    return used
 
 
 def refusal(replies):

@@ -20,12 +20,11 @@ import shutil
 import subprocess
 import sys
 import tempfile
-import time
 
 HERE = os.path.dirname(os.path.abspath(__file__))
 sys.path.append(os.path.dirname(HERE))
 
-from program import PROGRAM, is_built  # noqa: E402  (it stands in the folder above)
+from program import PROGRAM, is_built, watched  # noqa: E402  (it stands in the folder above)
 
 CODEMIRRORS = (
     "/usr/share/javascript/codemirror/lib/codemirror.js",
@@ -83,36 +82,15 @@ def neovim():
     return Peer("Neovim", command, "it isn't installed; apt-get install neovim")
 
 
-def held(pid):
-    """The most memory that a process held so far, in MiB. What `wait4` tells would be what this script held as it began one."""
-    try:
-        with open(f"/proc/{pid}/status", encoding="ascii", errors="replace") as status:
-            return next((int(line.split()[1]) / 1024 for line in status if line.startswith("VmHWM:")), None)
-    except OSError:
-        return None
-
-
 def run(command):
     """One run: what it wrote, its processor time in seconds, and the most memory that it held, in MiB."""
     with tempfile.TemporaryFile() as out:
-        start = time.monotonic()
         process = subprocess.Popen(command, stdin=subprocess.DEVNULL, stdout=out)
-        memory = 0.0
-        while True:
-            pid, status, usage = os.wait4(process.pid, os.WNOHANG)
-            if pid:
-                break
-            memory = held(process.pid) or memory
-            if time.monotonic() - start > SECONDS:
-                process.kill()
-                os.wait4(process.pid, 0)
-                raise SystemExit(f"{command[0]}: no answer within {SECONDS} seconds")
-            time.sleep(0.001)
-        process.returncode = os.waitstatus_to_exitcode(status)
+        seconds, memory = watched(process, SECONDS)
         if process.returncode != 0:
             raise SystemExit(f"{' '.join(command)}: status {process.returncode}")
         out.seek(0)
-        return out.read().decode(), usage.ru_utime + usage.ru_stime, memory
+        return out.read().decode(), seconds, memory / (1024 * 1024)
 
 
 def counted(text):
