@@ -130,10 +130,10 @@ impl RangeValue for Deco {
 
     fn try_copy(&self, _alloc: Global) -> Result<Deco, AllocError> {
         match self {
-            Deco::Mark(mark) => Ok(Deco::Mark(*mark)),
+            Deco::Mark(mark) => Ok(Deco::mark(mark.style.copied_by_fields(), mark.inclusive)),
             Deco::Widget(widget) => Ok(Deco::Widget(widget.try_copy()?)),
             Deco::Replace(replacement) => Ok(Deco::Replace(replacement.try_copy()?)),
-            Deco::Line(style) => Ok(Deco::Line(*style)),
+            Deco::Line(style) => Ok(Deco::Line(style.copied_by_fields())),
         }
     }
 }
