@@ -68,7 +68,7 @@ impl<T: RangeValue> PageBuilder<T> {
         if !self.growing.is_empty()
             && (self.growing.len() >= self.full || placed.start < self.start)
         {
-            make_page(&mut self.done, self.start, &mut self.growing)?;
+            seal(&mut self.done, self.start, &mut self.growing)?;
         }
         if self.growing.is_empty() {
             self.growing.reserve_exact(self.room)?;
@@ -148,6 +148,7 @@ fn grow<T: RangeValue>(
 
 /// Makes a page of the groups that grow at the place `start`, if there are any, and begins a list without groups. `Err`: out of
 /// memory.
+#[inline(never)]
 fn seal<T: RangeValue>(
     done: &mut Vec<PlacedPage<T>>,
     start: u32,
@@ -163,23 +164,6 @@ fn seal<T: RangeValue>(
     if growing.is_empty() {
         return Ok(());
     }
-    make_page(done, start, growing)
-}
-
-/// Makes a page of the groups that grow at the place `start`, and begins a list without groups. `Err`: out of memory.
-fn make_page<T: RangeValue>(
-    done: &mut Vec<PlacedPage<T>>,
-    start: u32,
-    growing: &mut Vec<PlacedGroup<T>>,
-) -> Result<(), AllocError>
-    requires pages { ArePages T.rules done.old.items }
-    requires growing { AreGrowing T.rules start growing.old.items }
-    requires some { 1 ≤ length growing.old.items }
-    ensures pages { ArePages T.rules done.new.items }
-    ensures groups { IfOk result (λ _. laid done.new.items ≡ laid done.old.items ++ growing.old.items) }
-    ensures growing { AreGrowing T.rules start growing.new.items }
-    ensures empty { IfOk result (λ _. growing.new.items ≡ []) }
-{
     let alloc = *done.allocator();
     let mut groups = mem::replace(growing, Vec::new(alloc));
     trim(&mut groups);

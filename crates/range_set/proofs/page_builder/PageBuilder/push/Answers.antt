@@ -4,14 +4,14 @@ use Rattle.range_set.specs.PrivateChunks.{flat, spread}
 use Rattle.range_set.specs.PrivatePages.{laid}
 use Rattle.range_set.proofs.Groups.{flat-spread_append}
 use Rattle.range_set.proofs.page_builder.PageBuilder.push.Goals as goal
-use Rattle.range_set.proofs.page_builder.PageBuilder.push.Goals.{then-not-is_empty+then-placed-self+in_ok-make_page, else-not-is_empty, then-is_empty+in_ok-reserve_exact, else-is_empty}
+use Rattle.range_set.proofs.page_builder.PageBuilder.push.Goals.{then-not-is_empty+then-placed-self+in_ok-seal, else-not-is_empty, then-is_empty+in_ok-reserve_exact, else-is_empty}
 
 pub grow-requires-clause-room : goal.grow-requires-clause-room
 grow-requires-clause-room g c =
     let at = c.self.inside in
     let here : length (flat (spread c.if-not-is_empty.self-inside.growing.items)) ≤ length (flat (spread c.args.self.now)) = elim c.if-not-is_empty.branch [
-      | then-not-is_empty+then-placed-self+in_ok-make_page w ↦
-          let none = ap (λ x. length (flat (spread x.growing.items))) w.self-inside-is ∙ ap (λ gs. length (flat (spread gs))) w.in_ok-make_page.ensures.empty in
+      | then-not-is_empty+then-placed-self+in_ok-seal w ↦
+          let none = ap (λ x. length (flat (spread x.growing.items))) w.self-inside-is ∙ ap (λ gs. length (flat (spread gs))) w.in_ok-seal.ensures.empty in
           omega (arith, none)
       | else-not-is_empty w ↦
           let same = ap (λ x. length (flat (spread x.growing.items))) w.self-inside-is in
