@@ -122,6 +122,7 @@ impl Desc {
 
     /// The replaced ranges, from left to right: each by itself, or those that touch as one (Reference Manual,
     /// ChangeDesc.iterChangedRanges).
+    #[inline(always)]
     pub fn ranges(&self, individual: bool) -> Result<Vec<ChangedRange>, AllocError>
         ensures { IfOk result (λ ranges. ranges.items ≡ changed_ranges individual self.now) }
     {

@@ -36,6 +36,7 @@ impl<'a> Model for PositionIndex<'a> {
 
 impl<'a> PositionIndex<'a> {
     /// The index of a description. `Err`: out of memory.
+    #[inline(always)]
     pub fn new(alloc: Global, desc: &'a Desc) -> Result<PositionIndex<'a>, AllocError>
         ensures { IfOk result (λ index. index ≡ desc.now) }
     {

@@ -46,6 +46,7 @@ impl<'a> PositionWalker<'a> {
 
     /// What `Desc::map_pos` answers for a place of the old text, in characters, that isn't less than the last one asked for
     /// (Reference Manual, ChangeDesc.mapPos).
+    #[inline(always)]
     pub fn map_pos(&mut self, pos: u32, side: i32, mode: MapMode) -> Option<u32>
         requires inside { pos ≤ old_size self.old.desc }
         requires ascending { self.old.reached ≤ pos }

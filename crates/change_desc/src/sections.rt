@@ -7,6 +7,7 @@ use smallvec::SmallVec;
 use std::alloc::AllocError;
 
 /// Puts a section after others in normal form.
+#[inline(always)]
 pub(crate) fn push_section(
     sections: &mut SmallVec<Section<u32>, 8>,
     section: Section<u32>,

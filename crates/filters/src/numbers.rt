@@ -43,6 +43,7 @@ fn numbers_of(alloc: Global, items: &[Plain]) -> Result<Vec<u32>, AllocError>
 }
 
 /// The rule numbers that a value lists, from the highest precedence to the lowest.
+#[inline(always)]
 fn numbers_in(alloc: Global, value: &Val) -> Result<Vec<u32>, AllocError>
     ensures { IfOk result (λ numbers. numbers.items ≡ rule_numbers value.now) }
 {

@@ -73,6 +73,7 @@ impl History {
 
     /// Whether the newest Change of each list that has one starts in a document of `len` characters, in which each newer Select
     /// lies.
+    #[inline(always)]
     pub fn leads_from(&self, len: u32) -> bool
         ensures { result ≡ leads_from len self.now }
     {

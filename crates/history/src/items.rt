@@ -224,6 +224,7 @@ impl<'a> Tail<'a> {
 }
 
 /// Items before others. `Err`: out of memory.
+#[inline(always)]
 pub(crate) fn with_all(
     alloc: Global,
     newer: Vec<SharedItem>,

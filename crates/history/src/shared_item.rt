@@ -25,6 +25,7 @@ impl Model for SharedItem {
 
 impl SharedItem {
     /// This item, to be shared. `Err`: out of memory.
+    #[inline(always)]
     pub(crate) fn new(alloc: Global, item: Item) -> Result<SharedItem, AllocError>
         ensures { IfOk result (λ shared. shared ≡ item) }
     {

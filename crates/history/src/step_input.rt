@@ -130,6 +130,7 @@ impl StepInput {
     }
 
     /// The Change that leads back to its start. `Err`: out of memory.
+    #[inline(always)]
     pub(crate) fn way_back(&self, alloc: Global) -> Result<ChangeItem, AllocError>
         requires { old_size self.now.changes ≡ length self.now.document.characters }
         ensures { IfOk result (λ change. change ≡ way_back self.now) }
@@ -231,6 +232,7 @@ fn are_close(first: Option<i64>, second: Option<i64>, delay: i64) -> bool
 }
 
 /// The same effects once more.
+#[inline(always)]
 pub(crate) fn copied(
     alloc: Global,
     effects: &[KeptEffect],

@@ -55,6 +55,7 @@ fn changing(alloc: Global, time: u32, change: Change) -> Result<Listed<SpecReque
 }
 
 /// The specs of the update of one spec. `Err`: out of memory.
+#[inline(always)]
 fn update(alloc: Global, spec: SpecRequest) -> Result<Listed<SpecRequest>, AllocError>
     ensures { IfOk result (λ specs. specs ≡ spec ∷ []) }
 {

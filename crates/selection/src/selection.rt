@@ -120,6 +120,7 @@ impl Selection {
     }
 
     /// The selection after changes to its document, in normal form (Reference Manual, EditorSelection.map).
+    #[inline(always)]
     pub fn map(&self, changes: &Desc) -> Result<Selection, AllocError>
         requires { LieIn (old_size changes.now) self.now.ranges }
         ensures selection { IfOk result (λ selection. selection ≡ moved_selection changes.now self.now) }

@@ -74,6 +74,7 @@ fn lined(alloc: Global, old: &Val, view: &UpdateView) -> Result<Val, AllocError>
 }
 
 /// The old set over the changes, where no effect adds to it; `None` where it is the old set. `Err`: out of memory.
+#[inline(always)]
 fn moved(alloc: Global, old: &Val, transaction: &TrView) -> Result<Option<Val>, AllocError>
     ensures { IfOk result (λ answer. unwrap_or answer old.now ≡ Val.Ranges (mapped_set transaction.now (ranges_in old.now))) }
 {

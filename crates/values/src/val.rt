@@ -34,6 +34,7 @@ impl Val {
     }
 
     /// The same value once more. Sets, and the items of a history, are shared. `Err`: out of memory.
+    #[inline(always)]
     pub fn try_copy(&self, alloc: Global) -> Result<Val, AllocError>
         ensures { IfOk result (λ copy. copy ≡ self.now) }
     {
