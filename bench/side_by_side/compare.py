@@ -51,8 +51,8 @@ Neovim        is called by a script in its own process, and finds a place in its
 class Peer:
     """A program: how it is run for so many transactions, and what is missing where it can't be."""
 
-    def __init__(self, name, command, install):
-        self.name, self.command, self.install = name, command, install
+    def __init__(self, name, command, missing):
+        self.name, self.command, self.missing = name, command, missing
 
 
 def ccm():
@@ -60,18 +60,32 @@ def ccm():
     return Peer("ccm", command, "it isn't built, or a source is newer than it; ./build proves and builds it")
 
 
-def found(variable, name):
-    """The path of the program that a variable of the environment names, or else of the one of this name."""
-    return shutil.which(os.environ.get(variable) or name)
+def found(variable, *names):
+    """The path of the program that a variable of the environment names, or, where it isn't set, of the first of these names that is
+    found."""
+    given = os.environ.get(variable)
+    return next(filter(None, map(shutil.which, [given] if given else names)), None)
+
+
+def not_found(variable, packages):
+    """Why a program wasn't found: none is where the variable of the environment says, or, where it isn't set, these packages of Debian
+    aren't installed."""
+    given = os.environ.get(variable)
+    return f"there is no program {given}" if given else f"it isn't installed; apt-get install {packages}"
 
 
 def codemirror():
-    node = found("NODE", "node") or found("NODE", "nodejs")
+    node = found("NODE", "node", "nodejs")
     given = os.environ.get("CODEMIRROR")
-    path = next((p for p in ((given,) if given else CODEMIRRORS) if os.path.exists(p)), None)
+    path = next((p for p in ((given,) if given else CODEMIRRORS) if os.path.isfile(p)), None)
     there = node and path
     command = (lambda n: [node, os.path.join(HERE, "codemirror5.js"), path, str(n)]) if there else None
-    missing = f"there is no file {given}" if given and not path else "it isn't installed; apt-get install nodejs libjs-codemirror"
+    if given and not path:
+        missing = f"there is no file {given}"
+    elif node:
+        missing = "it isn't installed; apt-get install libjs-codemirror"
+    else:
+        missing = not_found("NODE", "nodejs" if path else "nodejs libjs-codemirror")
     return Peer("CodeMirror 5", command, missing)
 
 
@@ -79,7 +93,7 @@ def neovim():
     nvim = found("NVIM", "nvim")
     script = os.path.join(HERE, "neovim.lua")
     command = (lambda n: [nvim, "--clean", "--headless", "-n", "-c", f"let g:count = {n}", "-c", f"luafile {script}"]) if nvim else None
-    return Peer("Neovim", command, "it isn't installed; apt-get install neovim")
+    return Peer("Neovim", command, not_found("NVIM", "neovim"))
 
 
 def run(command):
@@ -207,7 +221,7 @@ def main():
     peers = [ccm(), codemirror(), neovim()]
     for peer in peers:
         if not peer.command:
-            print(f"{peer.name} is left out: {peer.install}", file=sys.stderr)
+            print(f"{peer.name} is left out: {peer.missing}", file=sys.stderr)
     there = [peer for peer in peers if peer.command]
     if not there:
         raise SystemExit(1)
