@@ -10,24 +10,24 @@ use line_tree::Text;
 use listed::Listed;
 use selection::Selection;
 use std::alloc::{AllocError, Global};
-use values::{Deps, Scene, Val};
+use values::{Deps, Scene, SharedVal};
 
-/// The value of a facet or field once more, none of an absent field.
-fn copy_of(alloc: Global, shelf: &Shelf, vertex: Vertex) -> Result<Option<Val>, AllocError>
+/// The value of a facet or field, shared, none of an absent field.
+fn shared_value(shelf: &Shelf, vertex: Vertex) -> Result<Option<SharedVal>, AllocError>
     ensures { IfOk result (λ v. v ≡ held shelf.now.facets shelf.now.fields vertex) }
 {
     match shelf.value(vertex) {
-        Some(value) => Ok(Some(value.value().try_copy(alloc)?)),
+        Some(value) => Ok(Some(value.share()?)),
         None => Ok(None),
     }
 }
 
-/// The values of the declared facets and fields.
+/// The values of the declared facets and fields, shared.
 fn values_read(
     alloc: Global,
     reads: &[Dependency],
     shelf: &Shelf,
-) -> Result<Listed<Option<Val>>, AllocError>
+) -> Result<Listed<Option<SharedVal>>, AllocError>
     ensures { IfOk result (λ vs. vs ≡ map (held shelf.now.facets shelf.now.fields) (vertices_of reads.now)) }
 {
     let mut values = Vec::with_capacity(alloc, reads.len())?;
@@ -36,10 +36,10 @@ fn values_read(
             Dependency::Doc => {}
             Dependency::Selection => {}
             Dependency::Facet(facet) => {
-                values.push(copy_of(alloc, shelf, Vertex::Facet(facet))?)?;
+                values.push(shared_value(shelf, Vertex::Facet(facet))?)?;
             }
             Dependency::Field(field) => {
-                values.push(copy_of(alloc, shelf, Vertex::Field(field))?)?;
+                values.push(shared_value(shelf, Vertex::Field(field))?)?;
             }
         }
     }
@@ -90,7 +90,7 @@ fn selection_read(scene: &Scene, reads: &[Dependency]) -> Result<Option<Selectio
     }
 }
 
-/// What a rule that declares these dependencies reads. `Err`: out of memory.
+/// What a rule that declares these dependencies reads. Texts and values are shared. `Err`: out of memory.
 pub fn shown(
     alloc: Global,
     scene: &Scene,

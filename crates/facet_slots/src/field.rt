@@ -17,14 +17,13 @@ use crate::deps::shown;
 use crate::heard::heard;
 use crate::kept::Kept;
 use crate::setup::{Present, Setup};
-use crate::shared_val::SharedVal;
 use crate::shelf::Shelf;
 use crate::transition::Transition;
 use configuration::Vertex;
 use std::alloc::{AllocError, Global};
 use std::sync::ledger::Ledger;
 use steps::Steps;
-use values::{Comparer, Kit, Meanings, Scene, TrView, UpdateView, Val};
+use values::{Comparer, Kit, Meanings, Scene, SharedVal, TrView, UpdateView, Val};
 
 /// Whether two first values are the same, or there are none.
 fn same_init(was: Option<&Val>, is: Option<&Val>) -> bool

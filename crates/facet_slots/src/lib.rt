@@ -22,7 +22,6 @@ mod order;
 mod outputs;
 mod scene_flags;
 mod setup;
-mod shared_val;
 mod shelf;
 mod slot;
 mod slots;

@@ -18,13 +18,12 @@ use crate::facet_inputs::FacetInputs;
 use crate::flags::input_flagged;
 use crate::input_values::InputValues;
 use crate::outputs::{combine, node_outputs};
-use crate::shared_val::SharedVal;
 use crate::slot::Slot;
 use configuration::{FacetDef, NodeDef};
 use std::alloc::{AllocError, Global};
 use std::sync::ledger::Ledger;
 use steps::Steps;
-use values::{Kit, Meanings, Val};
+use values::{Kit, Meanings, SharedVal, Val};
 
 /// Whether the comparer says 'same' of each pair, and there are as many.
 fn same_outputs<M: Meanings>(kit: &Kit<M>, comparer: u32, old: &[Val], new: &[Val]) -> bool

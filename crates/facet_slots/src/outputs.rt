@@ -14,14 +14,13 @@ ghost use Rattle.facet_slots.specs.Found.{facet_of, scene_of};
 use crate::deps::shown;
 use crate::facet_inputs::FacetInputs;
 use crate::input_values::InputValues;
-use crate::shared_val::SharedVal;
 use crate::shelf::Shelf;
 use configuration::{Dependency, FacetDef, NodeDef};
 use listed::Listed;
 use std::alloc::{AllocError, Global};
 use std::sync::ledger::Ledger;
 use steps::Steps;
-use values::{Kit, Meanings, Scene, Val};
+use values::{Kit, Meanings, Scene, SharedVal, Val};
 
 /// The input that a rule computes from what it declares.
 fn computed<M: Meanings, L: Ledger>(

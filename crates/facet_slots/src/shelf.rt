@@ -10,11 +10,11 @@ ghost use Rattle.facet_slots.specs.Shelves.{slot_flags, slot_inputs, slot_values
 
 use crate::facet_inputs::FacetInputs;
 use crate::input_values::InputValues;
-use crate::shared_val::SharedVal;
 use crate::slot::Slot;
 use configuration::Vertex;
 use std::alloc::{AllocError, Global};
 use std::marker::Model;
+use values::SharedVal;
 
 /// The facets and fields of a state by their ids, as far as they were found. The numbers of each value lie in the ranges of their
 /// types. Contracts see the values, what the inputs of each facet give, and the flags.

@@ -1,5 +1,5 @@
 use crate::facet_inputs::FacetInputs;
-use crate::shared_val::SharedVal;
+use values::SharedVal;
 
 /// A facet or a field in a state: its value, none for an absent field and for what wasn't found yet; what the inputs of a facet
 /// give, none of a field; and whether it is flagged in the transition that made the state.

@@ -22,14 +22,13 @@ use crate::kept::Kept;
 use crate::next::next_facet;
 use crate::outputs::facet_found;
 use crate::setup::Setup;
-use crate::shared_val::SharedVal;
 use crate::slot::Slot;
 use crate::transition::Transition;
 use configuration::{FacetDef, NodeDef, Vertex};
 use std::alloc::{AllocError, Global};
 use std::sync::ledger::Ledger;
 use steps::Steps;
-use values::{Kit, Meanings, Val};
+use values::{Kit, Meanings, SharedVal, Val};
 
 /// A facet as it was, with what is kept of its inputs.
 fn facet_was<'a>(old_setup: &Setup<'a>, old: &'a Kept, was: &'a FacetDef, place: u32) -> Before<'a>

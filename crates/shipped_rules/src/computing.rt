@@ -9,7 +9,7 @@ use cm_plain::Plain;
 use line_tree::Text;
 use range_set::RangeSet;
 use std::alloc::{AllocError, Global};
-use values::{Deps, Val};
+use values::{Deps, SharedVal, Val};
 
 /// What the computer of a number makes of what is read. `Err`: out of memory.
 pub fn compute(alloc: Global, number: u32, deps: &Deps) -> Result<Val, AllocError>
@@ -63,7 +63,7 @@ fn sum_of_reads(deps: &Deps) -> Val
 }
 
 /// The sum of the values that are numbers; it stops at the ends of 64 bits.
-fn sum_of(values: &[Option<Val>]) -> i64
+fn sum_of(values: &[Option<SharedVal>]) -> i64
     ensures { result ≡ sum_of (filter_map number_read values.now) }
 {
     let mut sum: i64 = 0;
@@ -76,11 +76,11 @@ fn sum_of(values: &[Option<Val>]) -> i64
 }
 
 /// The number that a read is, if it is one.
-fn number_read(value: &Option<Val>) -> Option<i64>
+fn number_read(value: &Option<SharedVal>) -> Option<i64>
     ensures { result ≡ number_read value.now }
 {
     match value {
-        Some(value) => number_in(value),
+        Some(value) => number_in(value.value()),
         None => None,
     }
 }

@@ -13,7 +13,7 @@ pub(crate) fn first_read(deps: &Deps) -> Option<&Val>
     ensures { option_copied result ≡ first_read deps.now }
 {
     match deps.values() {
-        [Some(first), ..] => Some(first),
+        [Some(first), ..] => Some(first.value()),
         _ => None,
     }
 }

@@ -3,7 +3,7 @@ ghost use Rattle.selection.specs.Selections.{IsSelection};
 ghost use Rattle.values.specs.InRange.{AreInRange};
 ghost use Rattle.values.specs.Views.{AreDeps, DepsView, IsInside, IsShort};
 
-use crate::val::Val;
+use crate::shared_val::SharedVal;
 use line_tree::Text;
 use listed::Listed;
 use selection::Selection;
@@ -18,7 +18,7 @@ use std::marker::Model;
 pub struct Deps {
     document: Option<Text>,
     selection: Option<Selection>,
-    values: Listed<Option<Val>>,
+    values: Listed<Option<SharedVal>>,
 }
 
 impl Model for Deps {
@@ -42,7 +42,7 @@ impl Deps {
     pub fn new(
         document: Option<Text>,
         selection: Option<Selection>,
-        values: Listed<Option<Val>>,
+        values: Listed<Option<SharedVal>>,
     ) -> Deps
         requires short { IsShort (option_map (λ t. t.characters) document) }
         requires is_selection { IfSome selection IsSelection }
@@ -72,7 +72,7 @@ impl Deps {
     }
 
     /// The values of the declared facets and fields in the order of their declaration, `None` for an absent field.
-    pub fn values(&self) -> &[Option<Val>]
+    pub fn values(&self) -> &[Option<SharedVal>]
         ensures { result.now ≡ self.now.values }
     {
         self.values.as_slice()

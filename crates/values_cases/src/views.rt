@@ -13,7 +13,7 @@ use selection::{Selection, first_outside};
 use std::alloc::Global;
 use std::test::Fail;
 use transaction::Annotation;
-use values::{Deps, Scene, ShownEffect, TrNotes, TrView, Val};
+use values::{Deps, Scene, SharedVal, ShownEffect, TrNotes, TrView};
 
 fn text(alloc: Global, characters: &str) -> Result<Text, Fail>
     ensures { IfOk result (λ t. length t.characters ≤ max_len) }
@@ -25,12 +25,16 @@ fn text(alloc: Global, characters: &str) -> Result<Text, Fail>
     Ok(Text::of(alloc, characters.chars())?)
 }
 
+fn shared_of(alloc: Global, value: Made<'_>) -> Result<SharedVal, Fail> {
+    Ok(SharedVal::new(alloc, value_of(alloc, value)?)?)
+}
+
 /// Reads, where `None` is an absent field.
-fn reads(alloc: Global, values: &[Option<Made<'_>>]) -> Result<Listed<Option<Val>>, Fail> {
+fn reads(alloc: Global, values: &[Option<Made<'_>>]) -> Result<Listed<Option<SharedVal>>, Fail> {
     let mut reads = Listed::empty(alloc);
     for value in values {
         match value {
-            Some(value) => reads.push(Some(value_of(alloc, *value)?))?,
+            Some(value) => reads.push(Some(shared_of(alloc, *value)?))?,
             None => reads.push(None)?,
         }
     }
@@ -38,7 +42,7 @@ fn reads(alloc: Global, values: &[Option<Made<'_>>]) -> Result<Listed<Option<Val
 }
 
 /// What may be relied on in a read.
-fn known_read(read: &Option<Val>)
+fn known_read(read: &Option<SharedVal>)
     ensures { IfSome read.now IsInRange }
 {
     if let Some(value) = read {
@@ -47,7 +51,7 @@ fn known_read(read: &Option<Val>)
 }
 
 /// What may be relied on in reads.
-fn known_reads(reads: &[Option<Val>])
+fn known_reads(reads: &[Option<SharedVal>])
     ensures { AreInRange reads.now }
 {
     for read in reads {

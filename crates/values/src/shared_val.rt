@@ -1,12 +1,13 @@
 ghost use Rattle.std.specs.Prelude.{◌≡◌, IfOk};
 ghost use Rattle.values.specs.InRange.{IsInRange};
 
+use crate::val::Val;
 use std::alloc::{AllocError, Global};
 use std::marker::Model;
 use std::rc::Rc;
-use values::Val;
 
-/// A value that states share. Contracts see it as the value, each number of which lies in the range of its type.
+/// A value that states and what rules read share. Contracts see it as the value, each number of which lies in the range of its
+/// type.
 #[derive(Drop)]
 pub struct SharedVal {
     value: Rc<Val>,
