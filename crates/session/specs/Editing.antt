@@ -34,11 +34,13 @@ pub record Edit : Type 0 where
 abbrev pub fresh_in : (rows cols : ℕ) → PlainSession
 fresh_in rows cols = record fresh { window = window_of rows cols }
 
--- Begun: the session in which a file's text is opened, in a state with `history`, with the cursor before its first character
+-- a session in which a file's text is opened, in a state with `history`, with the cursor before its first character
+abbrev pub opened_in : Rules → PlainSession → (text : List ℕ) → PlainSession
+opened_in rules s text = left_by s (put_started s (created_from rules s.world.declared (HISTORY_NODE ∷ []) (record { document = text; selection = at_start })))
+
+-- Begun: the session in which a file's text is opened
 abbrev pub begun : Rules → (rows cols : ℕ) → (text : List ℕ) → PlainSession
-begun rules rows cols text =
-    let s = fresh_in rows cols in
-    left_by s (put_started s (created_from rules s.world.declared (HISTORY_NODE ∷ []) (record { document = text; selection = at_start })))
+begun rules rows cols text = opened_in rules (fresh_in rows cols) text
 
 -- the text of the file, or why its bytes are none; a file that isn't there is empty
 abbrev pub text_in : Files → (file : List ℕ) → Result (List ℕ) FileFault

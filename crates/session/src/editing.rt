@@ -1,17 +1,18 @@
-ghost use Rattle.std.specs.Prelude.{◌≡◌, ◌≤◌, IfErr, IfOk, IfSome, true};
+ghost use Rattle.std.specs.Prelude.{◌≡◌, ◌≤◌, IfErr, IfOk, IfSome, Some, true};
 ghost use Rattle.cm_outside.specs.Faults.{Rose};
 ghost use Rattle.cm_outside.specs.Sink.{sink_told};
 ghost use Rattle.cm_outside.specs.Source.{source_told};
 ghost use Rattle.file_text.specs.Files.{file_text};
 ghost use Rattle.values.specs.Whole.{IsWhole};
 ghost use Rattle.viewport.specs.Window.{is_size};
-ghost use Rattle.session.specs.Editing.{Edited, EndsUnopened, Typed, begun, fresh_in, text_in};
+ghost use Rattle.session.specs.Editing.{Edited, EndsUnopened, Typed, begun, fresh_in, opened_in, text_in};
 ghost use Rattle.session.specs.PrivateEditing.{ReadAs, ReadsFile};
+ghost use Rattle.session.specs.PrivateSession.{IsPutIn};
 ghost use Rattle.session.specs.State.{desk_of, plain_session};
 
 use crate::editor::{Editor, Lent};
 use crate::filing::created_over;
-use crate::outcome::Outcome;
+use crate::outcome::{Next, Outcome};
 use crate::putting::started_as;
 use crate::session::Session;
 use cm_outside::{Clock, Sink, Source, Status, Store, StoreFault};
@@ -21,6 +22,7 @@ use key_run::run_keys;
 use line_tree::Text;
 use registry::HISTORY_NODE;
 use screen::Screen;
+use state::State;
 use std::alloc::{AllocError, Global};
 use values::{Kit, Meanings};
 use viewport::Viewport;
@@ -66,7 +68,25 @@ fn fresh_in<M: Meanings>(alloc: Global, rows: u32, cols: u32) -> Result<Session<
     Ok(session)
 }
 
+/// What opening a text puts in place of a session's state: a first state with `history`. `Err`: out of memory.
+fn opening<M: Meanings>(
+    session: &Session<M>,
+    kit: &Kit<M>,
+    text: Text,
+) -> Result<Next<State<M>>, AllocError>
+    requires whole { IsWhole M.rules kit.now }
+    ensures put { IfOk result (λ next. IsPutIn session.now next.state next.window) }
+    ensures opened { IfOk result (λ next. plain_session (record session.now { state = Some next.state; count = next.count; window = next.window }) ≡ opened_in M.rules (plain_session session.now) text.characters) }
+{
+    let state = created_over(session, kit, text, &[HISTORY_NODE]);
+    match started_as(session, state) {
+        Ok(Outcome::Changed(_, next)) => Ok(next),
+        _ => Err(AllocError),
+    }
+}
+
 /// The session in which a text is opened, in a state with `history`. `Err`: out of memory.
+#[tactic(auto, using(crate::proofs::Begun::begins_as))]
 fn begun<M: Meanings>(
     alloc: Global,
     kit: &Kit<M>,
@@ -80,14 +100,9 @@ fn begun<M: Meanings>(
     ensures { IfOk result (λ s. plain_session s ≡ begun M.rules rows cols text.characters) }
 {
     let mut session = fresh_in(alloc, rows, cols)?;
-    let state = created_over(&session, kit, text, &[HISTORY_NODE]);
-    match started_as(&session, state) {
-        Ok(Outcome::Changed(_, next)) => {
-            session.put(next);
-            Ok(session)
-        }
-        _ => Err(AllocError),
-    }
+    let next = opening(&session, kit, text)?;
+    session.put(next);
+    Ok(session)
 }
 
 /// Writes the first frame of a session, then has each key of the source answered.
