@@ -86,7 +86,6 @@ fn opening<M: Meanings>(
 }
 
 /// The session in which a text is opened, in a state with `history`. `Err`: out of memory.
-#[tactic(auto, using(crate::proofs::Begun::begins_as))]
 fn begun<M: Meanings>(
     alloc: Global,
     kit: &Kit<M>,
