@@ -1,4 +1,4 @@
-use change_desc::{ChangedRange, Desc, MapMode, Section, Touch};
+use change_desc::{ChangedRange, ChangedRanges, Desc, MapMode, Section, Touch};
 use std::alloc::{AllocError, Global};
 use std::test::Fail;
 
@@ -143,7 +143,7 @@ fn ranges_of(
     alloc: Global,
     sections: &[Section<u32>],
     individual: bool,
-) -> Result<Vec<ChangedRange>, AllocError> {
+) -> Result<ChangedRanges, AllocError> {
     let desc = described(alloc, sections)?;
     desc.ranges(individual)
 }

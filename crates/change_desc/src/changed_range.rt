@@ -2,10 +2,15 @@ ghost use Rattle.std.specs.Prelude.{◌≡◌};
 ghost use Rattle.change_desc.specs.Ranges.{covering, meets, touch_of};
 
 use crate::touch::Touch;
+use smallvec::SmallVec;
+
+/// Replaced ranges, from left to right. Two lie in the list itself, since most changes replace one; more lie on the heap.
+pub type ChangedRanges = SmallVec<ChangedRange, 2>;
 
 /// A range that was replaced: where it stood in the old text, from `from_a` to `to_a`, and where what stands for it is in the
-/// new text, from `from_b` to `to_b`. Positions are in characters; an end is the place after the last character.
-#[derive(Clone, Copy, PartialEq, Eq, Debug, Drop)]
+/// new text, from `from_b` to `to_b`. Positions are in characters; an end is the place after the last character. The default, an
+/// empty range at 0, fills the unused places of a small vector.
+#[derive(Clone, Copy, PartialEq, Eq, Default, Debug, Drop)]
 pub struct ChangedRange {
     pub from_a: u32,
     pub to_a: u32,

@@ -6,7 +6,7 @@ ghost use Rattle.change_desc.specs.Positions.{is_negative, map_pos};
 ghost use Rattle.change_desc.specs.Ranges.{changed_ranges, changes_nothing, replaced, touches};
 ghost use Rattle.change_desc.specs.Sections.{IsSet, counted, inverted, new_of, new_size, normal, old_of, old_size};
 
-use crate::changed_range::ChangedRange;
+use crate::changed_range::ChangedRanges;
 use crate::compose::compose_sections;
 use crate::map::{map_sections, mapped_len};
 use crate::map_mode::MapMode;
@@ -123,7 +123,7 @@ impl Desc {
     /// The replaced ranges, from left to right: each by itself, or those that touch as one (Reference Manual,
     /// ChangeDesc.iterChangedRanges).
     #[inline(always)]
-    pub fn ranges(&self, individual: bool) -> Result<Vec<ChangedRange>, AllocError>
+    pub fn ranges(&self, individual: bool) -> Result<ChangedRanges, AllocError>
         ensures { IfOk result (λ ranges. ranges.items ≡ changed_ranges individual self.now) }
     {
         let alloc = *self.sections.allocator();

@@ -24,7 +24,7 @@ mod tail;
 mod touch;
 mod weave;
 
-pub use crate::changed_range::ChangedRange;
+pub use crate::changed_range::{ChangedRange, ChangedRanges};
 pub use crate::desc::Desc;
 pub use crate::map_mode::MapMode;
 pub use crate::meeting::{first_meets, ranges_from};

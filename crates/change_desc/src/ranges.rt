@@ -3,9 +3,10 @@ ghost use Rattle.change_desc.specs.Sections.{counted, new_size, old_size};
 ghost use Rattle.change_desc.specs.Steps.{Unites};
 ghost use Rattle.change_desc.specs.Ranges.{changes_nothing, replaced, touches, united};
 
-use crate::changed_range::ChangedRange;
+use crate::changed_range::{ChangedRange, ChangedRanges};
 use crate::section::Section;
 use crate::touch::Touch;
+use smallvec::SmallVec;
 use std::alloc::{AllocError, Global};
 
 /// Whether all is kept.
@@ -44,12 +45,12 @@ pub(crate) fn touches(sections: &[Section<u32>], from: u32, to: u32) -> Touch
 pub(crate) fn individual_ranges(
     alloc: Global,
     sections: &[Section<u32>],
-) -> Result<Vec<ChangedRange>, AllocError>
+) -> Result<ChangedRanges, AllocError>
     requires old_fits { old_size sections.now < 2 ^ 32 }
     requires new_fits { new_size counted sections.now < 2 ^ 32 }
     ensures { IfOk result (λ ranges. ranges.items ≡ replaced sections.now) }
 {
-    let mut ranges = Vec::new(alloc);
+    let mut ranges = SmallVec::new(alloc);
     let mut a = 0;
     let mut b = 0;
     for section in sections {
@@ -64,7 +65,7 @@ pub(crate) fn individual_ranges(
 
 /// Puts a range after those that were done and the one that may still grow; what may still grow now.
 fn unite(
-    ranges: &mut Vec<ChangedRange>,
+    ranges: &mut ChangedRanges,
     growing: Option<ChangedRange>,
     range: ChangedRange,
 ) -> Result<ChangedRange, AllocError>
@@ -86,12 +87,12 @@ fn unite(
 pub(crate) fn united_ranges(
     alloc: Global,
     sections: &[Section<u32>],
-) -> Result<Vec<ChangedRange>, AllocError>
+) -> Result<ChangedRanges, AllocError>
     requires old_fits { old_size sections.now < 2 ^ 32 }
     requires new_fits { new_size counted sections.now < 2 ^ 32 }
     ensures { IfOk result (λ ranges. ranges.items ≡ united (replaced sections.now)) }
 {
-    let mut ranges = Vec::new(alloc);
+    let mut ranges = SmallVec::new(alloc);
     let mut growing = None;
     let mut a = 0;
     let mut b = 0;
