@@ -7,12 +7,12 @@ ghost use Rattle.facet_slots.specs.Found.{scene_of};
 use crate::shelf::Shelf;
 use configuration::{Dependency, Vertex};
 use line_tree::Text;
-use listed::Listed;
 use selection::Selection;
+use smallvec::SmallVec;
 use std::alloc::{AllocError, Global};
-use values::{Deps, Scene, SharedVal};
+use values::{Deps, ReadValues, Scene, SharedVal};
 
-/// The value of a facet or field, shared, none of an absent field.
+/// The value of a facet or field, shared; `None` for an absent field.
 fn shared_value(shelf: &Shelf, vertex: Vertex) -> Result<Option<SharedVal>, AllocError>
     ensures { IfOk result (λ v. v ≡ held shelf.now.facets shelf.now.fields vertex) }
 {
@@ -23,14 +23,10 @@ fn shared_value(shelf: &Shelf, vertex: Vertex) -> Result<Option<SharedVal>, Allo
 }
 
 /// The values of the declared facets and fields, shared.
-fn values_read(
-    alloc: Global,
-    reads: &[Dependency],
-    shelf: &Shelf,
-) -> Result<Listed<Option<SharedVal>>, AllocError>
-    ensures { IfOk result (λ vs. vs ≡ map (held shelf.now.facets shelf.now.fields) (vertices_of reads.now)) }
+fn values_read(alloc: Global, reads: &[Dependency], shelf: &Shelf) -> Result<ReadValues, AllocError>
+    ensures { IfOk result (λ vs. vs.items ≡ map (held shelf.now.facets shelf.now.fields) (vertices_of reads.now)) }
 {
-    let mut values = Vec::with_capacity(alloc, reads.len())?;
+    let mut values = SmallVec::new(alloc);
     for read in reads {
         match *read {
             Dependency::Doc => {}
@@ -43,7 +39,7 @@ fn values_read(
             }
         }
     }
-    Ok(Listed::new(values))
+    Ok(values)
 }
 
 /// Whether the document is declared.
@@ -90,7 +86,7 @@ fn selection_read(scene: &Scene, reads: &[Dependency]) -> Result<Option<Selectio
     }
 }
 
-/// What a rule that declares these dependencies reads. Texts and values are shared. `Err`: out of memory.
+/// What a rule that declares these dependencies reads. Texts and values are shared, the selection is copied. `Err`: out of memory.
 pub fn shown(
     alloc: Global,
     scene: &Scene,

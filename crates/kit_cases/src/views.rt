@@ -8,6 +8,7 @@ use change_set::{Change, ChangeSet, InsertedText};
 use line_tree::{MAX_LEN, Text};
 use listed::Listed;
 use selection::{Selection, first_outside};
+use smallvec::SmallVec;
 use std::alloc::Global;
 use std::test::Fail;
 use values::{Deps, Scene, TrNotes, TrView, UpdateView};
@@ -91,7 +92,7 @@ fn typed(alloc: Global) -> Result<TrView, Fail> {
 
 /// No reads.
 fn bare(alloc: Global) -> Deps {
-    Deps::new(None, None, Listed::empty(alloc))
+    Deps::new(None, None, SmallVec::new(alloc))
 }
 
 /// What an updater is shown of that transaction, with no reads.

@@ -5,20 +5,36 @@ ghost use Rattle.values.specs.Views.{AreDeps, DepsView, IsInside, IsShort};
 
 use crate::shared_val::SharedVal;
 use line_tree::Text;
-use listed::Listed;
 use selection::Selection;
-use std::alloc::{AllocError, Global};
+use smallvec::SmallVec;
 use std::marker::Model;
+
+/// What a rule reads of facets and fields, in the order of their declaration, `None` for an absent field. Two values lie in the
+/// list itself, since most rules read no more; more lie on the heap.
+pub type ReadValues = SmallVec<Option<SharedVal>, 2>;
 
 /// What a rule reads: of the document, the selection, facets and fields those that it declares. Contracts see the document as
 /// its characters. A document has at most 16,777,216 characters, a selection that is shown with it lies in it, one that is shown
 /// without lies in some such document, its main range is one of its ranges, and the numbers of values lie in the ranges of their
 /// types.
-#[derive(Drop)]
 pub struct Deps {
     document: Option<Text>,
     selection: Option<Selection>,
-    values: Listed<Option<SharedVal>>,
+    values: ReadValues,
+}
+
+// Written by hand for proofs alone: those of what drops what a rule reads then don't go into how its values are kept.
+impl Drop for Deps {
+    fn drop(self) {
+        let Deps {
+            document,
+            selection,
+            values,
+        } = self;
+        drop(document);
+        drop(selection);
+        drop(values);
+    }
 }
 
 impl Model for Deps {
@@ -31,24 +47,20 @@ impl Model for Deps {
 
     ghost coded = { Prim.hlevel (codes, coded_datum) };
 
-    ghost view = { λ d. record { document = option_map (λ t. t.characters) d.document; selection = d.selection; values = d.values } };
+    ghost view = { λ d. record { document = option_map (λ t. t.characters) d.document; selection = d.selection; values = d.values.items } };
 
-    ghost invariant = { λ d. AreDeps (record { document = option_map (λ t. t.characters) d.document; selection = d.selection; values = d.values }) };
+    ghost invariant = { λ d. AreDeps (record { document = option_map (λ t. t.characters) d.document; selection = d.selection; values = d.values.items }) };
 }
 
 impl Deps {
     /// What is shown: the document and the selection, each if it is declared, and the values of the declared facets and fields
     /// in the order of their declaration, `None` for an absent field.
-    pub fn new(
-        document: Option<Text>,
-        selection: Option<Selection>,
-        values: Listed<Option<SharedVal>>,
-    ) -> Deps
+    pub fn new(document: Option<Text>, selection: Option<Selection>, values: ReadValues) -> Deps
         requires short { IsShort (option_map (λ t. t.characters) document) }
         requires is_selection { IfSome selection IsSelection }
         requires inside { IsInside (option_map (λ t. t.characters) document) selection }
-        requires in_range { AreInRange values }
-        ensures { result ≡ record { document = option_map (λ t. t.characters) document; selection = selection; values = values } }
+        requires in_range { AreInRange values.items }
+        ensures { result ≡ record { document = option_map (λ t. t.characters) document; selection = selection; values = values.items } }
     {
         Deps {
             document,

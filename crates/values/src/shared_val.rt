@@ -6,8 +6,8 @@ use std::alloc::{AllocError, Global};
 use std::marker::Model;
 use std::rc::Rc;
 
-/// A value that states and what rules read share. Contracts see it as the value, each number of which lies in the range of its
-/// type.
+/// A value with several owners: states, and the `Deps` of rules. Contracts see it as the value, each number of which lies in the
+/// range of its type.
 #[derive(Drop)]
 pub struct SharedVal {
     value: Rc<Val>,
@@ -47,7 +47,7 @@ impl SharedVal {
         &self.value
     }
 
-    /// What may be relied on in the value: its numbers lie in the ranges of their types.
+    /// What may be relied on in the value: its numbers lie in the ranges of their types. Reads none of them.
     pub fn known(&self)
         ensures { IsInRange self.now }
     {

@@ -10,10 +10,11 @@ use cm_plain::{KeptEffect, Plain, Str};
 use line_tree::{MAX_LEN, Text, cut_len};
 use listed::Listed;
 use selection::{Selection, first_outside};
+use smallvec::SmallVec;
 use std::alloc::Global;
 use std::test::Fail;
 use transaction::Annotation;
-use values::{Deps, Scene, SharedVal, ShownEffect, TrNotes, TrView};
+use values::{Deps, ReadValues, Scene, SharedVal, ShownEffect, TrNotes, TrView};
 
 fn text(alloc: Global, characters: &str) -> Result<Text, Fail>
     ensures { IfOk result (λ t. length t.characters ≤ max_len) }
@@ -30,8 +31,8 @@ fn shared_of(alloc: Global, value: Made<'_>) -> Result<SharedVal, Fail> {
 }
 
 /// Reads, where `None` is an absent field.
-fn reads(alloc: Global, values: &[Option<Made<'_>>]) -> Result<Listed<Option<SharedVal>>, Fail> {
-    let mut reads = Listed::empty(alloc);
+fn reads(alloc: Global, values: &[Option<Made<'_>>]) -> Result<ReadValues, Fail> {
+    let mut reads = SmallVec::new(alloc);
     for value in values {
         match value {
             Some(value) => reads.push(Some(shared_of(alloc, *value)?))?,
@@ -69,7 +70,7 @@ fn bare(alloc: Global, values: &[Option<Made<'_>>]) -> Result<Deps, Fail> {
 /// A document alone.
 fn document(alloc: Global, characters: &str) -> Result<Deps, Fail> {
     let text = text(alloc, characters)?;
-    Ok(Deps::new(Some(text), None, Listed::empty(alloc)))
+    Ok(Deps::new(Some(text), None, SmallVec::new(alloc)))
 }
 
 /// A document and a cursor in it.
@@ -80,7 +81,7 @@ fn cursor(alloc: Global, characters: &str, head: u32) -> Result<Deps, Fail> {
         return Err("a place in the text".into());
     }
     selection.known();
-    Ok(Deps::new(Some(text), Some(selection), Listed::empty(alloc)))
+    Ok(Deps::new(Some(text), Some(selection), SmallVec::new(alloc)))
 }
 
 /// What a rule reads: a document, a document with a cursor, or values.
