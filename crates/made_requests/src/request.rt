@@ -19,9 +19,9 @@ use workload::Edit;
 fn alone<T: Drop>(alloc: Global, item: T) -> Result<Listed<T>, AllocError>
     ensures { IfOk result (λ list. list ≡ item ∷ []) }
 {
-    let mut list = Listed::empty(alloc);
-    list.push(item)?;
-    Ok(list)
+    let mut items = Vec::with_capacity(alloc, 1)?;
+    items.push(item)?;
+    Ok(Listed::new(items))
 }
 
 /// The annotation of a time in milliseconds. `Err`: out of memory.

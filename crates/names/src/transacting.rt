@@ -84,7 +84,7 @@ pub fn specs_of(
 ) -> Result<Vec<Spec<Val>>, LineError>
     ensures { Gives (λ v. v.items) result (specs_of names.now requests) }
 {
-    let mut specs = Vec::new(alloc);
+    let mut specs = Vec::with_capacity(alloc, requests.as_slice().len())?;
     for request in requests.into_vec() {
         specs.push(spec_of(alloc, names, request)?)?;
     }
