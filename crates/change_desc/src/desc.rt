@@ -59,6 +59,7 @@ impl Desc {
 
     /// Puts a section over further characters of the old text after the others, in normal form: one that does nothing is left
     /// out, and one that joins the last is made one with it. When out of memory nothing changes.
+    #[inline(always)]
     pub fn push(&mut self, section: Section<u32>) -> Result<(), AllocError>
         requires old_fits { old_size self.old + old_of section < 2 ^ 32 }
         requires new_fits { new_size counted self.old + new_of counted section < 2 ^ 32 }

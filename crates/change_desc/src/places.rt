@@ -20,6 +20,7 @@ impl Desc {
 
 impl<'a> PositionWalker<'a> {
     /// What `Desc::place_after` answers for a place of the old text that isn't less than the last one asked for.
+    #[inline(always)]
     pub fn place_after(&mut self, pos: u32, side: i32) -> u32
         requires inside { pos ≤ old_size self.old.desc }
         requires ascending { self.old.reached ≤ pos }

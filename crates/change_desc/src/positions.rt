@@ -85,6 +85,7 @@ pub(crate) fn is_lost(sections: &[Section<u32>], pos: u32, mode: MapMode) -> boo
 }
 
 /// Where a position of the old text goes: on the negative side of an insertion it stays before it.
+#[inline(always)]
 pub(crate) fn place(sections: &[Section<u32>], pos: u32, negative: bool) -> u32
     requires inside { pos ≤ old_size sections.now }
     requires fits { new_size counted sections.now < 2 ^ 32 }

@@ -27,6 +27,7 @@ pub(crate) struct Ascent {
 }
 
 /// Puts after sections so many characters that are kept, and then so many that are replaced by a text.
+#[inline(always)]
 pub(crate) fn push_span(
     sections: &mut Sections,
     kept: u32,
@@ -104,6 +105,7 @@ impl Ascent {
     }
 
     /// The changes as one set.
+    #[inline(always)]
     fn finish(self) -> Result<ChangeSet, AllocError>
         requires { IsAscent self }
         ensures { IfOk result (λ set. set ≡ total_of self) }

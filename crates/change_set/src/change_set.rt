@@ -58,6 +58,7 @@ impl ChangeSet {
     /// may lead to a text longer than `max`, the set that keeps all being the first of them. `Err`: the first change
     /// whose range is reversed or ends past the document, or whose set is over another length; else the first running
     /// total that is too long; or out of memory.
+    #[inline(always)]
     pub fn of(
         alloc: Global,
         changes: &[Change],
@@ -140,6 +141,7 @@ impl ChangeSet {
     }
 
     /// The new document over an old one (ChangeSet.apply). `Err`: out of memory.
+    #[inline(always)]
     pub fn apply(&self, document: &Text) -> Result<Text, AllocError>
         requires { old_size self.now ≡ length document.now.characters }
         ensures { IfOk result (λ text. text.characters ≡ apply self.now document.now.characters) }
@@ -203,6 +205,7 @@ impl ChangeSet {
     }
 
     /// The same changes with each text known by its length alone (ChangeSet.desc). `Err`: out of memory.
+    #[inline(always)]
     pub fn desc(&self) -> Result<Desc, AllocError>
         ensures { IfOk result (λ desc. desc ≡ lengths spelled self.now) }
     {
@@ -254,6 +257,7 @@ impl ChangeSet {
     }
 
     /// The same set once more. `Err`: out of memory.
+    #[inline(always)]
     pub fn try_copy(&self) -> Result<ChangeSet, AllocError>
         ensures { IfOk result (λ copy. copy ≡ self.now) }
     {

@@ -31,6 +31,7 @@ impl<'a> OnlyReplace<'a> {
 }
 
 /// The only range that some sections replace, unless they replace none or more.
+#[inline(always)]
 pub(crate) fn only_replace(sections: &[Section<InsertedText>]) -> Option<OnlyReplace<'_>>
     requires { old_size sections.now < 2 ^ 32 }
     ensures { MatchOption result (Unit {0}) (λ only. IsOnly sections.now only.from only.to only.text.now.characters) }

@@ -26,6 +26,7 @@ pub(crate) fn written(alloc: Global, sections: &[Section<InsertedText>]) -> Resu
 }
 
 /// The text of the next characters.
+#[inline(always)]
 pub(crate) fn next_text(cursor: &mut TextCursor<'_>, len: u32) -> Result<InsertedText, AllocError>
     requires { len ≤ length cursor.old }
     ensures text { IfOk result (λ text. text ≡ take len cursor.old) }

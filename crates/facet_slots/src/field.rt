@@ -92,6 +92,7 @@ pub struct FieldFound {
 
 /// What an updater's answer makes of a field; the old value is shared where it stays. It is flagged where the comparer doesn't say
 /// 'same' of the old value and the new one.
+#[inline(always)]
 fn answered<M: Meanings>(
     alloc: Global,
     comparer: &Comparer<M>,

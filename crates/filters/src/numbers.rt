@@ -62,6 +62,7 @@ pub(crate) fn highest_first(alloc: Global, value: &Val) -> Result<Vec<u32>, Allo
 }
 
 /// The same from the lowest precedence to the highest. `Err`: out of memory.
+#[inline(always)]
 pub(crate) fn lowest_first(alloc: Global, value: &Val) -> Result<Vec<u32>, AllocError>
     ensures value { IfOk result (λ numbers. numbers.items ≡ reverse (rule_numbers value.now)) }
     ensures numbers { IfOk result (λ numbers. (count : ℕ) → ListsNumbers count value.now → All (IsNumber count) numbers.items) }

@@ -173,6 +173,7 @@ fn new_scene(start: &Start<'_>, draft: &Draft<Val>) -> Result<Scene, AllocError>
 }
 
 /// A document with its selection once more. The text is shared.
+#[inline(always)]
 fn scene_copy(document: &Text, selection: &Selection) -> Result<Scene, AllocError>
     ensures document { IfOk result (λ scene. scene.document.characters ≡ document.now.characters) }
     ensures selection { IfOk result (λ scene. scene.selection ≡ selection.now) }

@@ -146,6 +146,7 @@ impl Lists {
     }
 
     /// What can be undone after recorded changes and effects.
+    #[inline(always)]
     fn done_after(&self, alloc: Global, input: &StepInput) -> Result<Items, AllocError>
         requires step { IsStep input.now }
         requires done { LeadOn (length input.now.document.characters) self.now.done }

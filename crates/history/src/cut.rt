@@ -69,6 +69,7 @@ fn room_after(room: usize, is_change: bool) -> (usize, bool)
 }
 
 /// Of each row of Selects the newest. From the first row on after which none is longer than it may be, the list is shared.
+#[inline(always)]
 pub(crate) fn keep_selects(alloc: Global, items: &Items) -> Result<Items, AllocError>
     ensures { IfOk result (λ kept. kept ≡ keep_selects most_selects items.now) }
 {

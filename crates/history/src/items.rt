@@ -76,6 +76,7 @@ impl Items {
     }
 
     /// An item before these, which are shared. `Err`: out of memory.
+    #[inline(always)]
     pub(crate) fn with_shared(self, alloc: Global, item: SharedItem) -> Result<Items, AllocError>
         ensures { IfOk result (λ all. all ≡ item ∷ self) }
     {
@@ -196,6 +197,7 @@ impl<'a> Tail<'a> {
     }
 
     /// These items as a list, without a copy of them. `Err`: no further owner can be counted.
+    #[inline(always)]
     pub(crate) fn share(&self) -> Result<Items, AllocError>
         ensures { IfOk result (λ same. same ≡ self.now) }
     {

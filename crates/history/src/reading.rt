@@ -13,6 +13,7 @@ use std::alloc::{AllocError, Global};
 
 impl Items {
     /// An item before others, which are shared. `Err`: out of memory.
+    #[inline(always)]
     pub(crate) fn with_first(&self, alloc: Global, item: Item) -> Result<Items, AllocError>
         ensures { IfOk result (λ all. all ≡ item ∷ self.now) }
     {
@@ -109,6 +110,7 @@ impl Items {
     }
 
     /// Whether the newest Change, if there is one, starts in a document of `len` characters, in which each newer Select lies.
+    #[inline(always)]
     pub(crate) fn leads(&self, len: u32) -> bool
         ensures { result ≡ leads len self.now }
     {

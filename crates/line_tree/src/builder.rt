@@ -58,6 +58,7 @@ fn line_len(characters: &[char]) -> usize
 }
 
 /// The text that was done and then the leaf.
+#[inline(always)]
 fn with_leaf(alloc: Global, done: &Done, leaf: Leaf) -> Result<Text, AllocError>
     requires few { count_breaks leaf < 64 }
     requires fits { length (characters_of done.now) + length leaf < 2 ^ 32 }
@@ -277,6 +278,7 @@ impl TextBuilder {
     }
 
     /// The text of the characters that were put in. `Err`: out of memory.
+    #[inline(always)]
     pub fn finish(self) -> Result<Text, AllocError>
         ensures { IfOk result (λ t. t.characters ≡ self) }
     {

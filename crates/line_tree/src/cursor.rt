@@ -107,6 +107,7 @@ impl<'a> TextCursor<'a> {
     }
 
     /// Puts the next characters into a text that is made. `Err`: out of memory.
+    #[inline(always)]
     pub fn copy_to(&mut self, count: u32, builder: &mut TextBuilder) -> Result<(), AllocError>
         requires within { count ≤ length self.old }
         requires fits { length builder.old + count < 2 ^ 32 }

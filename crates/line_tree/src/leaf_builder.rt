@@ -194,6 +194,7 @@ impl LeafBuilder {
     }
 
     /// Adds characters.
+    #[inline(always)]
     pub(crate) fn push_all(&mut self, characters: &[char]) -> Result<(), AllocError>
         requires { length self.old + length characters.now < 2 ^ 32 }
         ensures { OnOk result (self.new ≡ self.old ++ characters.now) }
@@ -374,6 +375,7 @@ impl LeafBuilder {
 
 impl LeafBuilder {
     /// The leaf of what was added.
+    #[inline(always)]
     pub(crate) fn finish(self) -> Result<Leaf, AllocError>
         ensures { IfOk result (λ l. l ≡ self) }
     {

@@ -290,6 +290,7 @@ impl Text {
     }
 
     /// The line that a place stands in; the place after a line's last character is in that line (Text.lineAt).
+    #[inline(always)]
     pub fn line_at(&self, pos: u32) -> Line
         requires { pos ≤ length self.now.characters }
         ensures line { IsLineOf self.now.characters result }
@@ -350,6 +351,7 @@ impl Text {
     }
 
     /// So many characters from a place on, in UTF-8, with LF between lines.
+    #[inline(always)]
     pub(crate) fn string_at(&self, from: u32, count: u32) -> Result<String, AllocError>
         requires { from + count ≤ length self.now.characters }
         ensures { IfOk result (λ s. string_bytes s ≡ encode_utf8_all (take count (drop from self.now.characters))) }

@@ -18,6 +18,7 @@ const SHORT_LEN: u32 = 256;
 const FEW_PARTS: usize = 12;
 
 /// The text of a leaf of at most 64 lines.
+#[inline(always)]
 pub(crate) fn make_leaf(alloc: Global, leaf: Leaf) -> Result<Text, AllocError>
     requires few { count_breaks leaf < 64 }
     requires fits { length leaf < 2 ^ 32 }
@@ -28,6 +29,7 @@ pub(crate) fn make_leaf(alloc: Global, leaf: Leaf) -> Result<Text, AllocError>
 }
 
 /// The text of 2 to 32 parts of one height.
+#[inline(always)]
 pub(crate) fn make_branch(alloc: Global, parts: Vec<Text>, height: u32) -> Result<Text, AllocError>
     requires several { 2 ≤ length parts.items }
     requires few { length parts.items ≤ 32 }
@@ -60,6 +62,7 @@ fn is_cut(leaf: &Leaf) -> bool
 }
 
 /// Adds one or two leaves of these characters, which have at most 127 lines.
+#[inline(always)]
 pub(crate) fn add_lines(alloc: Global, leaf: Leaf, out: &mut Vec<Text>) -> Result<(), AllocError>
     requires few { count_breaks leaf < 127 }
     requires fits { length leaf < 2 ^ 32 }
@@ -78,6 +81,7 @@ pub(crate) fn add_lines(alloc: Global, leaf: Leaf, out: &mut Vec<Text>) -> Resul
 }
 
 /// Adds one or two texts over these parts, of which there are 2 to 64.
+#[inline(always)]
 pub(crate) fn add_level(
     alloc: Global,
     mut parts: Vec<Text>,
@@ -112,6 +116,7 @@ pub(crate) fn add_copies(parts: &[Text], out: &mut Vec<Text>) -> Result<(), Allo
 }
 
 /// One or two texts of one height, as one text.
+#[inline(always)]
 pub(crate) fn one_text(alloc: Global, mut texts: Vec<Text>, height: u32) -> Result<Text, AllocError>
     requires some { 0 < length texts.items }
     requires few { length texts.items ≤ 2 }

@@ -60,6 +60,7 @@ impl<'a> ClearWalk<'a> {
 
     /// Where a place goes that no replaced range meets and that isn't less than the last one looked for in the changes. The replaced
     /// ranges are given from the first on that doesn't end before it.
+    #[inline(always)]
     pub(crate) fn place_after(&mut self, pos: u32, changed: &'a [ChangedRange]) -> u32
         requires walk { IsClearWalk self.old }
         requires inside { pos ≤ old_size self.old.walker.desc }

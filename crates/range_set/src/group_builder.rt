@@ -29,6 +29,7 @@ pub(crate) struct GroupBuilder<T: RangeValue> {
 impl<T: RangeValue> GroupBuilder<T> {
     /// A builder without ranges for what becomes of a set of so many pages, of which the first has so many groups. It has room for
     /// these pages and one more. `Err`: out of memory.
+    #[inline(always)]
     pub(crate) fn for_pages(
         alloc: Global,
         pages: usize,
@@ -106,6 +107,7 @@ impl<T: RangeValue> GroupBuilder<T> {
     }
 
     /// Puts a group after the ranges, at a place of its own, and shares it. `Err`: out of memory.
+    #[inline(always)]
     pub(crate) fn share(&mut self, start: u32, group: &Rc<Group<T>>) -> Result<(), AllocError>
         requires builder { IsGroupBuilder T.rules self.old }
         requires group { IsGroup T.rules start group.now.value }
@@ -124,6 +126,7 @@ impl<T: RangeValue> GroupBuilder<T> {
     }
 
     /// Puts the groups of a page after the others, the page at a place of its own, and shares it. `Err`: out of memory.
+    #[inline(always)]
     fn put_page(&mut self, start: u32, page: &Rc<Page<T>>) -> Result<(), AllocError>
         requires builder { IsGroupBuilder T.rules self.old }
         requires page { IsPage T.rules start page.now.value }
@@ -142,6 +145,7 @@ impl<T: RangeValue> GroupBuilder<T> {
     /// before the others: from the first on that ends at or after the start of a replaced range, or in which an empty range has an end
     /// side less than its start side. Pages are shared as a whole, unless they become one with groups before them. `changed` are the
     /// replaced ranges from the first on that doesn't end before `from`. `Err`: out of memory.
+    #[inline(always)]
     pub(crate) fn share_carried<'a>(
         &mut self,
         groups: GroupCursor<'a, T>,
@@ -205,6 +209,7 @@ impl<T: RangeValue> GroupBuilder<T> {
     /// Shares the first groups as `share_carried` does, but as pages alone: from the place where a page begins up to the first that
     /// becomes one with groups before it, that ends at or after the start of a replaced range, or in which an empty range has an end
     /// side less than its start side. `Err`: out of memory.
+    #[inline(always)]
     fn share_carried_pages<'a>(
         &mut self,
         groups: GroupCursor<'a, T>,
@@ -274,6 +279,7 @@ impl<T: RangeValue> GroupBuilder<T> {
 
     /// Shares groups after the ranges, each at its place. Pages are shared as a whole, unless they become one with groups before them.
     /// `Err`: out of memory.
+    #[inline(always)]
     pub(crate) fn share_all(&mut self, groups: GroupCursor<'_, T>) -> Result<(), AllocError>
         requires builder { IsGroupBuilder T.rules self.old }
         requires room { length (flat (grouped self.old)) + length (flat (spread groups)) < 2 ^ 64 }
@@ -300,6 +306,7 @@ impl<T: RangeValue> GroupBuilder<T> {
     }
 
     /// The groups of all ranges, and how many ranges there are. `Err`: out of memory.
+    #[inline(always)]
     pub(crate) fn finish(self) -> Result<(GroupList<T>, usize), AllocError>
         requires { IsGroupBuilder T.rules self }
         ensures groups { IfOk result (λ made. AreGroupsOf T.rules made.0 made.1) }

@@ -73,6 +73,7 @@ impl<'a, T: RangeValue> GroupCursor<'a, T> {
     }
 
     /// The next group, its place, and the place after it.
+    #[inline(always)]
     pub(crate) fn split_first(&self) -> Option<(u32, &'a Rc<Group<T>>, GroupCursor<'a, T>)>
         ensures some { IfSome result (λ x. PlacesFirst T.rules self.now x.0 x.1.now x.2) }
         ensures none { result ≡ None → self.now ≡ [] }

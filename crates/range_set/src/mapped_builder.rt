@@ -103,6 +103,7 @@ impl<T: RangeValue> MappedBuilder<T> {
     }
 
     /// Puts the chunks after the groups that are done into groups. `Err`: out of memory.
+    #[inline(always)]
     fn end_groups(&mut self) -> Result<(), AllocError>
         requires builder { IsMappedBuilder T.rules self.old }
         requires order { Ascend 0 (put_down self.old) }
@@ -121,6 +122,7 @@ impl<T: RangeValue> MappedBuilder<T> {
     }
 
     /// The groups of all ranges, and how many ranges there are. `Err`: out of memory.
+    #[inline(always)]
     pub(crate) fn finish(mut self) -> Result<(GroupList<T>, usize), AllocError>
         requires builder { IsMappedBuilder T.rules self }
         requires order { Ascend 0 (put_down self ++ stable_sort (before T.rules) self.run.items) }

@@ -208,6 +208,7 @@ fn ranges_met<T>(base: u32, chunks: &[Placed<T>], changed: &[ChangedRange]) -> u
 
 /// Puts the ranges of a chunk at the place `start` that the changes of a walk keep, moved, after a run of others, and makes room for
 /// so many more. The ranges that the changes replace are given from the first on that may meet the chunk. `Err`: out of memory.
+#[inline(never)]
 fn map_each<'a, T: RangeValue, L: Ledger>(
     start: u32,
     chunk: &Rc<Chunk<T>>,

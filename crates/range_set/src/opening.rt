@@ -49,6 +49,7 @@ pub(crate) fn opened_by<'a, T: RangeValue>(
 }
 
 /// Puts the chunks of a group at the place `base` after others, shared. `Err`: out of memory.
+#[inline(always)]
 fn open<T: RangeValue>(
     base: u32,
     group: &Rc<Group<T>>,
@@ -64,6 +65,7 @@ fn open<T: RangeValue>(
 }
 
 /// Puts chunks that count from the place `base` after others, shared. `Err`: out of memory.
+#[inline(always)]
 pub(crate) fn share_each<T: RangeValue>(
     base: u32,
     chunks: &[Placed<T>],

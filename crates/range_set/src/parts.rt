@@ -28,6 +28,7 @@ pub(crate) fn joined_of(full: usize) -> usize {
 
 /// Makes room for so many more items in a list: for as many as are expected, if those are more, where there are none yet. `Err`: out
 /// of memory.
+#[inline(always)]
 pub(crate) fn reserve<T>(list: &mut Vec<T>, more: usize, expected: usize) -> Result<(), AllocError>
     ensures { list.new.items ≡ list.old.items }
 {
@@ -39,6 +40,7 @@ pub(crate) fn reserve<T>(list: &mut Vec<T>, more: usize, expected: usize) -> Res
 }
 
 /// Gives back the free room of a list that fills less than half of its room, rounded down: a list that is cut in half keeps its room.
+#[inline(always)]
 pub(crate) fn trim<T>(list: &mut Vec<T>)
     ensures { list.new.items ≡ list.old.items }
 {

@@ -41,6 +41,7 @@ impl<'a, T: RangeValue> Iterator for Points<'a, T> {
 
     ghost remaining = { item_count (λ s. s) };
 
+    #[inline(always)]
     fn next(&mut self) -> Option<RangeRef<'a, T>> {
         loop {
             self.ranges.pass_without_point();

@@ -181,6 +181,7 @@ impl<T: RangeValue> RangeSet<T> {
     }
 
     /// Whether ranges can be added: `Err` with their first fault, or where as many can't be counted, so that they find no room.
+    #[inline(always)]
     fn check_added(&self, add: &[Ranged<T>]) -> Result<(), RangeError>
         ensures in_order { IfOk result (λ _. first_fault T.rules add.now ≡ None) }
         ensures room { IfOk result (λ _. length self.now + length add.now < 2 ^ 64) }
@@ -313,6 +314,7 @@ fn pages_end_within<T: RangeValue>(pages: &[PlacedPage<T>], len: u32) -> bool
 }
 
 /// The last range of some pages.
+#[inline(always)]
 fn last_of<T: RangeValue>(pages: &[PlacedPage<T>]) -> Option<RangeRef<'_, T>>
     requires { ArePages T.rules pages.now }
     ensures { option_map seen result ≡ slice_get (flat (spread (laid pages.now))) (length (flat (spread (laid pages.now))) - 1) }

@@ -140,6 +140,7 @@ pub(crate) fn updated_chunks<T: RangeValue, F: Fn(&RangeRef<'_, T>) -> bool>(
 }
 
 /// Whether an added range belongs before a range of a chunk at a place.
+#[inline(always)]
 fn is_before<T: RangeValue>(added: &Ranged<T>, start: u32, range: &Ranged<T>) -> bool
     requires { start + range.now.from < 2 ^ 32 }
     ensures { result ≡ before T.rules added.now (shift start range.now) }
@@ -149,6 +150,7 @@ fn is_before<T: RangeValue>(added: &Ranged<T>, start: u32, range: &Ranged<T>) ->
 }
 
 /// Puts the added ranges that belong before the first of a chunk after a run. `Err`: out of memory.
+#[inline(always)]
 fn take_before<T: RangeValue>(
     placed: &Placed<T>,
     added: &mut VecDeque<Ranged<T>>,
@@ -172,6 +174,7 @@ fn take_before<T: RangeValue>(
 }
 
 /// Whether a chunk stays apart from added ranges: none belongs before its last one, and it isn't joined with what is touched.
+#[inline(always)]
 fn is_apart<T: RangeValue>(
     placed: &Placed<T>,
     run: &[Ranged<T>],

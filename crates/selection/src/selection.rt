@@ -110,6 +110,7 @@ impl Selection {
     }
 
     /// The main range alone (Reference Manual, EditorSelection.asSingle).
+    #[inline(always)]
     pub fn as_single(&self) -> Result<Selection, AllocError>
         ensures selection { IfOk result (λ selection. selection ≡ single_of self.now) }
         ensures inside { IfOk result (λ selection. (len : ℕ) → LieIn len self.now.ranges → LieIn len selection.ranges) }
@@ -162,6 +163,7 @@ impl Selection {
     }
 
     /// A copy.
+    #[inline(always)]
     pub fn try_copy(&self) -> Result<Selection, AllocError>
         ensures { IfOk result (λ copy. copy ≡ self.now) }
     {

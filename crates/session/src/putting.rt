@@ -50,6 +50,7 @@ pub(crate) fn view<'a, M: Meanings>(
 }
 
 /// The window moved as little as it takes to show the main range's head in a state.
+#[inline(always)]
 pub(crate) fn shown_in<M: Meanings>(
     session: &Session<M>,
     state: &State<M>,
@@ -83,6 +84,7 @@ fn counted(count: u64) -> u64
 
 /// The state that takes the place of the one before, with this count and this window, which is moved; or its refusal. The only
 /// other error is out of memory.
+#[inline(always)]
 fn next<M: Meanings>(
     session: &Session<M>,
     state: Result<State<M>, StateError>,

@@ -81,6 +81,7 @@ impl<M: Meanings> Model for Session<M> {
 }
 
 /// The line that answers. `Err`: out of memory.
+#[inline(always)]
 fn answer_text(alloc: Global, answer: Answer) -> Result<String, AllocError>
     ensures { IfOk result (λ r. string_bytes r ≡ reply_text (replies.Ok answer)) }
 {
@@ -322,6 +323,7 @@ impl<M: Meanings> Session<M> {
     }
 
     /// Puts another state in place, with its count and its window.
+    #[inline(always)]
     pub(crate) fn put(&mut self, next: Next<State<M>>)
         requires { IsPutIn self.old next.state next.window }
         ensures { self.new ≡ record self.old { state = Some next.state; count = next.count; window = next.window } }
@@ -352,6 +354,7 @@ impl<M: Meanings> Session<M> {
     }
 
     /// Puts in place what a command makes, or answers with its refusal. The reply is made first.
+    #[inline(always)]
     fn settle(
         &mut self,
         outcome: Result<Outcome<State<M>>, LineError>,

@@ -30,6 +30,7 @@ impl Model for SharedVal {
 
 impl SharedVal {
     /// This value, to be shared. `Err`: out of memory.
+    #[inline(always)]
     pub fn new(alloc: Global, value: Val) -> Result<SharedVal, AllocError>
         ensures { IfOk result (λ shared. shared ≡ value) }
     {

@@ -20,6 +20,7 @@ pub struct TrNotes {
 
 impl TrNotes {
     /// What may be relied on in it: its numbers lie in the ranges of their types. It reads them all.
+    #[inline(always)]
     pub fn known(&self)
         ensures effects { AllByRecursion IsShownInRange self.now.effects }
         ensures inverted { AllByRecursion IsKeptInRange self.now.inverted }

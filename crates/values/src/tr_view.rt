@@ -47,6 +47,7 @@ impl TrView {
 
     /// What is shown: the changes, the start and the new document with their selections, whether the new selection was given,
     /// and what else the transaction carries. `Err`: out of memory.
+    #[inline(always)]
     pub fn new(
         alloc: Global,
         changes: ChangeSet,

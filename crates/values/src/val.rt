@@ -26,6 +26,7 @@ const _: () = prove!(size_of::<Val>() == 40);
 
 impl Val {
     /// Whether both are equal.
+    #[inline(always)]
     pub fn same(&self, other: &Val) -> bool
         ensures equal { IsTrue result ↔ (self.now ≡ other.now) }
         ensures value { result ≡ equal self.now other.now }
