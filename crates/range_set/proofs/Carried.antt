@@ -4,7 +4,7 @@ use Rattle.std.proofs.lemmas.List.{append-nil, map-append}
 use Rattle.std.specs.List.{list_any}
 use Rattle.change_desc.specs.Ranges.{meets}
 use Rattle.change_desc.specs.declared.changed_range.ChangedRange.{ChangedRange}
-use Rattle.range_set.specs.PrivateChunks.{AllChunksApart, AreChunksShared, AreShared, carry_chunk, flat, move, shift}
+use Rattle.range_set.specs.PrivateChunks.{AllChunksApart, AreChunksShared, AreShared, carry_chunk, content, flat, move, shift}
 use Rattle.range_set.specs.declared.ranged.Ranged.{Ranged}
 use Rattle.range_set.specs.declared.chunk.Placed.{Placed}
 use Rattle.range_set.specs.declared.group.PlacedGroup.{PlacedGroup}
@@ -22,15 +22,15 @@ module _ {T : Type 0} where
         ranges = ap flat e ∙ (flat-append old more ∙ ap (λ ps. flat old ++ flat ps) (sym (append-nil more)));
       }
 
-  chunks_apart_more : (from : ℕ) (changed : List ChangedRange) (ps : List (Placed T)) (p : Placed T) → AllChunksApart from changed ps → p.chunk.value.is_turned ≡ false → list_any (meets from (p.start + p.chunk.value.reach)) changed ≡ false
+  chunks_apart_more : (from : ℕ) (changed : List ChangedRange) (ps : List (Placed T)) (p : Placed T) → AllChunksApart from changed ps → (content p).is_turned ≡ false → list_any (meets from (p.start + (content p).reach)) changed ≡ false
       → AllChunksApart from changed (ps ++ p ∷ [])
   chunks_apart_more from changed [] p h t m = ((t, m), tt)
   chunks_apart_more from changed (q ∷ ps) p h t m = (h.0, chunks_apart_more from changed ps p h.1 t m)
 
   pub chunks_shared_more : (from to : ℕ) (changed : List ChangedRange) (ps : List (Placed T)) (p : Placed T) (others : List (Placed T)) (old mid new : List (Ranged T)) → AreChunksShared from to changed ps (p ∷ others) old mid
-      → p.chunk.value.is_turned ≡ false → list_any (meets from (p.start + p.chunk.value.reach)) changed ≡ false → new ≡ mid ++ map (shift (p.start - from + to)) p.chunk.value.ranges.items → AreChunksShared from to changed ps others old new
+      → (content p).is_turned ≡ false → list_any (meets from (p.start + (content p).reach)) changed ≡ false → new ≡ mid ++ map (shift (p.start - from + to)) (content p).ranges → AreChunksShared from to changed ps others old new
   chunks_shared_more from to changed ps p others old mid new h t m e =
-      let more = map (shift (p.start - from + to)) p.chunk.value.ranges.items in
+      let more = map (shift (p.start - from + to)) (content p).ranges in
       let before = flat (map (carry_chunk from to) h.taken) in
       record {
         taken = h.taken ++ p ∷ [];

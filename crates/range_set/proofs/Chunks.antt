@@ -6,10 +6,9 @@ use Rattle.std.specs.Prelude.{nat_lt, ◌==◌, int_lt}
 use Rattle.range_set.specs.Rules.{RangeRules}
 use Rattle.range_set.specs.Order.{AllForward}
 use Rattle.range_set.specs.Mapping.{is_turned}
-use Rattle.range_set.specs.PrivateChunks.{AreChunks, Ascend, BeginBy, EndBy, Fit, IsChunk, flat, greatest_end, shift}
+use Rattle.range_set.specs.PrivateChunks.{AreChunks, Ascend, BeginBy, Content, EndBy, Fit, IsChunk, content, flat, greatest_end, shift}
 use Rattle.range_set.specs.declared.ranged.Ranged.{Ranged}
 use Rattle.range_set.specs.declared.chunk.Placed.{Placed}
-use Rattle.range_set.specs.declared.chunk.Chunk.{Chunk}
 
 pub not_less : (a b : ℕ) → nat_lt a b ≡ false → b ≤ a
 not_less a b h = grind (arith, nat_tests)
@@ -47,11 +46,11 @@ module _ {T : Type 0} where
   pub flat-append : (ps qs : List (Placed T)) → flat (ps ++ qs) ≡ flat ps ++ flat qs
   flat-append [] qs = refl
   flat-append (p ∷ ps) qs =
-      ap (λ r. map (shift p.start) p.chunk.value.ranges.items ++ r) (flat-append ps qs)
-      ∙ sym (append_assoc (map (shift p.start) p.chunk.value.ranges.items) (flat ps) (flat qs))
+      ap (λ r. map (shift p.start) (content p).ranges ++ r) (flat-append ps qs)
+      ∙ sym (append_assoc (map (shift p.start) (content p).ranges) (flat ps) (flat qs))
 
-  pub flat-push : (ps : List (Placed T)) (p : Placed T) → flat (ps ++ p ∷ []) ≡ flat ps ++ map (shift p.start) p.chunk.value.ranges.items
-  flat-push ps p = flat-append ps (p ∷ []) ∙ ap (λ r. flat ps ++ r) (append-nil (map (shift p.start) p.chunk.value.ranges.items))
+  pub flat-push : (ps : List (Placed T)) (p : Placed T) → flat (ps ++ p ∷ []) ≡ flat ps ++ map (shift p.start) (content p).ranges
+  flat-push ps p = flat-append ps (p ∷ []) ∙ ap (λ r. flat ps ++ r) (append-nil (map (shift p.start) (content p).ranges))
 
   pub greatest-push : (rs : List (Ranged T)) (r : Ranged T) → greatest_end (rs ++ r ∷ []) ≡ max (greatest_end rs) r.to
   greatest-push [] r = omega arith
@@ -122,23 +121,23 @@ module _ {T : Type 0} (rules : RangeRules T) where
       ap (λ n. let q : Ranged T = record { from = n; to = r.to - start + start; value = r.value } in q) f
       ∙ ap (λ n. let q : Ranged T = record { from = r.from; to = n; value = r.value } in q) t
 
-  pub AreChunks-push : (ps : List (Placed T)) (p : Placed T) → AreChunks rules ps → IsChunk rules p.start p.chunk.value → 1 ≤ length p.chunk.value.ranges.items → AreChunks rules (ps ++ p ∷ [])
+  pub AreChunks-push : (ps : List (Placed T)) (p : Placed T) → AreChunks rules ps → IsChunk rules p.start (content p) → 1 ≤ length (content p).ranges → AreChunks rules (ps ++ p ∷ [])
   AreChunks-push [] p h k some = ((k, some), tt)
   AreChunks-push (q ∷ ps) p h k some = (h.0, AreChunks-push ps p h.1 k some)
 
-  pub chunk-at : (ps : List (Placed T)) (i : ℕ) (p : Placed T) → i < length ps → p ≡ get_or ps i p → AreChunks rules ps → IsChunk rules p.start p.chunk.value × (1 ≤ length p.chunk.value.ranges.items)
+  pub chunk-at : (ps : List (Placed T)) (i : ℕ) (p : Placed T) → i < length ps → p ≡ get_or ps i p → AreChunks rules ps → IsChunk rules p.start (content p) × (1 ≤ length (content p).ranges)
   chunk-at [] i p l e h = absurd (omega arith)
-  chunk-at (q ∷ ps) zero p l e h = subst (λ (x : Placed T). IsChunk rules x.start x.chunk.value × (1 ≤ length x.chunk.value.ranges.items)) (sym e) h.0
+  chunk-at (q ∷ ps) zero p l e h = subst (λ (x : Placed T). IsChunk rules x.start (content x) × (1 ≤ length (content x).ranges)) (sym e) h.0
   chunk-at (q ∷ ps) (suc i) p l e h = chunk-at ps i p (omega arith) e h.1
 
-  pub fit_chunk : (start : ℕ) (chunk : Chunk T) → IsChunk rules start chunk → Fit (map (shift start) chunk.ranges.items)
+  pub fit_chunk : (start : ℕ) (chunk : Content T) → IsChunk rules start chunk → Fit (map (shift start) chunk.ranges)
   fit_chunk start chunk h =
-      let k : greatest_end chunk.ranges.items ≤ chunk.reach = omega (arith, h.reach) in
-      fit_shifted start chunk.reach chunk.ranges.items h.forward (end_by_greatest chunk.ranges.items chunk.reach k) h.fits
+      let k : greatest_end chunk.ranges ≤ chunk.reach = omega (arith, h.reach) in
+      fit_shifted start chunk.reach chunk.ranges h.forward (end_by_greatest chunk.ranges chunk.reach k) h.fits
 
   pub fit_flat : (ps : List (Placed T)) → AreChunks rules ps → Fit (flat ps)
   fit_flat [] h = tt
-  fit_flat (p ∷ ps) h = Fit-append (map (shift p.start) p.chunk.value.ranges.items) (flat ps) (fit_chunk p.start p.chunk.value h.0.0) (fit_flat ps h.1)
+  fit_flat (p ∷ ps) h = Fit-append (map (shift p.start) (content p).ranges) (flat ps) (fit_chunk p.start (content p) h.0.0) (fit_flat ps h.1)
 
   pub length_shifted : (start : ℕ) (rs : List (Ranged T)) → length (map (shift start) rs) ≡ length rs
   length_shifted start [] = refl

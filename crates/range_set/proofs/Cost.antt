@@ -9,7 +9,7 @@ use Rattle.change_desc.specs.Ranges.{meets, replaced}
 use Rattle.change_desc.specs.declared.changed_range.ChangedRange.{ChangedRange}
 use Rattle.range_set.specs.Rules.{RangeRules}
 use Rattle.range_set.specs.Mapping.{is_affected, is_turned, meets_hull, most_mapped}
-use Rattle.range_set.specs.PrivateChunks.{AreChunks, Ascend, IsChunk, first_start, flat, greatest_end, shift}
+use Rattle.range_set.specs.PrivateChunks.{AreChunks, Ascend, IsChunk, content, first_start, flat, greatest_end, shift}
 use Rattle.range_set.specs.declared.ranged.Ranged.{Ranged}
 use Rattle.range_set.specs.declared.chunk.Placed.{Placed}
 use Rattle.range_set.proofs.Chunks.{ascend-rest, greatest_shifted, turned-shifted}
@@ -160,7 +160,7 @@ module _ {T : Type 0} where
 module _ {T : Type 0} (rules : RangeRules T) (d : Sections) where
   -- whether the ranges of a chunk are mapped by themselves, and how many ranges are mapped by themselves at most
   abbrev pub chunk_affected : Placed T → Bool
-  chunk_affected p = p.chunk.value.is_turned || list_any (meets p.start (p.start + p.chunk.value.reach)) (replaced d)
+  chunk_affected p = (content p).is_turned || list_any (meets p.start (p.start + (content p).reach)) (replaced d)
 
   abbrev pub allowance : List (Placed T) → ℕ
   allowance [] = 0
@@ -197,19 +197,19 @@ module _ {T : Type 0} (rules : RangeRules T) (d : Sections) where
   none_met (r ∷ rs) h =
       rw (or_left (list_any (meets r.from r.to) (replaced d)) _ (or_left (is_affected rules d r) _ h), none_met rs (or_right (is_affected rules d r) _ h)) refl
 
-  chunk_charge : (n : ℕ) (p : Placed T) (ys : List (Ranged T)) → IsChunk rules p.start p.chunk.value → 1 ≤ length p.chunk.value.ranges.items → Ascend n (map (shift p.start) p.chunk.value.ranges.items ++ ys)
-      → list_any (is_affected rules d) (map (shift p.start) p.chunk.value.ranges.items) ≡ false → chunk_affected p ≡ true
-      → suc (hulls_met ys (replaced d)) ≤ hulls_met (map (shift p.start) p.chunk.value.ranges.items ++ ys) (replaced d)
-  chunk_charge n p ys h some asc none aff = at p.chunk.value.ranges.items refl
+  chunk_charge : (n : ℕ) (p : Placed T) (ys : List (Ranged T)) → IsChunk rules p.start (content p) → 1 ≤ length (content p).ranges → Ascend n (map (shift p.start) (content p).ranges ++ ys)
+      → list_any (is_affected rules d) (map (shift p.start) (content p).ranges) ≡ false → chunk_affected p ≡ true
+      → suc (hulls_met ys (replaced d)) ≤ hulls_met (map (shift p.start) (content p).ranges ++ ys) (replaced d)
+  chunk_charge n p ys h some asc none aff = at (content p).ranges refl
     where
       items : List (Ranged T)
-      items = p.chunk.value.ranges.items
+      items = (content p).ranges
 
-      met : (b : Bool) → b ≡ false → (b || list_any (meets p.start (p.start + p.chunk.value.reach)) (replaced d)) ≡ true → list_any (meets p.start (p.start + p.chunk.value.reach)) (replaced d) ≡ true
+      met : (b : Bool) → b ≡ false → (b || list_any (meets p.start (p.start + (content p).reach)) (replaced d)) ≡ true → list_any (meets p.start (p.start + (content p).reach)) (replaced d) ≡ true
       met true e x = cc
       met false e x = x
 
-      at : (rs : List (Ranged T)) → rs ≡ p.chunk.value.ranges.items → suc (hulls_met ys (replaced d)) ≤ hulls_met (map (shift p.start) p.chunk.value.ranges.items ++ ys) (replaced d)
+      at : (rs : List (Ranged T)) → rs ≡ (content p).ranges → suc (hulls_met ys (replaced d)) ≤ hulls_met (map (shift p.start) (content p).ranges ++ ys) (replaced d)
       at [] e = absurd (let l = ap length e in omega (arith, l, some))
       at (r ∷ rs) e =
           let first : r.from ≡ 0 = ap first_start e ∙ h.first in
@@ -217,26 +217,26 @@ module _ {T : Type 0} (rules : RangeRules T) (d : Sections) where
           let end = ap greatest_end e in
           let k = h.reach in
           subst (λ xs. suc (hulls_met ys (replaced d)) ≤ hulls_met (map (shift p.start) xs ++ ys) (replaced d)) e
-          (charge n p.start (p.start + p.chunk.value.reach) (shift p.start r) (map (shift p.start) rs) ys (replaced d) (omega (arith, first)) (omega (arith, reach, end, k))
+          (charge n p.start (p.start + (content p).reach) (shift p.start r) (map (shift p.start) rs) ys (replaced d) (omega (arith, first)) (omega (arith, reach, end, k))
           (subst (λ xs. Ascend n (map (shift p.start) xs ++ ys)) (sym e) asc)
-          (none_meet (map (shift p.start) (r ∷ rs)) (replaced d) (subst (λ xs. list_any (λ (r : Ranged T). list_any (meets r.from r.to) (replaced d)) (map (shift p.start) xs) ≡ false) (sym e) (none_met (map (shift p.start) p.chunk.value.ranges.items) none)))
-          (met p.chunk.value.is_turned (h.turned ∙ none_turned p.start p.chunk.value.ranges.items none) aff))
+          (none_meet (map (shift p.start) (r ∷ rs)) (replaced d) (subst (λ xs. list_any (λ (r : Ranged T). list_any (meets r.from r.to) (replaced d)) (map (shift p.start) xs) ≡ false) (sym e) (none_met (map (shift p.start) (content p).ranges) none)))
+          (met (content p).is_turned (h.turned ∙ none_turned p.start (content p).ranges none) aff))
 
   pub allowed : (n : ℕ) (ps : List (Placed T)) → AreChunks rules ps → Ascend n (flat ps) → allowance ps ≤ most_mapped rules d (flat ps)
   allowed n [] h a = omega arith
   allowed n (p ∷ ps) h a =
-      let c = map (shift p.start) p.chunk.value.ranges.items in
+      let c = map (shift p.start) (content p).ranges in
       let ih = allowed n ps h.1 (ascend-rest n c (flat ps) a) in
       let parts = ap length (filter-append (is_affected rules d) c (flat ps)) ∙ length-append (filter (is_affected rules d) c) (filter (is_affected rules d) (flat ps)) in
       at (chunk_affected p) refl (length (filter (is_affected rules d) c)) refl ih parts (counts_more c (flat ps) (replaced d))
     where
-      at : (b : Bool) → chunk_affected p ≡ b → (k : ℕ) → length (filter (is_affected rules d) (map (shift p.start) p.chunk.value.ranges.items)) ≡ k
+      at : (b : Bool) → chunk_affected p ≡ b → (k : ℕ) → length (filter (is_affected rules d) (map (shift p.start) (content p).ranges)) ≡ k
           → allowance ps ≤ 128 * (length (filter (is_affected rules d) (flat ps)) + hulls_met (flat ps) (replaced d))
-          → length (filter (is_affected rules d) (flat (p ∷ ps))) ≡ length (filter (is_affected rules d) (map (shift p.start) p.chunk.value.ranges.items)) + length (filter (is_affected rules d) (flat ps))
+          → length (filter (is_affected rules d) (flat (p ∷ ps))) ≡ length (filter (is_affected rules d) (map (shift p.start) (content p).ranges)) + length (filter (is_affected rules d) (flat ps))
           → hulls_met (flat ps) (replaced d) ≤ hulls_met (flat (p ∷ ps)) (replaced d)
           → cond b 128 0 + allowance ps ≤ 128 * (length (filter (is_affected rules d) (flat (p ∷ ps))) + hulls_met (flat (p ∷ ps)) (replaced d))
       at false e k z ih parts more = omega (arith, ih, parts, more)
       at true e (suc k) z ih parts more = omega (arith, z, ih, parts, more)
       at true e zero z ih parts more =
-          let one = chunk_charge n p (flat ps) h.0.0 h.0.1 a (affected_none (map (shift p.start) p.chunk.value.ranges.items) z) e in
+          let one = chunk_charge n p (flat ps) h.0.0 h.0.1 a (affected_none (map (shift p.start) (content p).ranges) z) e in
           omega (arith, z, ih, parts, one)

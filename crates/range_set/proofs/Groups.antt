@@ -6,13 +6,12 @@ use Rattle.range_set.specs.Rules.{RangeRules}
 use Rattle.range_set.specs.Order.{AllForward}
 use Rattle.range_set.specs.Mapping.{is_turned}
 use Rattle.range_set.specs.Points.{stands}
-use Rattle.range_set.specs.PrivateChunks.{AreChunks, AreGroups, Ascend, EndBy, IsChunk, IsGroup, IsNextChunk, first_start, flat, greatest_end, move, shift, spread}
+use Rattle.range_set.specs.PrivateChunks.{AreChunks, AreGroups, Ascend, Content, EndBy, IsChunk, IsGroup, IsNextChunk, content, first_start, flat, greatest_end, move, shift, spread}
 use Rattle.range_set.specs.PrivatePages.{PlacesFirst}
 use Rattle.std.specs.declared.alloc.Global.{Global}
 use Rattle.std.specs.declared.rc.Rc.{Rc}
 use Rattle.range_set.specs.declared.ranged.Ranged.{Ranged}
 use Rattle.range_set.specs.declared.chunk.Placed.{Placed}
-use Rattle.range_set.specs.declared.chunk.Chunk.{Chunk}
 use Rattle.range_set.specs.declared.group.Group.{Group}
 use Rattle.range_set.specs.declared.group.PlacedGroup.{PlacedGroup}
 use Rattle.range_set.proofs.Chunks.{end_by_greatest, fit_chunk, flat-append, flat-push, forward_shifted, greatest_shifted, length_shifted, turned-shifted}
@@ -33,15 +32,15 @@ module _ {T : Type 0} where
   pub flat-moved : (by : ℕ) (ps : List (Placed T)) → flat (map (move by) ps) ≡ map (shift by) (flat ps)
   flat-moved by [] = refl
   flat-moved by (p ∷ ps) =
-      ap (λ rs. map (shift (p.start + by)) p.chunk.value.ranges.items ++ rs) (flat-moved by ps)
-      ∙ (ap (λ rs. rs ++ map (shift by) (flat ps)) (sym (shift-twice by p.start p.chunk.value.ranges.items))
-      ∙ sym (map-append (shift by) (map (shift p.start) p.chunk.value.ranges.items) (flat ps)))
+      ap (λ rs. map (shift (p.start + by)) (content p).ranges ++ rs) (flat-moved by ps)
+      ∙ (ap (λ rs. rs ++ map (shift by) (flat ps)) (sym (shift-twice by p.start (content p).ranges))
+      ∙ sym (map-append (shift by) (map (shift p.start) (content p).ranges) (flat ps)))
 
   pub moved_none : (ps : List (Placed T)) → map (move 0) ps ≡ ps
   moved_none [] = refl
   moved_none (p ∷ ps) =
       let e : p.start + 0 ≡ p.start = omega arith in
-      ap (λ n. let q : Placed T = record { start = n; chunk = p.chunk } in q ∷ map (move 0) ps) e ∙ ap (λ qs. p ∷ qs) (moved_none ps)
+      ap (λ n. let q : Placed T = record { start = n; grown = p.grown; chunk = p.chunk } in q ∷ map (move 0) ps) e ∙ ap (λ qs. p ∷ qs) (moved_none ps)
 
   pub flat-unmoved : (ps : List (Placed T)) → map (shift 0) (flat ps) ≡ flat ps
   flat-unmoved ps = sym (flat-moved 0 ps) ∙ ap flat (moved_none ps)
@@ -92,7 +91,7 @@ module _ {T : Type 0} (rules : RangeRules T) where
   AreChunks-append (p ∷ ps) qs h k = (h.0, AreChunks-append ps qs h.1 k)
 
   -- a chunk at another place
-  pub chunk_placed : (start at : ℕ) (chunk : Chunk T) → IsChunk rules start chunk → at + chunk.reach < 2 ^ 32 → IsChunk rules at chunk
+  pub chunk_placed : (start at : ℕ) (chunk : Content T) → IsChunk rules start chunk → at + chunk.reach < 2 ^ 32 → IsChunk rules at chunk
   chunk_placed start at chunk h l = record {
     few = h.few;
     first = h.first;
@@ -117,19 +116,19 @@ module _ {T : Type 0} (rules : RangeRules T) where
   }
 
   -- the hull of a chunk lies in that of its group
-  hull_first : (p : Placed T) (ps : List (Placed T)) → AreChunks rules (p ∷ ps) → p.start + p.chunk.value.reach ≤ greatest_end (flat (p ∷ ps))
+  hull_first : (p : Placed T) (ps : List (Placed T)) → AreChunks rules (p ∷ ps) → p.start + (content p).reach ≤ greatest_end (flat (p ∷ ps))
   hull_first p ps h =
-      let a = greatest-append (map (shift p.start) p.chunk.value.ranges.items) (flat ps) in
-      let b = greatest_shifted p.start p.chunk.value.ranges.items h.0.1 in
+      let a = greatest-append (map (shift p.start) (content p).ranges) (flat ps) in
+      let b = greatest_shifted p.start (content p).ranges h.0.1 in
       let c = h.0.0.reach in
       omega (arith, a, b, c)
 
   hull_others : (p : Placed T) (ps : List (Placed T)) → greatest_end (flat ps) ≤ greatest_end (flat (p ∷ ps))
-  hull_others p ps = let a = greatest-append (map (shift p.start) p.chunk.value.ranges.items) (flat ps) in omega (arith, a)
+  hull_others p ps = let a = greatest-append (map (shift p.start) (content p).ranges) (flat ps) in omega (arith, a)
 
-  pub hull_at : (ps : List (Placed T)) (i : ℕ) (p : Placed T) → i < length ps → p ≡ get_or ps i p → AreChunks rules ps → p.start + p.chunk.value.reach ≤ greatest_end (flat ps)
+  pub hull_at : (ps : List (Placed T)) (i : ℕ) (p : Placed T) → i < length ps → p ≡ get_or ps i p → AreChunks rules ps → p.start + (content p).reach ≤ greatest_end (flat ps)
   hull_at [] i p l e h = absurd (omega arith)
-  hull_at (q ∷ ps) zero p l e h = subst (λ (x : Placed T). x.start + x.chunk.value.reach ≤ greatest_end (flat (q ∷ ps))) (sym e) (hull_first q ps h)
+  hull_at (q ∷ ps) zero p l e h = subst (λ (x : Placed T). x.start + (content x).reach ≤ greatest_end (flat (q ∷ ps))) (sym e) (hull_first q ps h)
   hull_at (q ∷ ps) (suc i) p l e h = let k = hull_at ps i p (omega arith) e h.1 in let o = hull_others q ps in omega (arith, k, o)
 
   -- chunks whose ranges end in a document are chunks further on
@@ -138,7 +137,7 @@ module _ {T : Type 0} (rules : RangeRules T) where
   are_moved by n (p ∷ ps) h l m =
       let a = hull_first p ps h in
       let b = hull_others p ps in (
-        (chunk_placed p.start (p.start + by) p.chunk.value h.0.0 (omega (arith, a, l, m)), h.0.1),
+        (chunk_placed p.start (p.start + by) (content p) h.0.0 (omega (arith, a, l, m)), h.0.1),
         are_moved by n ps h.1 (omega (arith, b, l)) m,
       )
 
@@ -151,15 +150,15 @@ module _ {T : Type 0} (rules : RangeRules T) where
 
   pub flat_forward : (ps : List (Placed T)) → AreChunks rules ps → AllForward (flat ps)
   flat_forward [] h = tt
-  flat_forward (p ∷ ps) h = forward-append (map (shift p.start) p.chunk.value.ranges.items) (flat ps) (forward_shifted p.start p.chunk.value.ranges.items h.0.0.forward) (flat_forward ps h.1)
+  flat_forward (p ∷ ps) h = forward-append (map (shift p.start) (content p).ranges) (flat ps) (forward_shifted p.start (content p).ranges h.0.0.forward) (flat_forward ps h.1)
 
   pub group_ends : (start : ℕ) (group : Group T) → IsGroup rules start group → EndBy group.reach (flat group.chunks.items)
   group_ends start group h = let e = h.reach in end_by_greatest (flat group.chunks.items) group.reach (omega (arith, e))
 
   some_flat : (p : Placed T) (ps : List (Placed T)) → AreChunks rules (p ∷ ps) → 1 ≤ length (flat (p ∷ ps))
   some_flat p ps h =
-      let a = length-append (map (shift p.start) p.chunk.value.ranges.items) (flat ps) in
-      let b = length_shifted rules p.start p.chunk.value.ranges.items in
+      let a = length-append (map (shift p.start) (content p).ranges) (flat ps) in
+      let b = length_shifted rules p.start (content p).ranges in
       let c = h.0.1 in
       omega (arith, a, b, c)
 
@@ -186,7 +185,7 @@ module _ {T : Type 0} (rules : RangeRules T) where
 
   -- a chunk that counts from a place
   abbrev pub counted_chunk : ℕ → Placed T → Placed T
-  counted_chunk start p = record { start = p.start - start; chunk = p.chunk }
+  counted_chunk start p = record { start = p.start - start; grown = p.grown; chunk = p.chunk }
 
   pub length_moved : (by : ℕ) (ps : List (Placed T)) → length (flat (map (move by) ps)) ≡ length (flat ps)
   length_moved by ps = ap length (flat-moved by ps) ∙ length_shifted rules by (flat ps)
@@ -207,36 +206,36 @@ module _ {T : Type 0} (rules : RangeRules T) where
   left_passed base chunks groups none = ap (λ ps. map (move base) ps ++ spread groups) (nothing chunks none)
 
   pub left_next : (base : ℕ) (chunks : List (Placed T)) (groups : List (PlacedGroup T)) (p : Placed T) (ps : List (Placed T)) → chunks ≡ p ∷ ps → AreChunks rules (map (move base) chunks)
-      → (map (move base) chunks ++ spread groups ≡ move base p ∷ (map (move base) ps ++ spread groups)) × (IsChunk rules (p.start + base) p.chunk.value × AreChunks rules (map (move base) ps))
+      → (map (move base) chunks ++ spread groups ≡ move base p ∷ (map (move base) ps ++ spread groups)) × (IsChunk rules (p.start + base) (content p) × AreChunks rules (map (move base) ps))
   left_next base chunks groups p ps some h =
       let all = subst (λ qs. AreChunks rules (map (move base) qs)) some h in
       (ap (λ qs. map (move base) qs ++ spread groups) some, (all.0.0, all.1))
 
   -- the first of chunks that are left
   pub next_chunk : (base : ℕ) (chunks : List (Placed T)) (groups : List (PlacedGroup T)) (p : Placed T) (ps : List (Placed T)) → chunks ≡ p ∷ ps → AreChunks rules (map (move base) chunks)
-      → IsNextChunk (map (move base) chunks ++ spread groups) (base + p.start) p.chunk.value (map (move base) ps ++ spread groups)
+      → IsNextChunk (map (move base) chunks ++ spread groups) (base + p.start) p (map (move base) ps ++ spread groups)
   next_chunk base chunks groups p ps some h =
       let next = left_next base chunks groups p ps some h in
       let later = map (move base) ps ++ spread groups in
       let n : p.start + base ≡ base + p.start = omega arith in
-      subst (λ qs. IsNextChunk qs (base + p.start) p.chunk.value later) (sym next.0)
-      (subst (λ k. IsNextChunk (move base p ∷ later) k p.chunk.value later) n
-      (record { ranges = refl; fits = fit_chunk rules (p.start + base) p.chunk.value next.1.0; fewer = omega arith }))
+      subst (λ qs. IsNextChunk qs (base + p.start) p later) (sym next.0)
+      (subst (λ k. IsNextChunk (move base p ∷ later) k p later) n
+      (record { ranges = refl; fits = fit_chunk rules (p.start + base) (content p) next.1.0; fewer = omega arith }))
 
   -- one more chunk of a group at its place
   pub open_more : (start : ℕ) (ps : List (Placed T)) (i : ℕ) (p : Placed T) → i < length ps → p ≡ get_or ps i p
-      → map (shift start) (flat (take (i + 1) ps)) ≡ map (shift start) (flat (take i ps)) ++ map (shift (start + p.start)) p.chunk.value.ranges.items
+      → map (shift start) (flat (take (i + 1) ps)) ≡ map (shift start) (flat (take i ps)) ++ map (shift (start + p.start)) (content p).ranges
   open_more start ps i p l e =
       let n : p.start + start ≡ start + p.start = omega arith in
       ap (λ qs. map (shift start) (flat qs)) (take_more ps i p l ∙ ap (λ x. take i ps ++ x ∷ []) (sym e))
       ∙ (ap (map (shift start)) (flat-push (take i ps) p)
-      ∙ (map-append (shift start) (flat (take i ps)) (map (shift p.start) p.chunk.value.ranges.items)
-      ∙ ap (λ rs. map (shift start) (flat (take i ps)) ++ rs) (shift-twice start p.start p.chunk.value.ranges.items ∙ ap (λ k. map (shift k) p.chunk.value.ranges.items) n)))
+      ∙ (map-append (shift start) (flat (take i ps)) (map (shift p.start) (content p).ranges)
+      ∙ ap (λ rs. map (shift start) (flat (take i ps)) ++ rs) (shift-twice start p.start (content p).ranges ∙ ap (λ k. map (shift k) (content p).ranges) n)))
 
   pub moved_chunk : (base : ℕ) (ps : List (Placed T)) (i : ℕ) (p : Placed T) → i < length ps → p ≡ get_or ps i p → AreChunks rules (map (move base) ps)
-      → IsChunk rules (base + p.start) p.chunk.value × (1 ≤ length p.chunk.value.ranges.items)
+      → IsChunk rules (base + p.start) (content p) × (1 ≤ length (content p).ranges)
   moved_chunk base [] i p l e h = absurd (omega arith)
   moved_chunk base (q ∷ ps) zero p l e h =
       let n : q.start + base ≡ base + q.start = omega arith in
-      subst (λ (x : Placed T). IsChunk rules (base + x.start) x.chunk.value × (1 ≤ length x.chunk.value.ranges.items)) (sym e) (subst (λ k. IsChunk rules k q.chunk.value) n h.0.0, h.0.1)
+      subst (λ (x : Placed T). IsChunk rules (base + x.start) (content x) × (1 ≤ length (content x).ranges)) (sym e) (subst (λ k. IsChunk rules k (content q)) n h.0.0, h.0.1)
   moved_chunk base (q ∷ ps) (suc i) p l e h = moved_chunk base ps i p (omega arith) e h.1

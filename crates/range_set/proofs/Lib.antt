@@ -29,3 +29,4 @@ pub mod Opened
 pub mod PartedChunks
 pub mod MovedBack
 pub mod MovedRuns
+pub mod Alone

@@ -10,9 +10,8 @@ use Rattle.change_desc.specs.declared.map_mode.MapMode.TheVariants.{Simple}
 use Rattle.range_set.specs.Rules.{RangeRules}
 use Rattle.range_set.specs.Order.{AllForward}
 use Rattle.range_set.specs.Mapping.{EndWithin, is_turned, moved}
-use Rattle.range_set.specs.PrivateChunks.{Ascend, EndBy, IsChunk, greatest_end, shift}
+use Rattle.range_set.specs.PrivateChunks.{Ascend, Content, EndBy, IsChunk, greatest_end, shift}
 use Rattle.range_set.specs.PrivateMoving.{AreMoved, AreWithin, IsClearPlace}
-use Rattle.range_set.specs.declared.chunk.Chunk.{Chunk}
 use Rattle.range_set.specs.declared.clear_walk.ClearPlace.{ClearPlace}
 use Rattle.range_set.specs.declared.ranged.Ranged.{Ranged}
 use Rattle.range_set.proofs.Chunks.{ascend-rest, end_by_greatest, not_less, turned-shifted}
@@ -27,10 +26,10 @@ module _ {T : Type 0} where
       let end = e.0 in
       ((not_less r.to r.from f.0, w.0.1, omega (arith, end, l)), all_within len start reach rs l f.1 e.1 w.1)
 
-  pub chunk_within : (rules : RangeRules T) (len start : ℕ) (chunk : Chunk T) → IsChunk rules start chunk → EndWithin len (map (shift start) chunk.ranges.items) → AreWithin len start chunk.ranges.items
+  pub chunk_within : (rules : RangeRules T) (len start : ℕ) (chunk : Content T) → IsChunk rules start chunk → EndWithin len (map (shift start) chunk.ranges) → AreWithin len start chunk.ranges
   chunk_within rules len start chunk h w =
-      let k : greatest_end chunk.ranges.items ≤ chunk.reach = omega (arith, h.reach) in
-      all_within len start chunk.reach chunk.ranges.items h.fits h.forward (end_by_greatest chunk.ranges.items chunk.reach k) (within len _ w)
+      let k : greatest_end chunk.ranges ≤ chunk.reach = omega (arith, h.reach) in
+      all_within len start chunk.reach chunk.ranges h.fits h.forward (end_by_greatest chunk.ranges chunk.reach k) (within len _ w)
 
   pub within_rest : (len start : ℕ) (taken rest : List (Ranged T)) → AreWithin len start (taken ++ rest) → AreWithin len start rest
   within_rest len start [] rest h = h

@@ -16,7 +16,7 @@ module _ {T : Type 0} where
   move-twice a b [] = refl
   move-twice a b (p ∷ ps) =
       let e : p.start + b + a ≡ p.start + (b + a) = omega arith in
-      ap (λ n. let q : Placed T = record { start = n; chunk = p.chunk } in q ∷ map (move a) (map (move b) ps)) e ∙ ap (λ qs. move (b + a) p ∷ qs) (move-twice a b ps)
+      ap (λ n. let q : Placed T = record { start = n; grown = p.grown; chunk = p.chunk } in q ∷ map (move a) (map (move b) ps)) e ∙ ap (λ qs. move (b + a) p ∷ qs) (move-twice a b ps)
 
   pub spread-further : (by : ℕ) (gs : List (PlacedGroup T)) → spread (map (further by) gs) ≡ map (move by) (spread gs)
   spread-further by [] = refl

@@ -6,7 +6,7 @@ use Rattle.stable_order.proofs.StableSort.{Rises}
 use Rattle.range_set.specs.Rules.{RangeRules}
 use Rattle.range_set.specs.Order.{before, first_fault}
 use Rattle.range_set.specs.Updating.{updated}
-use Rattle.range_set.specs.PrivateChunks.{AreChunks, Ascend, BeginBy, first_start, flat, shift}
+use Rattle.range_set.specs.PrivateChunks.{AreChunks, Ascend, BeginBy, content, first_start, flat, shift}
 use Rattle.range_set.specs.PrivateUpdates.{BeginPast, BeginUnder}
 use Rattle.range_set.specs.declared.ranged.Ranged.{Ranged}
 use Rattle.range_set.specs.declared.chunk.Placed.{Placed}
@@ -30,7 +30,7 @@ module _ {T : Type 0} (rules : RangeRules T) where
 
   -- what stands before a chunk begins no later than it
   by_next : (n : ℕ) (xs : List (Ranged T)) (p : Placed T) (ps : List (Placed T)) → AreChunks rules (p ∷ ps) → Ascend n (xs ++ flat (p ∷ ps)) → BeginBy p.start xs
-  by_next n xs p ps h asc = at p.chunk.value.ranges.items h.0.1 h.0.0.first asc
+  by_next n xs p ps h asc = at (content p).ranges h.0.1 h.0.0.first asc
     where
       at : (rs : List (Ranged T)) → 1 ≤ length rs → first_start rs ≡ 0 → Ascend n (xs ++ (map (shift p.start) rs ++ flat ps)) → BeginBy p.start xs
       at [] some f a = absurd (omega arith)
@@ -42,10 +42,10 @@ module _ {T : Type 0} (rules : RangeRules T) where
   starts_rise n [] h a i j d le lt = absurd (omega arith)
   starts_rise n (p ∷ ps) h a zero zero d le lt = omega arith
   starts_rise n (p ∷ ps) h a zero (suc j) d le lt =
-      placed_at rules p.start ps j d (omega arith) h.1 (ascend_hull n p.start p.chunk.value.ranges.items (flat ps) h.0.1 h.0.0.first a).1
+      placed_at rules p.start ps j d (omega arith) h.1 (ascend_hull n p.start (content p).ranges (flat ps) h.0.1 h.0.0.first a).1
   starts_rise n (p ∷ ps) h a (suc i) zero d le lt = absurd (omega arith)
   starts_rise n (p ∷ ps) h a (suc i) (suc j) d le lt =
-      starts_rise n ps h.1 (ascend-rest n (map (shift p.start) p.chunk.value.ranges.items) (flat ps) a) i j d (omega arith) (omega arith)
+      starts_rise n ps h.1 (ascend-rest n (map (shift p.start) (content p).ranges) (flat ps) a) i j d (omega arith) (omega arith)
 
   -- chunks before one that begins before a place
   pub under_taken : (n place i : ℕ) (ps : List (Placed T)) → AreChunks rules ps → Ascend n (flat ps) → i ≤ length ps - 1 → ((k : ℕ) (d : Placed T) → 0 < k → k ≤ i → (get_or ps k d).start < place)
@@ -54,7 +54,7 @@ module _ {T : Type 0} (rules : RangeRules T) where
   under_taken n place (suc i) [] h a l under = tt
   under_taken n place (suc i) (p ∷ []) h a l under = absurd (omega arith)
   under_taken n place (suc i) (p ∷ q ∷ ps) h a l under =
-      let here = map (shift p.start) p.chunk.value.ranges.items in
+      let here = map (shift p.start) (content p).ranges in
       under_append place here (flat (take i (q ∷ ps))) (under_less q.start place here (by_next n here q ps h.1 a) (under 1 p (omega arith) (omega arith)))
       (under_taken n place i (q ∷ ps) h.1 (ascend-rest n here (flat (q ∷ ps)) a) (omega arith) (λ k d some le. under (suc k) d (omega arith) (omega arith)))
 
@@ -62,9 +62,9 @@ module _ {T : Type 0} (rules : RangeRules T) where
   pub past_dropped : (n place i : ℕ) (ps : List (Placed T)) → AreChunks rules ps → Ascend n (flat ps) → ((d : Placed T) → i < length ps → place < (get_or ps i d).start) → BeginPast place (flat (drop i ps))
   past_dropped n place zero [] h a past = tt
   past_dropped n place (suc i) [] h a past = tt
-  past_dropped n place zero (p ∷ ps) h a past = past_hull n p.start place p.chunk.value.ranges.items (flat ps) h.0.1 (past p (omega arith)) a
+  past_dropped n place zero (p ∷ ps) h a past = past_hull n p.start place (content p).ranges (flat ps) h.0.1 (past p (omega arith)) a
   past_dropped n place (suc i) (p ∷ ps) h a past =
-      past_dropped n place i ps h.1 (ascend-rest n (map (shift p.start) p.chunk.value.ranges.items) (flat ps) a) (λ d l. past d (omega (arith, l)))
+      past_dropped n place i ps h.1 (ascend-rest n (map (shift p.start) (content p).ranges) (flat ps) a) (λ d l. past d (omega (arith, l)))
 
   -- what holds of chunks after others
   pub rest_chunks : (ps xs ys : List (Placed T)) → ps ≡ xs ++ ys → AreChunks rules ps → first_fault rules (flat ps) ≡ None → AreChunks rules ys × Ascend 0 (flat ys)

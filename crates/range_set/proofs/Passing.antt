@@ -6,7 +6,7 @@ use Rattle.std.specs.Prelude.{nat_le}
 use Rattle.std.specs.List.{list_any}
 use Rattle.range_set.specs.Rules.{RangeRules}
 use Rattle.range_set.specs.Points.{points_of, stands}
-use Rattle.range_set.specs.PrivateChunks.{ArePassed, Ascend, EndBy, IsChunk, flat, shift, spread}
+use Rattle.range_set.specs.PrivateChunks.{ArePassed, Ascend, EndBy, IsChunk, content, flat, shift, spread}
 use Rattle.range_set.specs.PrivatePages.{PlacesFirst}
 use Rattle.range_set.specs.Updating.{overlaps}
 use Rattle.std.specs.declared.alloc.Global.{Global}
@@ -83,11 +83,11 @@ module _ {T : Type 0} where
     fewer = let m = length-rest (map (shift start) rs) (flat later) in let n = ap length is in let k = h.fewer in omega (arith, m, n, k);
   }
 
-  pub passed_chunk : (rules : RangeRules T) (place : ℕ) (old : List (Placed T)) (p : Placed T) (later : List (Placed T)) → IsChunk rules p.start p.chunk.value → p.start + p.chunk.value.reach < place
+  pub passed_chunk : (rules : RangeRules T) (place : ℕ) (old : List (Placed T)) (p : Placed T) (later : List (Placed T)) → IsChunk rules p.start (content p) → p.start + (content p).reach < place
       → ArePassed place old (p ∷ later) → ArePassed place old later
   passed_chunk rules place old p later c l h =
       let e = c.reach in
-      passed_hull place p.start p.chunk.value.reach old (p ∷ later) later p.chunk.value.ranges.items refl (end_by_greatest p.chunk.value.ranges.items p.chunk.value.reach (omega (arith, e))) l h
+      passed_hull place p.start (content p).reach old (p ∷ later) later (content p).ranges refl (end_by_greatest (content p).ranges (content p).reach (omega (arith, e))) l h
 
   pub passed_group : (rules : RangeRules T) (place : ℕ) (old : List (Placed T)) (groups : List (PlacedGroup T)) (start : ℕ) (group : Rc (Group T) Global) (others : List (PlacedGroup T)) → PlacesFirst rules groups start group others
       → start + group.value.reach < place → ArePassed place old (spread groups) → ArePassed place old (spread others)
@@ -120,8 +120,8 @@ module _ {T : Type 0} (rules : RangeRules T) where
     fewer = let m = length-rest (map (shift start) rs) (flat later) in let n = ap length is in let k = h.fewer in omega (arith, m, n, k);
   }
 
-  pub no_point_chunk : (old : List (Placed T)) (p : Placed T) (later : List (Placed T)) → IsChunk rules p.start p.chunk.value → p.chunk.value.has_point ≡ false → HaveNoPoint old (p ∷ later) → HaveNoPoint old later
-  no_point_chunk old p later c e h = no_point_hull p.start old (p ∷ later) later p.chunk.value.ranges.items refl (sym c.points ∙ e) h
+  pub no_point_chunk : (old : List (Placed T)) (p : Placed T) (later : List (Placed T)) → IsChunk rules p.start (content p) → (content p).has_point ≡ false → HaveNoPoint old (p ∷ later) → HaveNoPoint old later
+  no_point_chunk old p later c e h = no_point_hull p.start old (p ∷ later) later (content p).ranges refl (sym c.points ∙ e) h
 
   pub no_point_group : (old : List (Placed T)) (groups : List (PlacedGroup T)) (start : ℕ) (group : Rc (Group T) Global) (others : List (PlacedGroup T)) → PlacesFirst rules groups start group others
       → group.value.has_point ≡ false → HaveNoPoint old (spread groups) → HaveNoPoint old (spread others)

@@ -1,30 +1,32 @@
 -- Runs of ranges side by side.
 use Rattle.std.proofs.Common.{◌≡◌, Bool, true, false, IsTrue, ℕ, zero, suc, ◌≤◌, List, [], ◌∷◌, ◌++◌, length, take, drop, map, ◌↔◌, refl, sym, ap, ◌∙◌, append_assoc, arith}
 use Rattle.std.proofs.lemmas.List.{append_cancel_left}
-use Rattle.range_set.specs.PrivateChunks.{Fit, TakesSame, shift}
+use Rattle.range_set.specs.PrivateChunks.{Fit, TakesSame, grow, shift}
 use Rattle.range_set.specs.declared.ranged.Ranged.{Ranged}
 
 module _ {T : Type 0} where
-  pub fit_take : (start n : ℕ) (rs : List (Ranged T)) → Fit (map (shift start) rs) → Fit (map (shift start) (take n rs))
-  fit_take start zero rs h = tt
-  fit_take start (suc n) [] h = tt
-  fit_take start (suc n) (r ∷ rs) h = (h.0, fit_take start n rs h.1)
+  pub fit_take : (start by n : ℕ) (rs : List (Ranged T)) → Fit (map (shift start) (map (grow by) rs)) → Fit (map (shift start) (map (grow by) (take n rs)))
+  fit_take start by zero rs h = tt
+  fit_take start by (suc n) [] h = tt
+  fit_take start by (suc n) (r ∷ rs) h = (h.0, fit_take start by n rs h.1)
 
-  pub fit_drop : (start n : ℕ) (rs : List (Ranged T)) → Fit (map (shift start) rs) → Fit (map (shift start) (drop n rs))
-  fit_drop start zero rs h = h
-  fit_drop start (suc n) [] h = tt
-  fit_drop start (suc n) (r ∷ rs) h = fit_drop start n rs h.1
+  pub fit_drop : (start by n : ℕ) (rs : List (Ranged T)) → Fit (map (shift start) (map (grow by) rs)) → Fit (map (shift start) (map (grow by) (drop n rs)))
+  fit_drop start by zero rs h = h
+  fit_drop start by (suc n) [] h = tt
+  fit_drop start by (suc n) (r ∷ rs) h = fit_drop start by n rs h.1
 
   -- equal lists begin with equal ranges
-  pub same_prefix : (l r n : ℕ) (us vs xs ys : List (Ranged T)) → n ≤ length us → n ≤ length vs → map (shift l) us ++ xs ≡ map (shift r) vs ++ ys
-      → map (shift l) (take n us) ≡ map (shift r) (take n vs)
-  same_prefix l r zero us vs xs ys i j e = refl
-  same_prefix l r (suc n) [] vs xs ys i j e = absurd (omega arith)
-  same_prefix l r (suc n) (a ∷ us) [] xs ys i j e = absurd (omega arith)
-  same_prefix l r (suc n) (a ∷ us) (b ∷ vs) xs ys i j e =
-      let first : shift l a ≡ shift r b = cc in
-      let rest : map (shift l) us ++ xs ≡ map (shift r) vs ++ ys = cc in
-      ap (λ z. z ∷ map (shift l) (take n us)) first ∙ ap (λ zs. shift r b ∷ zs) (same_prefix l r n us vs xs ys (omega arith) (omega arith) rest)
+  pub same_prefix : (l a r b n : ℕ) (us vs xs ys : List (Ranged T)) → n ≤ length us → n ≤ length vs
+      → map (shift l) (map (grow a) us) ++ xs ≡ map (shift r) (map (grow b) vs) ++ ys
+      → map (shift l) (map (grow a) (take n us)) ≡ map (shift r) (map (grow b) (take n vs))
+  same_prefix l a r b zero us vs xs ys i j e = refl
+  same_prefix l a r b (suc n) [] vs xs ys i j e = absurd (omega arith)
+  same_prefix l a r b (suc n) (u ∷ us) [] xs ys i j e = absurd (omega arith)
+  same_prefix l a r b (suc n) (u ∷ us) (v ∷ vs) xs ys i j e =
+      let first : shift l (grow a u) ≡ shift r (grow b v) = cc in
+      let rest : map (shift l) (map (grow a) us) ++ xs ≡ map (shift r) (map (grow b) vs) ++ ys = cc in
+      ap (λ z. z ∷ map (shift l) (map (grow a) (take n us))) first
+      ∙ ap (λ zs. shift r (grow b v) ∷ zs) (same_prefix l a r b n us vs xs ys (omega arith) (omega arith) rest)
 
   -- what follows equal ranges is equal where the whole lists are
   pub same_after : (us vs us' vs' xs ys : List (Ranged T)) (P : Type 0) → TakesSame us vs us' vs' → (us ++ xs ≡ vs ++ ys) ↔ P → (us' ++ xs ≡ vs' ++ ys) ↔ P

@@ -13,7 +13,7 @@ use Rattle.stable_order.specs.StableSort.{insert_by, stable_sort}
 use Rattle.range_set.specs.Rules.{RangeRules}
 use Rattle.range_set.specs.Order.{AllForward, before}
 use Rattle.range_set.specs.Mapping.{Ends, EndWithin, ends_unless_turned, map_ranges, moved, new_ends, place_of, point_ends, span_ends}
-use Rattle.range_set.specs.PrivateChunks.{AreChunks, AreGroups, EndBy, Fit, flat, greatest_end, shift, spread}
+use Rattle.range_set.specs.PrivateChunks.{AreChunks, AreGroups, EndBy, Fit, content, flat, greatest_end, grow, shift, spread}
 use Rattle.range_set.specs.PrivatePages.{ArePages, further, laid}
 use Rattle.range_set.specs.declared.ranged.Ranged.{Ranged}
 use Rattle.range_set.specs.declared.chunk.Placed.{Placed}
@@ -134,6 +134,11 @@ has_last (x ∷ xs) some h =
     past [] x h = cc
     past (y ∷ xs) x h = past xs y h
 
+-- the last of ranges that have grown
+pub last_grown : {T : Type 0} (by : ℕ) (rs : List (Ranged T)) (r : Ranged T) → slice_get rs (length rs - 1) ≡ Some r → slice_get (map (grow by) rs) (length (map (grow by) rs) - 1) ≡ Some (grow by r)
+last_grown by rs r h =
+    ap (λ n. slice_get (map (grow by) rs) (n - 1)) (length-map rs (grow by)) ∙ (slice_get-map (grow by) rs (length rs - 1) ∙ ap (option_map (grow by)) h)
+
 last_append : {X : Type 0} (xs ys : List X) → 1 ≤ length ys → slice_get (xs ++ ys) (length (xs ++ ys) - 1) ≡ slice_get ys (length ys - 1)
 last_append [] ys h = refl
 last_append (x ∷ xs) ys h =
@@ -147,17 +152,17 @@ module _ {T : Type 0} (rules : RangeRules T) where
   some_ranges start (r ∷ rs) later h = omega arith
 
   pub last_flat : (ps : List (Placed T)) (p : Placed T) (r : Ranged T) → AreChunks rules ps → slice_get ps (length ps - 1) ≡ Some p
-      → slice_get p.chunk.value.ranges.items (length p.chunk.value.ranges.items - 1) ≡ Some r → slice_get (flat ps) (length (flat ps) - 1) ≡ Some (shift p.start r)
+      → slice_get (content p).ranges (length (content p).ranges - 1) ≡ Some r → slice_get (flat ps) (length (flat ps) - 1) ≡ Some (shift p.start r)
   last_flat [] p r h e f = cc
   last_flat (q ∷ []) p r h e f =
       let same : q ≡ p = cc in
       subst (λ (x : Placed T). slice_get (flat (x ∷ [])) (length (flat (x ∷ [])) - 1) ≡ Some (shift p.start r)) (sym same)
-      (ap (λ xs. slice_get xs (length xs - 1)) (append-nil (map (shift p.start) p.chunk.value.ranges.items))
-      ∙ (ap (λ n. slice_get (map (shift p.start) p.chunk.value.ranges.items) (n - 1)) (length-map p.chunk.value.ranges.items (shift p.start))
-      ∙ (slice_get-map (shift p.start) p.chunk.value.ranges.items (length p.chunk.value.ranges.items - 1) ∙ ap (option_map (shift p.start)) f)))
+      (ap (λ xs. slice_get xs (length xs - 1)) (append-nil (map (shift p.start) (content p).ranges))
+      ∙ (ap (λ n. slice_get (map (shift p.start) (content p).ranges) (n - 1)) (length-map (content p).ranges (shift p.start))
+      ∙ (slice_get-map (shift p.start) (content p).ranges (length (content p).ranges - 1) ∙ ap (option_map (shift p.start)) f)))
   last_flat (q ∷ q' ∷ ps) p r h e f =
       let n : length (q ∷ q' ∷ ps) - 1 ≡ suc (length (q' ∷ ps) - 1) = omega arith in
-      last_append (map (shift q.start) q.chunk.value.ranges.items) (flat (q' ∷ ps)) (some_ranges q'.start q'.chunk.value.ranges.items (flat ps) h.1.0.1)
+      last_append (map (shift q.start) (content q).ranges) (flat (q' ∷ ps)) (some_ranges q'.start (content q').ranges (flat ps) h.1.0.1)
       ∙ last_flat (q' ∷ ps) p r h.1 (ap (slice_get (q ∷ q' ∷ ps)) (sym n) ∙ e) f
 
   -- the last range of some groups
@@ -243,7 +248,7 @@ module _ {T : Type 0} (rules : RangeRules T) where
 
   -- the last range of chunks that count from a place
   pub last_moved : (base : ℕ) (ps : List (Placed T)) (p : Placed T) (r : Ranged T) → AreChunks rules ps → slice_get ps (length ps - 1) ≡ Some p
-      → slice_get p.chunk.value.ranges.items (length p.chunk.value.ranges.items - 1) ≡ Some r → slice_get (map (shift base) (flat ps)) (length (flat ps) - 1) ≡ Some (shift (base + p.start) r)
+      → slice_get (content p).ranges (length (content p).ranges - 1) ≡ Some r → slice_get (map (shift base) (flat ps)) (length (flat ps) - 1) ≡ Some (shift (base + p.start) r)
   last_moved base ps p r h e f =
       let n : p.start + base ≡ base + p.start = omega arith in
       slice_get-map (shift base) (flat ps) (length (flat ps) - 1) ∙ (ap (option_map (shift base)) (last_flat ps p r h e f) ∙ ap (λ x. Some x) (shifted_twice base p.start r ∙ ap (λ n. shift n r) n))

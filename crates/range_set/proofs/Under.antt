@@ -101,31 +101,32 @@ module _ {T : Type 0} (rules : RangeRules T) (d : Sections) where
       at true h = end_point (rules.mode r.value) (place_of d r.from (rules.start_side r.value) (rules.mode r.value)) (place_of d r.from (rules.end_side r.value) Simple) refl h
       at false h = end_span (place_of d r.from (rules.start_side r.value) Simple) (place_of d r.to (rules.end_side r.value) Simple) refl h
 
-  -- a range that no change meets, where it goes
-  abbrev pub at_clear : Ranged T → Ranged T
-  at_clear r = record { from = clear_place d r.from; to = clear_place d r.to; value = r.value }
-
-  -- ranges that no change meets, each of which is only moved
-  abbrev pub ClearEach : List (Ranged T) → Type 0
-  ClearEach [] = Unit {0}
-  ClearEach (r ∷ rs) = (IsClear r.from r.from d × (r.from ≤ old_size d) × (moved rules d r ≡ Some (at_clear r))) × ClearEach rs
-
   -- each range begins in the old text
   abbrev pub StartIn : List (Ranged T) → Type 0
   StartIn [] = Unit {0}
   StartIn (r ∷ rs) = (r.from ≤ old_size d) × StartIn rs
 
-  pub clear_images : (c : List (Ranged T)) → ClearEach c → filter_map (moved rules d) c ≡ map at_clear c
+module _ {T : Type 0} (rules : RangeRules T) (d : Sections) (ends : Ranged T → ℕ) where
+  -- a range whose start no change meets, where it goes, with an end of its own
+  abbrev pub image : Ranged T → Ranged T
+  image r = record { from = clear_place d r.from; to = ends r; value = r.value }
+
+  -- ranges whose starts no change meets, and that go there
+  abbrev pub AreClear : List (Ranged T) → Type 0
+  AreClear [] = Unit {0}
+  AreClear (r ∷ rs) = (IsClear r.from r.from d × (r.from ≤ old_size d) × (moved rules d r ≡ Some (image r))) × AreClear rs
+
+  pub clear_images : (c : List (Ranged T)) → AreClear c → filter_map (moved rules d) c ≡ map image c
   clear_images [] h = refl
-  clear_images (r ∷ rs) h = ap (λ o. cons_option o (filter_map (moved rules d) rs)) h.0.2 ∙ ap (λ xs. at_clear r ∷ xs) (clear_images rs h.1)
+  clear_images (r ∷ rs) h = ap (λ o. cons_option o (filter_map (moved rules d) rs)) h.0.2 ∙ ap (λ xs. image r ∷ xs) (clear_images rs h.1)
 
   -- what stands before a clear range is moved before it, and what stands after it after it
-  before_clear : (x u q : Ranged T) → before rules u x ≡ false → IsClear u.from u.from d → u.from ≤ old_size d → moved rules d x ≡ Some q → before rules (at_clear u) q ≡ false
+  before_clear : (x u q : Ranged T) → before rules u x ≡ false → IsClear u.from u.from d → u.from ≤ old_size d → moved rules d x ≡ Some q → before rules (image u) q ≡ false
   before_clear x u q h clear l e =
-      let b = moved_begins x q e in
+      let b = moved_begins rules d x q e in
       at (eq-or-lt_of_le (earlier u.from x.from _ h)) b
     where
-      at : (x.from ≡ u.from) ⊎ (x.from < u.from) → Begins x q → before rules (at_clear u) q ≡ false
+      at : (x.from ≡ u.from) ⊎ (x.from < u.from) → Begins rules d x q → before rules (image u) q ≡ false
       at (inl s) b =
           let k = map_pos-clear d u.from (is_negative (rules.start_side x.value)) b.mode l clear in
           let w : Some (clear_place d u.from) ≡ Some q.from = sym k ∙ (ap (λ p. map_pos counted d p (is_negative (rules.start_side x.value)) b.mode) (sym s) ∙ b.from) in
@@ -134,12 +135,12 @@ module _ {T : Type 0} (rules : RangeRules T) (d : Sections) where
           (ap (λ v. int_lt (rules.start_side u.value) (rules.start_side v)) b.value ∙ same_place u.from x.from (int_lt (rules.start_side u.value) (rules.start_side x.value)) (sym s) h)
       at (inr m) b = not_before (clear_place d u.from) q.from _ (goes_before d u.from x.from q.from (is_negative (rules.start_side x.value)) b.mode m l clear b.from)
 
-  after_clear : (u y q : Ranged T) → before rules y u ≡ false → IsClear u.from u.from d → u.from ≤ old_size d → y.from ≤ old_size d → moved rules d y ≡ Some q → before rules q (at_clear u) ≡ false
+  after_clear : (u y q : Ranged T) → before rules y u ≡ false → IsClear u.from u.from d → u.from ≤ old_size d → y.from ≤ old_size d → moved rules d y ≡ Some q → before rules q (image u) ≡ false
   after_clear u y q h clear l n e =
-      let b = moved_begins y q e in
+      let b = moved_begins rules d y q e in
       at (eq-or-lt_of_le (earlier y.from u.from _ h)) b
     where
-      at : (u.from ≡ y.from) ⊎ (u.from < y.from) → Begins y q → before rules q (at_clear u) ≡ false
+      at : (u.from ≡ y.from) ⊎ (u.from < y.from) → Begins rules d y q → before rules q (image u) ≡ false
       at (inl s) b =
           let k = map_pos-clear d u.from (is_negative (rules.start_side y.value)) b.mode l clear in
           let w : Some (clear_place d u.from) ≡ Some q.from = sym k ∙ (ap (λ p. map_pos counted d p (is_negative (rules.start_side y.value)) b.mode) s ∙ b.from) in
@@ -148,39 +149,57 @@ module _ {T : Type 0} (rules : RangeRules T) (d : Sections) where
           (ap (λ v. int_lt (rules.start_side v) (rules.start_side u.value)) b.value ∙ same_place y.from u.from (int_lt (rules.start_side y.value) (rules.start_side u.value)) (sym s) h)
       at (inr m) b = not_before q.from (clear_place d u.from) _ (goes_after d u.from y.from q.from (is_negative (rules.start_side y.value)) b.mode m n clear b.from)
 
-  below_images : (x q : Ranged T) (c : List (Ranged T)) → NoneBelow (before rules) x c → moved rules d x ≡ Some q → ClearEach c → NoneBelow (before rules) q (map at_clear c)
+  below_images : (x q : Ranged T) (c : List (Ranged T)) → NoneBelow (before rules) x c → moved rules d x ≡ Some q → AreClear c → NoneBelow (before rules) q (map image c)
   below_images x q [] h e k = tt
   below_images x q (u ∷ c) h e k = (before_clear x u q h.0 k.0.0 k.0.1 e, below_images x q c h.1 e k.1)
 
-  pub sources_below : (xs c : List (Ranged T)) → NoneBelowAny (before rules) (before-order rules) xs c → ClearEach c → NoneBelowAny (before rules) (before-order rules) (filter_map (moved rules d) xs) (map at_clear c)
+  pub sources_below : (xs c : List (Ranged T)) → NoneBelowAny (before rules) (before-order rules) xs c → AreClear c → NoneBelowAny (before rules) (before-order rules) (filter_map (moved rules d) xs) (map image c)
   sources_below [] c h k = tt
   sources_below (x ∷ xs) c h k = at (moved rules d x) refl (sources_below xs c h.1 k)
     where
-      at : (o : Option (Ranged T)) → moved rules d x ≡ o → NoneBelowAny (before rules) (before-order rules) (filter_map (moved rules d) xs) (map at_clear c)
-          → NoneBelowAny (before rules) (before-order rules) (cons_option o (filter_map (moved rules d) xs)) (map at_clear c)
+      at : (o : Option (Ranged T)) → moved rules d x ≡ o → NoneBelowAny (before rules) (before-order rules) (filter_map (moved rules d) xs) (map image c)
+          → NoneBelowAny (before rules) (before-order rules) (cons_option o (filter_map (moved rules d) xs)) (map image c)
       at None e rest = rest
       at (Some q) e rest = (below_images x q c h.0 e k, rest)
 
-  above_images : (u : Ranged T) (ys : List (Ranged T)) → IsClear u.from u.from d → u.from ≤ old_size d → StartIn ys → NoneBelow (before rules) u ys → NoneBelow (before rules) (at_clear u) (filter_map (moved rules d) ys)
+  above_images : (u : Ranged T) (ys : List (Ranged T)) → IsClear u.from u.from d → u.from ≤ old_size d → StartIn rules d ys → NoneBelow (before rules) u ys → NoneBelow (before rules) (image u) (filter_map (moved rules d) ys)
   above_images u [] clear l s h = tt
   above_images u (y ∷ ys) clear l s h = at (moved rules d y) refl (above_images u ys clear l s.1 h.1)
     where
-      at : (o : Option (Ranged T)) → moved rules d y ≡ o → NoneBelow (before rules) (at_clear u) (filter_map (moved rules d) ys) → NoneBelow (before rules) (at_clear u) (cons_option o (filter_map (moved rules d) ys))
+      at : (o : Option (Ranged T)) → moved rules d y ≡ o → NoneBelow (before rules) (image u) (filter_map (moved rules d) ys) → NoneBelow (before rules) (image u) (cons_option o (filter_map (moved rules d) ys))
       at None e rest = rest
       at (Some q) e rest = (after_clear u y q h.0 clear l s.0 e, rest)
 
-  pub chunk_below : (c ys : List (Ranged T)) → ClearEach c → StartIn ys → NoneBelowAny (before rules) (before-order rules) c ys → NoneBelowAny (before rules) (before-order rules) (map at_clear c) (filter_map (moved rules d) ys)
+  pub chunk_below : (c ys : List (Ranged T)) → AreClear c → StartIn rules d ys → NoneBelowAny (before rules) (before-order rules) c ys → NoneBelowAny (before rules) (before-order rules) (map image c) (filter_map (moved rules d) ys)
   chunk_below [] ys k s h = tt
   chunk_below (u ∷ c) ys k s h = (above_images u ys k.0.0 k.0.1 s h.0, chunk_below c ys k.1 s h.1)
 
-  starts_in : (c : List (Ranged T)) → ClearEach c → StartIn c
+  starts_in : (c : List (Ranged T)) → AreClear c → StartIn rules d c
   starts_in [] k = tt
   starts_in (u ∷ c) k = (k.0.1, starts_in c k.1)
 
-  chunk_rises : (c : List (Ranged T)) → ClearEach c → Rises (before rules) c → Rises (before rules) (map at_clear c)
+  chunk_rises : (c : List (Ranged T)) → AreClear c → Rises (before rules) c → Rises (before rules) (map image c)
   chunk_rises [] k h = tt
   chunk_rises (u ∷ c) k h =
-      (subst (NoneBelow (before rules) (at_clear u)) (clear_images c k.1) (above_images u c k.0.0 k.0.1 (starts_in c k.1) h.0), chunk_rises c k.1 h.1)
+      (subst (NoneBelow (before rules) (image u)) (clear_images c k.1) (above_images u c k.0.0 k.0.1 (starts_in c k.1) h.0), chunk_rises c k.1 h.1)
+
+module _ {T : Type 0} (rules : RangeRules T) (d : Sections) where
+  -- a range that no change meets, where it goes
+  abbrev pub at_clear : Ranged T → Ranged T
+  at_clear = image rules d (λ r. clear_place d r.to)
+
+  -- ranges that no change meets, each of which is only moved
+  abbrev pub ClearEach : List (Ranged T) → Type 0
+  ClearEach = AreClear rules d (λ r. clear_place d r.to)
+
+  -- where a range goes whose start no change meets
+  pub image_is : (x v : Ranged T) → IsClear x.from x.from d → x.from ≤ old_size d → moved rules d x ≡ Some v → v ≡ image rules d (λ r. v.to) x
+  image_is x v clear l e =
+      let b = moved_begins rules d x v e in
+      let w : Some (clear_place d x.from) ≡ Some v.from = sym (map_pos-clear d x.from (is_negative (rules.start_side x.value)) b.mode l clear) ∙ b.from in
+      let f : v.from ≡ clear_place d x.from = cc in
+      ap (λ n. let q : Ranged T = record { from = n; to = v.to; value = v.value } in q) f
+      ∙ ap (λ y. let q : Ranged T = record { from = clear_place d x.from; to = v.to; value = y } in q) b.value
 
 module _ {T : Type 0} (rules : RangeRules T) where
   pub none_left : (z : Ranged T) (xs ys : List (Ranged T)) → NoneBelow (before rules) z (xs ++ ys) → NoneBelow (before rules) z xs
@@ -267,54 +286,54 @@ module _ {T : Type 0} (rules : RangeRules T) (d : Sections) where
       }
 
   -- the sort of a run, a clear chunk and what is to come, one after another
-  parted : (sources c later run : List (Ranged T)) → run ≡ filter_map (moved rules d) sources → Rises (before rules) (sources ++ (c ++ later)) → (0 < length c) → ClearEach rules d c → StartIn rules d later
-      → stable_sort (before rules) (run ++ filter_map (moved rules d) (c ++ later)) ≡ stable_sort (before rules) run ++ (map (at_clear rules d) c ++ stable_sort (before rules) (filter_map (moved rules d) later))
-  parted sources [] later run e h some k s = absurd (omega arith)
-  parted sources (u ∷ c) later run e h some k s =
+  parted : (ends : Ranged T → ℕ) (sources c later run : List (Ranged T)) → run ≡ filter_map (moved rules d) sources → Rises (before rules) (sources ++ (c ++ later)) → (0 < length c) → AreClear rules d ends c → StartIn rules d later
+      → stable_sort (before rules) (run ++ filter_map (moved rules d) (c ++ later)) ≡ stable_sort (before rules) run ++ (map (image rules d ends) c ++ stable_sort (before rules) (filter_map (moved rules d) later))
+  parted ends sources [] later run e h some k s = absurd (omega arith)
+  parted ends sources (u ∷ c) later run e h some k s =
       let f = moved rules d in
       let o = before rules in
       let order = before-order rules in
-      let chunk = map (at_clear rules d) (u ∷ c) in
+      let chunk = map (image rules d ends) (u ∷ c) in
       let L = filter_map f later in
       let both = rises_right rules sources ((u ∷ c) ++ later) h in
       let across = rises_across rules sources ((u ∷ c) ++ later) h in
-      let run_chunk : NoneBelowAny o order run chunk = subst (λ xs. NoneBelowAny o order xs chunk) (sym e) (sources_below rules d sources (u ∷ c) (any_left rules sources (u ∷ c) later across) k) in
-      let chunk_later = chunk_below rules d (u ∷ c) later k s (rises_across rules (u ∷ c) later both) in
-      let run_later = through rules run L (at_clear rules d u) (map (at_clear rules d) c) run_chunk chunk_later.0 in
-      let images : filter_map f ((u ∷ c) ++ later) ≡ chunk ++ L = filter_map-append f (u ∷ c) later ∙ ap (λ xs. xs ++ L) (clear_images rules d (u ∷ c) k) in
+      let run_chunk : NoneBelowAny o order run chunk = subst (λ xs. NoneBelowAny o order xs chunk) (sym e) (sources_below rules d ends sources (u ∷ c) (any_left rules sources (u ∷ c) later across) k) in
+      let chunk_later = chunk_below rules d ends (u ∷ c) later k s (rises_across rules (u ∷ c) later both) in
+      let run_later = through rules run L (image rules d ends u) (map (image rules d ends) c) run_chunk chunk_later.0 in
+      let images : filter_map f ((u ∷ c) ++ later) ≡ chunk ++ L = filter_map-append f (u ∷ c) later ∙ ap (λ xs. xs ++ L) (clear_images rules d ends (u ∷ c) k) in
       ap (λ xs. stable_sort o (run ++ xs)) images
       ∙ (stable_sort-append o order run (chunk ++ L) (any_both rules run chunk L run_chunk run_later)
       ∙ ap (λ xs. stable_sort o run ++ xs)
       (stable_sort-append o order chunk L chunk_later
-      ∙ ap (λ xs. xs ++ stable_sort o L) (stable_sort-risen o order chunk (chunk_rises rules d (u ∷ c) k (rises_left rules (u ∷ c) later both)))))
+      ∙ ap (λ xs. xs ++ stable_sort o L) (stable_sort-risen o order chunk (chunk_rises rules d ends (u ∷ c) k (rises_left rules (u ∷ c) later both)))))
 
-  pub under_clear : (whole done run c later after : List (Ranged T)) → IsUnder whole done run (c ++ later) → (0 < length c) → ClearEach rules d c → StartIn rules d later
-      → after ≡ done ++ stable_sort (before rules) run ++ map (at_clear rules d) c → IsUnder whole after [] later
-  under_clear whole done run c later after h some k s e =
+  pub under_clear : (ends : Ranged T → ℕ) (whole done run c later after : List (Ranged T)) → IsUnder whole done run (c ++ later) → (0 < length c) → AreClear rules d ends c → StartIn rules d later
+      → after ≡ done ++ stable_sort (before rules) run ++ map (image rules d ends) c → IsUnder whole after [] later
+  under_clear ends whole done run c later after h some k s e =
       let f = moved rules d in
       let o = before rules in
-      let chunk = map (at_clear rules d) c in
+      let chunk = map (image rules d ends) c in
       let n = ap length e ∙ (length-append (done ++ stable_sort o run) chunk ∙ ap (λ x. x + length chunk) (length-append done (stable_sort o run))) in
       let m = length-stable_sort o run in
-      let w = length-map c (at_clear rules d) in
+      let w = length-map c (image rules d ends) in
       let y = length-append c later in
       let l = h.room in
       record {
         sources = [];
         run_is = refl;
         rises = rises_right rules c later (rises_right rules h.sources (c ++ later) h.rises);
-        goes = h.goes ∙ (ap (λ xs. done ++ xs) (parted h.sources c later run h.run_is h.rises some k s)
+        goes = h.goes ∙ (ap (λ xs. done ++ xs) (parted ends h.sources c later run h.run_is h.rises some k s)
             ∙ (sym (append_assoc done (stable_sort o run) (chunk ++ stable_sort o (filter_map f later)))
             ∙ (sym (append_assoc (done ++ stable_sort o run) chunk (stable_sort o (filter_map f later))) ∙ ap (λ xs. xs ++ stable_sort o (filter_map f later)) (sym e))));
         room = omega (arith, n, m, w, y, l);
       }
 
   -- the run may be sorted and put after what is done
-  pub under_order : (whole done run c later : List (Ranged T)) → IsUnder whole done run (c ++ later) → (0 < length c) → ClearEach rules d c → StartIn rules d later → Ascend 0 (done ++ stable_sort (before rules) run)
-  under_order whole done run c later h some k s =
+  pub under_order : (ends : Ranged T → ℕ) (whole done run c later : List (Ranged T)) → IsUnder whole done run (c ++ later) → (0 < length c) → AreClear rules d ends c → StartIn rules d later → Ascend 0 (done ++ stable_sort (before rules) run)
+  under_order ends whole done run c later h some k s =
       let o = before rules in
-      let rest = map (at_clear rules d) c ++ stable_sort o (filter_map (moved rules d) later) in
-      let all = h.goes ∙ (ap (λ xs. done ++ xs) (parted h.sources c later run h.run_is h.rises some k s) ∙ sym (append_assoc done (stable_sort o run) rest)) in
+      let rest = map (image rules d ends) c ++ stable_sort o (filter_map (moved rules d) later) in
+      let all = h.goes ∙ (ap (λ xs. done ++ xs) (parted ends h.sources c later run h.run_is h.rises some k s) ∙ sym (append_assoc done (stable_sort o run) rest)) in
       rises_ascend rules (done ++ stable_sort o run) (rises_left rules (done ++ stable_sort o run) rest
       (subst (Rises o) all (Rises-stable_sort o (before-order rules) (filter_map (moved rules d) whole))))
 

@@ -13,7 +13,8 @@ use Rattle.range_set.specs.Rules.{RangeRules}
 use Rattle.range_set.specs.Order.{AllForward, before}
 use Rattle.range_set.proofs.RangeOrder.{forward_filtered, forward_moved}
 use Rattle.range_set.specs.Mapping.{is_turned, moved}
-use Rattle.range_set.specs.PrivateChunks.{AreChunks, Ascend, BeginBy, first_start, flat, greatest_end, shift}
+use Rattle.range_set.specs.PrivateChunks.{AreChunks, Ascend, BeginBy, Content, content, first_start, flat, greatest_end, shift}
+use Rattle.range_set.specs.PrivateMoving.{IsMovedAlone}
 use Rattle.range_set.specs.declared.ranged.Ranged.{Ranged}
 use Rattle.range_set.specs.declared.chunk.Placed.{Placed}
 use Rattle.range_set.proofs.Chunks.{ascend-less, ascend-rest, begin_by-next, end_by_greatest, is_not_less, length_shifted, turned-shifted}
@@ -21,7 +22,7 @@ use Rattle.range_set.proofs.Clear.{IsClear, Sections, clear_apart, clear_place, 
 use Rattle.range_set.proofs.ClearChunks.{clear_each, clear_shifts}
 use Rattle.range_set.proofs.Cost.{chunk_affected}
 use Rattle.range_set.proofs.Each.{Within}
-use Rattle.range_set.proofs.Under.{ClearEach, IsUnder, StartIn, at_clear, rises_ascend, under_clear, under_each, under_init, under_order}
+use Rattle.range_set.proofs.Under.{AreClear, ClearEach, IsUnder, StartIn, at_clear, image, image_is, rises_ascend, under_clear, under_each, under_init, under_order}
 
 or_left : (a b : Bool) → (a || b) ≡ false → a ≡ false
 or_left false b h = refl
@@ -49,6 +50,15 @@ module _ {T : Type 0} where
   within_rest len [] ys h = h
   within_rest len (x ∷ xs) ys h = within_rest len xs ys h.1
 
+  -- a chunk's ranges begin no earlier than it
+  pub ascend_from : (m n start : ℕ) (rs : List (Ranged T)) → first_start rs ≡ 0 → m ≤ start → Ascend n (map (shift start) rs) → Ascend m (map (shift start) rs)
+  ascend_from m n start [] f l h = tt
+  ascend_from m n start (r ∷ rs) f l h = (omega (arith, f, l), h.1)
+
+  pub ascend_more : (m n start : ℕ) (rs ys : List (Ranged T)) → first_start rs ≡ 0 → 1 ≤ length rs → m ≤ start → Ascend n (map (shift start) rs ++ ys) → Ascend m (map (shift start) rs ++ ys)
+  ascend_more m n start [] ys f some l h = absurd (omega arith)
+  ascend_more m n start (r ∷ rs) ys f some l h = (omega (arith, f, l), h.1)
+
   -- what is after a hull begins no earlier than it
   pub ascend_hull : (n start : ℕ) (rs ys : List (Ranged T)) → 1 ≤ length rs → first_start rs ≡ 0 → Ascend n (map (shift start) rs ++ ys) → (n ≤ start) × Ascend start ys
   ascend_hull n start [] ys some f h = absurd (omega arith)
@@ -67,13 +77,13 @@ module _ {T : Type 0} (rules : RangeRules T) (d : Sections) where
 
   pub starts_on : (n a : ℕ) (p : Placed T) (ps : List (Placed T)) → AreChunks rules (p ∷ ps) → Ascend n (flat (p ∷ ps)) → StartsBy a ps → p.start ≤ a
   starts_on n a p [] h asc s = absurd s
-  starts_on n a p (q ∷ ps) h asc s = at q.chunk.value.ranges.items h.1.0.1 h.1.0.0.first asc
+  starts_on n a p (q ∷ ps) h asc s = at (content q).ranges h.1.0.1 h.1.0.0.first asc
     where
-      at : (rs : List (Ranged T)) → 1 ≤ length rs → first_start rs ≡ 0 → Ascend n (map (shift p.start) p.chunk.value.ranges.items ++ (map (shift q.start) rs ++ flat ps)) → p.start ≤ a
+      at : (rs : List (Ranged T)) → 1 ≤ length rs → first_start rs ≡ 0 → Ascend n (map (shift p.start) (content p).ranges ++ (map (shift q.start) rs ++ flat ps)) → p.start ≤ a
       at [] some f asc = absurd (omega arith)
       at (r ∷ rs) some f asc =
-          let b = begin_by-next n (map (shift p.start) p.chunk.value.ranges.items) (shift q.start r) (map (shift q.start) rs ++ flat ps) asc in
-          let k = begins_at (r.from + q.start) p.start p.chunk.value.ranges.items h.0.1 h.0.0.first b in omega (arith, k, f, s)
+          let b = begin_by-next n (map (shift p.start) (content p).ranges) (shift q.start r) (map (shift q.start) rs ++ flat ps) asc in
+          let k = begins_at (r.from + q.start) p.start (content p).ranges h.0.1 h.0.0.first b in omega (arith, k, f, s)
 
   -- Chunks of which some are mapped: what is done and the run that is to be sorted, how far the walk came, and the replaced ranges
   -- that may still be met.
@@ -106,9 +116,9 @@ module _ {T : Type 0} (rules : RangeRules T) (d : Sections) where
   -- whether a chunk's ranges are mapped by themselves is seen by the replaced ranges that are left
   pub affected_same : (whole : List (Ranged T)) (p : Placed T) (rest : List (Placed T)) (done run : List (Ranged T)) (reached : ℕ) (reps after : List ChangedRange) → IsWalked whole (p ∷ rest) done run reached reps
       → ((a b : ℕ) → p.start ≤ a → list_any (meets a b) after ≡ list_any (meets a b) reps) → (b : Bool)
-      → b ≡ (p.chunk.value.is_turned || list_any (meets p.start (p.start + p.chunk.value.reach)) after) → b ≡ chunk_affected rules d p
+      → b ≡ ((content p).is_turned || list_any (meets p.start (p.start + (content p).reach)) after) → b ≡ chunk_affected rules d p
   affected_same whole p rest done run reached reps after h f b e =
-      e ∙ ap (λ x. p.chunk.value.is_turned || x) (f p.start _ (omega arith) ∙ h.same p.start _ (omega arith))
+      e ∙ ap (λ x. (content p).is_turned || x) (f p.start _ (omega arith) ∙ h.same p.start _ (omega arith))
 
   next_same : (whole : List (Ranged T)) (p : Placed T) (rest : List (Placed T)) (done run : List (Ranged T)) (reached : ℕ) (reps after : List ChangedRange) → IsWalked whole (p ∷ rest) done run reached reps
       → ((a b : ℕ) → p.start ≤ a → list_any (meets a b) after ≡ list_any (meets a b) reps) → (a b : ℕ) → StartsBy a rest → list_any (meets a b) after ≡ list_any (meets a b) (replaced d)
@@ -117,13 +127,13 @@ module _ {T : Type 0} (rules : RangeRules T) (d : Sections) where
 
   pub walked_each : (whole : List (Ranged T)) (p : Placed T) (rest : List (Placed T)) (done run more : List (Ranged T)) (reached next : ℕ) (reps after : List ChangedRange) → IsWalked whole (p ∷ rest) done run reached reps
       → ((a b : ℕ) → p.start ≤ a → list_any (meets a b) after ≡ list_any (meets a b) reps)
-      → more ≡ run ++ filter_map (moved rules d) (map (shift p.start) p.chunk.value.ranges.items)
-      → ((later : List (Ranged T)) → Ascend reached (map (shift p.start) p.chunk.value.ranges.items ++ later) → Ascend next later)
+      → more ≡ run ++ filter_map (moved rules d) (map (shift p.start) (content p).ranges)
+      → ((later : List (Ranged T)) → Ascend reached (map (shift p.start) (content p).ranges ++ later) → Ascend next later)
       → IsWalked whole rest done more next after
   walked_each whole p rest done run more reached next reps after h f e g = record {
-    under = under_each rules d whole done run (map (shift p.start) p.chunk.value.ranges.items) (flat rest) more h.under e;
+    under = under_each rules d whole done run (map (shift p.start) (content p).ranges) (flat rest) more h.under e;
     chunks = h.chunks.1;
-    within = within_rest (old_size d) (map (shift p.start) p.chunk.value.ranges.items) (flat rest) h.within;
+    within = within_rest (old_size d) (map (shift p.start) (content p).ranges) (flat rest) h.within;
     ascend = g (flat rest) h.ascend;
     same = next_same whole p rest done run reached reps after h f;
   }
@@ -134,9 +144,9 @@ module _ {T : Type 0} (rules : RangeRules T) (d : Sections) where
     pub inside : p.start ≤ old_size d
     pub ascend : reached ≤ p.start
     pub order : Ascend 0 (done ++ stable_sort (before rules) run)
-    pub fits : clear_place d p.start + p.chunk.value.reach ≤ new_size counted d
-    pub images : map (at_clear rules d) (map (shift p.start) p.chunk.value.ranges.items) ≡ map (shift (clear_place d p.start)) p.chunk.value.ranges.items
-    pub each : ClearEach rules d (map (shift p.start) p.chunk.value.ranges.items)
+    pub fits : clear_place d p.start + (content p).reach ≤ new_size counted d
+    pub images : map (at_clear rules d) (map (shift p.start) (content p).ranges) ≡ map (shift (clear_place d p.start)) (content p).ranges
+    pub each : ClearEach rules d (map (shift p.start) (content p).ranges)
 
   -- the end of the hull is in the text
   pub hull_within : (len start : ℕ) (rs : List (Ranged T)) → 1 ≤ length rs → Within len (map (shift start) rs) → start + greatest_end rs ≤ len
@@ -173,17 +183,17 @@ module _ {T : Type 0} (rules : RangeRules T) (d : Sections) where
       → chunk_affected rules d p ≡ false → IsClearChunk whole p rest done run reached
   clear_chunk whole p rest done run reached reps h e =
       let chunk = h.chunks.0.0 in
-      let items = p.chunk.value.ranges.items in
-      let hull = or_right p.chunk.value.is_turned (list_any (meets p.start (p.start + p.chunk.value.reach)) (replaced d)) e in
-      let turned : list_any (is_turned rules) items ≡ false = sym chunk.turned ∙ or_left p.chunk.value.is_turned (list_any (meets p.start (p.start + p.chunk.value.reach)) (replaced d)) e in
+      let items = (content p).ranges in
+      let hull = or_right (content p).is_turned (list_any (meets p.start (p.start + (content p).reach)) (replaced d)) e in
+      let turned : list_any (is_turned rules) items ≡ false = sym chunk.turned ∙ or_left (content p).is_turned (list_any (meets p.start (p.start + (content p).reach)) (replaced d)) e in
       let inside = within_prefix (old_size d) (map (shift p.start) items) (flat rest) h.within in
       let some : 0 < length (map (shift p.start) items) = let n = length_shifted rules p.start items in let m = h.chunks.0.1 in omega (arith, n, m) in
-      let here = clear_hull p.start p.chunk.value.reach items h.chunks.0.1 chunk.forward chunk.reach turned hull inside in
+      let here = clear_hull p.start (content p).reach items h.chunks.0.1 chunk.forward chunk.reach turned hull inside in
       record {
         clear = here.clear;
         inside = here.inside;
         ascend = (ascend_hull reached p.start items (flat rest) h.chunks.0.1 chunk.first h.ascend).0;
-        order = under_order rules d whole done run (map (shift p.start) items) (flat rest) h.under some here.each (start_in (flat rest) (within_rest (old_size d) (map (shift p.start) items) (flat rest) h.within));
+        order = under_order rules d (λ r. clear_place d r.to) whole done run (map (shift p.start) items) (flat rest) h.under some here.each (start_in (flat rest) (within_rest (old_size d) (map (shift p.start) items) (flat rest) h.within));
         fits = here.fits;
         images = here.images;
         each = here.each;
@@ -191,15 +201,52 @@ module _ {T : Type 0} (rules : RangeRules T) (d : Sections) where
 
   pub walked_clear : (whole : List (Ranged T)) (p : Placed T) (rest : List (Placed T)) (done run more : List (Ranged T)) (reached : ℕ) (reps after : List ChangedRange) → IsWalked whole (p ∷ rest) done run reached reps
       → ((a b : ℕ) → p.start ≤ a → list_any (meets a b) after ≡ list_any (meets a b) reps) → IsClearChunk whole p rest done run reached
-      → more ≡ done ++ stable_sort (before rules) run ++ map (shift (clear_place d p.start)) p.chunk.value.ranges.items
+      → more ≡ done ++ stable_sort (before rules) run ++ map (shift (clear_place d p.start)) (content p).ranges
       → IsWalked whole rest more [] p.start after
   walked_clear whole p rest done run more reached reps after h f k e =
-      let items = p.chunk.value.ranges.items in
+      let items = (content p).ranges in
       let some : 0 < length (map (shift p.start) items) = let n = length_shifted rules p.start items in let m = h.chunks.0.1 in omega (arith, n, m) in
       let later = within_rest (old_size d) (map (shift p.start) items) (flat rest) h.within in
       record {
-        under = under_clear rules d whole done run (map (shift p.start) items) (flat rest) more h.under some k.each (start_in (flat rest) later)
+        under = under_clear rules d (λ r. clear_place d r.to) whole done run (map (shift p.start) items) (flat rest) more h.under some k.each (start_in (flat rest) later)
             (e ∙ ap (λ xs. done ++ stable_sort (before rules) run ++ xs) (sym k.images));
+        chunks = h.chunks.1;
+        within = later;
+        ascend = (ascend_hull reached p.start items (flat rest) h.chunks.0.1 h.chunks.0.0.first h.ascend).1;
+        same = next_same whole p rest done run reached reps after h f;
+      }
+
+  -- a chunk of one range whose start no change meets
+  alone_clear : (start : ℕ) (c : Content T) (q : Placed T) (h : IsMovedAlone rules d start c q) → Within (old_size d) (map (shift start) c.ranges) → AreClear rules d (λ r. h.image.to) (shift start h.range ∷ [])
+  alone_clear start c q h w =
+      let x = shift start h.range in
+      let inside = (subst (λ rs. Within (old_size d) (map (shift start) rs)) h.one w).0.0 in
+      ((h.clear, inside, h.moves ∙ ap Some (image_is rules d x h.image h.clear inside h.moves)), tt)
+
+  alone_under : (whole : List (Ranged T)) (p q : Placed T) (rest : List (Placed T)) (done run : List (Ranged T)) (h : IsMovedAlone rules d p.start (content p) q) → IsUnder rules d whole done run (flat (p ∷ rest)) → IsUnder rules d whole done run ((shift p.start h.range ∷ []) ++ flat rest)
+  alone_under whole p q rest done run h u = subst (λ rs. IsUnder rules d whole done run (map (shift p.start) rs ++ flat rest)) h.one u
+
+  pub alone_order : (whole : List (Ranged T)) (p q : Placed T) (rest : List (Placed T)) (done run : List (Ranged T)) (reached : ℕ) (reps : List ChangedRange) → IsWalked whole (p ∷ rest) done run reached reps → IsMovedAlone rules d p.start (content p) q
+      → Ascend 0 (done ++ stable_sort (before rules) run)
+  alone_order whole p q rest done run reached reps h k =
+      under_order rules d (λ r. k.image.to) whole done run (shift p.start k.range ∷ []) (flat rest) (alone_under whole p q rest done run k h.under) (omega arith)
+      (alone_clear p.start (content p) q k (within_prefix (old_size d) (map (shift p.start) (content p).ranges) (flat rest) h.within)) (start_in (flat rest) (within_rest (old_size d) (map (shift p.start) (content p).ranges) (flat rest) h.within))
+
+  pub walked_alone : (whole : List (Ranged T)) (p q : Placed T) (rest : List (Placed T)) (done run more : List (Ranged T)) (reached : ℕ) (reps after : List ChangedRange) → IsWalked whole (p ∷ rest) done run reached reps
+      → ((a b : ℕ) → p.start ≤ a → list_any (meets a b) after ≡ list_any (meets a b) reps) → IsMovedAlone rules d p.start (content p) q
+      → more ≡ done ++ stable_sort (before rules) run ++ map (shift q.start) (content q).ranges
+      → IsWalked whole rest more [] p.start after
+  walked_alone whole p q rest done run more reached reps after h f k e =
+      let items = (content p).ranges in
+      let x = shift p.start k.range in
+      let later = within_rest (old_size d) (map (shift p.start) items) (flat rest) h.within in
+      let here = within_prefix (old_size d) (map (shift p.start) items) (flat rest) h.within in
+      let inside = (subst (λ rs. Within (old_size d) (map (shift p.start) rs)) k.one here).0.0 in
+      let is : map (shift q.start) (content q).ranges ≡ image rules d (λ r. k.image.to) x ∷ [] = k.images ∙ ap (λ v. v ∷ []) (image_is rules d x k.image k.clear inside k.moves) in
+      record {
+        under = under_clear rules d (λ r. k.image.to) whole done run (x ∷ []) (flat rest) more (alone_under whole p q rest done run k h.under) (omega arith)
+            (alone_clear p.start (content p) q k here) (start_in (flat rest) later)
+            (e ∙ ap (λ xs. done ++ stable_sort (before rules) run ++ xs) is);
         chunks = h.chunks.1;
         within = later;
         ascend = (ascend_hull reached p.start items (flat rest) h.chunks.0.1 h.chunks.0.0.first h.ascend).1;

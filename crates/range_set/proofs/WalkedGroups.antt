@@ -8,7 +8,7 @@ use Rattle.change_desc.specs.declared.changed_range.ChangedRange.{ChangedRange}
 use Rattle.stable_order.specs.StableSort.{stable_sort}
 use Rattle.range_set.specs.Rules.{RangeRules}
 use Rattle.range_set.specs.Order.{before}
-use Rattle.range_set.specs.PrivateChunks.{AllApart, FitCarried, AllChunksApart, FitCarriedChunks, AreChunks, AreGroups, Ascend, IsGroup, carry, carry_chunk, first_start, flat, move, shift, spread}
+use Rattle.range_set.specs.PrivateChunks.{AllApart, AllChunksApart, AreChunks, AreGroups, Ascend, FitCarried, FitCarriedChunks, IsGroup, carry, carry_chunk, content, first_start, flat, move, shift, spread}
 use Rattle.range_set.specs.declared.ranged.Ranged.{Ranged}
 use Rattle.range_set.specs.declared.chunk.Placed.{Placed}
 use Rattle.range_set.specs.declared.group.PlacedGroup.{PlacedGroup}
@@ -53,7 +53,7 @@ module _ {T : Type 0} (rules : RangeRules T) (d : Sections) where
   -- a group begins where its first chunk does
   group_first : (start : ℕ) (ps later : List (Placed T)) → AreChunks rules ps → 1 ≤ length (flat ps) → first_start (flat ps) ≡ 0 → StartsBy start (map (move start) ps ++ later)
   group_first start [] later h some f = absurd (omega arith)
-  group_first start (p ∷ ps) later h some f = at p.chunk.value.ranges.items h.0.1 f
+  group_first start (p ∷ ps) later h some f = at (content p).ranges h.0.1 f
     where
       at : (rs : List (Ranged T)) → 1 ≤ length rs → first_start (map (shift p.start) rs ++ flat ps) ≡ 0 → p.start + start ≤ start
       at [] some f = absurd (omega arith)
@@ -71,7 +71,7 @@ module _ {T : Type 0} (rules : RangeRules T) (d : Sections) where
   -- what comes after the next chunks or groups begins no earlier than they
   skipped : (n start a : ℕ) (rs : List (Ranged T)) (ps : List (Placed T)) → AreChunks rules ps → 1 ≤ length rs → first_start rs ≡ 0 → Ascend n (map (shift start) rs ++ flat ps) → StartsBy a ps → start ≤ a
   skipped n start a rs [] h some f asc s = absurd s
-  skipped n start a rs (p ∷ ps) h some f asc s = at p.chunk.value.ranges.items h.0.1 h.0.0.first (ascend_hull n start rs (flat (p ∷ ps)) some f asc).1
+  skipped n start a rs (p ∷ ps) h some f asc s = at (content p).ranges h.0.1 h.0.0.first (ascend_hull n start rs (flat (p ∷ ps)) some f asc).1
     where
       at : (qs : List (Ranged T)) → 1 ≤ length qs → first_start qs ≡ 0 → Ascend start (map (shift p.start) qs ++ flat ps) → start ≤ a
       at [] some f k = absurd (omega arith)
@@ -117,7 +117,7 @@ module _ {T : Type 0} (rules : RangeRules T) (d : Sections) where
       record {
         hull = hull;
         ascend = (ascend_hull reached g.start ranges later group.1 group.0.first order).0;
-        order = under_order rules d whole done run (map (shift g.start) ranges) later under some hull.each (start_in rules d later (within_rest (old_size d) (map (shift g.start) ranges) later inside));
+        order = under_order rules d (λ r. clear_place d r.to) whole done run (map (shift g.start) ranges) later under some hull.each (start_in rules d later (within_rest (old_size d) (map (shift g.start) ranges) later inside));
         room = let k = under.room in let m = length-append (map (shift g.start) ranges) later in omega (arith, k, m, n);
       }
 
@@ -138,7 +138,7 @@ module _ {T : Type 0} (rules : RangeRules T) (d : Sections) where
       let chunks = are_left (map (move g.start) g.group.value.chunks.items) next w.chunks in
       let first = group_first g.start g.group.value.chunks.items next group.0.chunks group.1 group.0.first in
       record {
-        under = under_clear rules d whole done run (map (shift g.start) ranges) later more (subst (λ rs. IsUnder rules d whole done run rs) is w.under) some k.hull.each (start_in rules d later inside)
+        under = under_clear rules d (λ r. clear_place d r.to) whole done run (map (shift g.start) ranges) later more (subst (λ rs. IsUnder rules d whole done run rs) is w.under) some k.hull.each (start_in rules d later inside)
             (m ∙ ap (λ xs. done ++ stable_sort (before rules) run ++ xs) (sym k.hull.images));
         chunks = chunks;
         within = inside;
@@ -214,9 +214,9 @@ module _ {T : Type 0} (rules : RangeRules T) (d : Sections) where
       → more ≡ done ++ flat (map (carry_chunk from (clear_place d from)) ps) → IsWalked rules d whole others more [] reached reps
   walked_chunks whole from [] others done more reached reps l w asc f apart e = subst (λ rs. IsWalked rules d whole others rs [] reached reps) (sym (e ∙ append-nil done)) w
   walked_chunks whole from (p ∷ ps) others done more reached reps l w asc f apart e =
-      let ranges = p.chunk.value.ranges.items in
+      let ranges = (content p).ranges in
       let rest = ps ++ others in
-      let end = p.start + p.chunk.value.reach in
+      let end = p.start + (content p).reach in
       let hull = ascend_hull from p.start ranges (flat rest) w.chunks.0.1 w.chunks.0.0.first asc in
       let met : IsClear from end d = sym (f end) ∙ apart.0.1 in
       let here : IsClear from p.start d = none-narrow from end from p.start (replaced d) (omega arith) (omega arith) met in
@@ -235,9 +235,9 @@ module _ {T : Type 0} (rules : RangeRules T) (d : Sections) where
       → ((b : ℕ) → list_any (meets from b) changed ≡ list_any (meets from b) (replaced d)) → new_size counted d < 2 ^ 32 → FitCarriedChunks from (clear_place d from) changed ps
   chunks_fit from changed [] others h asc w f size = tt
   chunks_fit from changed (p ∷ ps) others h asc w f size =
-      let ranges = p.chunk.value.ranges.items in
+      let ranges = (content p).ranges in
       let later = flat (ps ++ others) in
-      let end = p.start + p.chunk.value.reach in
+      let end = p.start + (content p).reach in
       let hull = ascend_hull from p.start ranges later h.0.1 h.0.0.first asc in
       let last = hull_within rules d (old_size d) p.start ranges h.0.1 (within_prefix (old_size d) (map (shift p.start) ranges) later w) in
       let reach = h.0.0.reach in (

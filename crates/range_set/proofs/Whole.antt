@@ -6,9 +6,8 @@ use Rattle.range_set.specs.Rules.{RangeRules}
 use Rattle.range_set.specs.Order.{AllForward}
 use Rattle.range_set.specs.Mapping.{is_turned}
 use Rattle.range_set.specs.Points.{stands}
-use Rattle.range_set.specs.PrivateChunks.{Ascend, IsChunk, first_start, greatest_end, shift}
+use Rattle.range_set.specs.PrivateChunks.{Ascend, Content, IsChunk, first_start, greatest_end, shift}
 use Rattle.range_set.specs.declared.ranged.Ranged.{Ranged}
-use Rattle.range_set.specs.declared.chunk.Chunk.{Chunk}
 use Rattle.range_set.proofs.Chunks.{ascend-less, counted_from, greatest-push, is_not_less, not_less, shift_counted, turned-counted}
 
 -- a list of which the first elements were written anew
@@ -88,7 +87,7 @@ module _ {T : Type 0} (rules : RangeRules T) where
       ap (λ q. q ∷ map (shift start) (map (counted_from rules start) rs)) (shift_counted rules start r h.0 (omega (arith, k, h.0)))
       ∙ ap (λ qs. r ∷ qs) (counted_back start rs (ascend-less start r.from rs h.0 h.1) f.1)
 
-  pub whole_chunk : (start : ℕ) (chunk : Chunk T) (rs : List (Ranged T)) → chunk.ranges.items ≡ map (counted_from rules start) rs → length rs ≤ 128 → first_start rs ≡ start → Ascend start rs → AllForward rs
+  pub whole_chunk : (start : ℕ) (chunk : Content T) (rs : List (Ranged T)) → chunk.ranges ≡ map (counted_from rules start) rs → length rs ≤ 128 → first_start rs ≡ start → Ascend start rs → AllForward rs
       → chunk.reach ≡ greatest_end (map (counted_from rules start) rs) → chunk.is_turned ≡ list_any (is_turned rules) rs → chunk.has_point ≡ list_any (stands rules) rs → start + chunk.reach < 2 ^ 32 → IsChunk rules start chunk
   whole_chunk start chunk rs e few first order forward reach turned points fits = record {
     few = rw e (let n = length-map rs (counted_from rules start) in omega (arith, n, few));

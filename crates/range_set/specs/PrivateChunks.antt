@@ -1,6 +1,6 @@
 -- Groups of chunks as one list of ranges, and groups and chunks that are shared one after another, moved as far as one place.
 -- Private: contracts of sets see that list alone.
-use Rattle.std.specs.Prelude.{◌≡◌, ◌⊎◌, ℕ, false, filter, ◌+◌, ◌-◌, ◌^◌, ◌<◌, ◌≤◌, max, List, None, [], ◌∷◌, ◌++◌, length, map}
+use Rattle.std.specs.Prelude.{Bool, ◌≡◌, ◌⊎◌, ℕ, false, filter, ◌+◌, ◌-◌, ◌^◌, ◌<◌, ◌≤◌, max, List, None, [], ◌∷◌, ◌++◌, length, map}
 use Rattle.std.specs.List.{list_any}
 use Rattle.change_desc.specs.Ranges.{meets}
 use Rattle.change_desc.specs.declared.changed_range.ChangedRange.{ChangedRange}
@@ -15,19 +15,42 @@ use Rattle.range_set.specs.declared.chunk.Chunk.{Chunk}
 use Rattle.range_set.specs.declared.group.Group.{Group}
 use Rattle.range_set.specs.declared.group.PlacedGroup.{PlacedGroup}
 
+-- the ranges of a chunk, which count from its place, and what the chunk keeps of them
+pub record Content (T : Type 0) : Type 0 where
+  pub ranges : List (Ranged T)
+  pub reach : ℕ
+  pub is_turned : Bool
+  pub has_point : Bool
+
 module _ {T : Type 0} where
   -- the range further on
   abbrev pub shift : ℕ → Ranged T → Ranged T
   shift by r = record { from = r.from + by; to = r.to + by; value = r.value }
 
+  -- the range with a later end
+  abbrev pub grow : ℕ → Ranged T → Ranged T
+  grow by r = record { from = r.from; to = r.to + by; value = r.value }
+
+  -- what a chunk says of itself
+  abbrev pub plain : Chunk T → Content T
+  plain c = record { ranges = c.ranges.items; reach = c.reach; is_turned = c.is_turned; has_point = c.has_point }
+
+  -- what it holds where each of its ranges ends later by so much
+  abbrev pub stretch : ℕ → Chunk T → Content T
+  stretch by c = record { ranges = map (grow by) c.ranges.items; reach = c.reach + by; is_turned = c.is_turned; has_point = c.has_point }
+
+  -- what a chunk at a place holds
+  abbrev pub content : Placed T → Content T
+  content p = stretch p.grown p.chunk.value
+
   -- the ranges of all chunks at their places
   abbrev pub flat : List (Placed T) → List (Ranged T)
   flat [] = []
-  flat (p ∷ ps) = map (shift p.start) p.chunk.value.ranges.items ++ flat ps
+  flat (p ∷ ps) = map (shift p.start) (content p).ranges ++ flat ps
 
   -- the chunk further on
   abbrev pub move : ℕ → Placed T → Placed T
-  move by p = record { start = p.start + by; chunk = p.chunk }
+  move by p = record { start = p.start + by; grown = p.grown; chunk = p.chunk }
 
   -- the chunks of all groups at their places
   abbrev pub spread : List (PlacedGroup T) → List (Placed T)
@@ -81,17 +104,17 @@ module _ {T : Type 0} where
 
   -- the chunk as far on as the place from goes to the place to
   abbrev pub carry_chunk : (from to : ℕ) → Placed T → Placed T
-  carry_chunk from to p = record { start = p.start - from + to; chunk = p.chunk }
+  carry_chunk from to p = record { start = p.start - from + to; grown = p.grown; chunk = p.chunk }
 
   -- none of the chunks is turned, and no range meets what is from a place to the end of one of them
   abbrev pub AllChunksApart : (from : ℕ) → List ChangedRange → List (Placed T) → Type 0
   AllChunksApart from changed [] = Unit {0}
-  AllChunksApart from changed (p ∷ ps) = ((p.chunk.value.is_turned ≡ false) × (list_any (meets from (p.start + p.chunk.value.reach)) changed ≡ false)) × AllChunksApart from changed ps
+  AllChunksApart from changed (p ∷ ps) = (((content p).is_turned ≡ false) × (list_any (meets from (p.start + (content p).reach)) changed ≡ false)) × AllChunksApart from changed ps
 
   -- the chunks fit their types as far on as the place from goes to the place to, where no range meets what is between
   abbrev pub FitCarriedChunks : (from to : ℕ) → List ChangedRange → List (Placed T) → Type 0
   FitCarriedChunks from to changed [] = Unit {0}
-  FitCarriedChunks from to changed (p ∷ ps) = (list_any (meets from (p.start + p.chunk.value.reach)) changed ≡ false → p.start - from + to + p.chunk.value.reach < 2 ^ 32) × FitCarriedChunks from to changed ps
+  FitCarriedChunks from to changed (p ∷ ps) = (list_any (meets from (p.start + (content p).reach)) changed ≡ false → p.start - from + to + (content p).reach < 2 ^ 32) × FitCarriedChunks from to changed ps
 
   -- the first of some chunks were put after ranges, as far on as the place from goes to the place to, and the others were left
   pub record AreChunksShared (from to : ℕ) (changed : List ChangedRange) (chunks rest : List (Placed T)) (old new : List (Ranged T)) : Type 0 where
@@ -101,9 +124,9 @@ module _ {T : Type 0} where
     pub ranges : new ≡ old ++ flat (map (carry_chunk from to) taken)
 
   -- a chunk at a place is the first of those that were left
-  pub record IsNextChunk (old : List (Placed T)) (start : ℕ) (chunk : Chunk T) (new : List (Placed T)) : Type 0 where
-    pub ranges : flat old ≡ map (shift start) chunk.ranges.items ++ flat new
-    pub fits : Fit (map (shift start) chunk.ranges.items)
+  pub record IsNextChunk (old : List (Placed T)) (start : ℕ) (placed : Placed T) (new : List (Placed T)) : Type 0 where
+    pub ranges : flat old ≡ map (shift start) (content placed).ranges ++ flat new
+    pub fits : Fit (map (shift start) (content placed).ranges)
     pub fewer : length new < length old
 
   -- equal ranges are taken from the starts of both lists, so that one has none left
@@ -127,19 +150,19 @@ module _ {T : Type 0} where
 module _ {T : Type 0} (rules : RangeRules T) where
   -- Up to 128 ranges that count from the start of the first of them, with what a chunk keeps of them: their greatest end, and
   -- whether one of them is empty with an end side less than its start side.
-  pub record IsChunk (start : ℕ) (chunk : Chunk T) : Type 0 where
-    pub few : length chunk.ranges.items ≤ 128
-    pub first : first_start chunk.ranges.items ≡ 0
-    pub forward : AllForward chunk.ranges.items
-    pub reach : chunk.reach ≡ greatest_end chunk.ranges.items
-    pub turned : chunk.is_turned ≡ list_any (is_turned rules) chunk.ranges.items
-    pub points : chunk.has_point ≡ list_any (stands rules) chunk.ranges.items
+  pub record IsChunk (start : ℕ) (chunk : Content T) : Type 0 where
+    pub few : length chunk.ranges ≤ 128
+    pub first : first_start chunk.ranges ≡ 0
+    pub forward : AllForward chunk.ranges
+    pub reach : chunk.reach ≡ greatest_end chunk.ranges
+    pub turned : chunk.is_turned ≡ list_any (is_turned rules) chunk.ranges
+    pub points : chunk.has_point ≡ list_any (stands rules) chunk.ranges
     pub fits : start + chunk.reach < 2 ^ 32
 
   -- each chunk is one, and has ranges
   abbrev pub AreChunks : List (Placed T) → Type 0
   AreChunks [] = Unit {0}
-  AreChunks (p ∷ ps) = (IsChunk p.start p.chunk.value × (1 ≤ length p.chunk.value.ranges.items)) × AreChunks ps
+  AreChunks (p ∷ ps) = (IsChunk p.start (content p) × (1 ≤ length (content p).ranges)) × AreChunks ps
 
   -- Up to 64 chunks that count from the start of the first of their ranges, with what a group keeps of these.
   pub record IsGroup (start : ℕ) (group : Group T) : Type 0 where

@@ -6,8 +6,9 @@ use Rattle.change_desc.specs.Places.{place_after}
 use Rattle.change_desc.specs.Ranges.{meets, replaced}
 use Rattle.change_desc.specs.Sections.{old_size}
 use Rattle.range_set.specs.Mapping.{Changes, moved}
-use Rattle.range_set.specs.PrivateChunks.{shift}
+use Rattle.range_set.specs.PrivateChunks.{Content, IsChunk, content, shift}
 use Rattle.range_set.specs.Rules.{RangeRules}
+use Rattle.range_set.specs.declared.chunk.Placed.{Placed}
 use Rattle.range_set.specs.declared.clear_walk.ClearPlace.{ClearPlace}
 use Rattle.range_set.specs.declared.clear_walk.ClearWalk.{ClearWalk}
 use Rattle.range_set.specs.declared.ranged.Ranged.{Ranged}
@@ -37,3 +38,13 @@ pub record AreMoved {T : Type 0} (rules : RangeRules T) (d : Changes) (start : �
   pub is : ranges ≡ taken ++ rest
   pub run : new ≡ old ++ filter_map (moved rules d) (map (shift start) taken)
   pub cost : after + length rest ≤ before + length ranges
+
+-- A chunk of one range at a place that no replaced range meets, and the chunk that its range is in after the changes.
+pub record IsMovedAlone {T : Type 0} (rules : RangeRules T) (d : Changes) (start : ℕ) (old : Content T) (new : Placed T) : Type 0 where
+  pub range : Ranged T
+  pub one : old.ranges ≡ range ∷ []
+  pub clear : list_any (meets (range.from + start) (range.from + start)) (replaced d) ≡ false
+  pub image : Ranged T
+  pub moves : moved rules d (shift start range) ≡ Some image
+  pub images : map (shift new.start) (content new).ranges ≡ image ∷ []
+  pub chunk : IsChunk rules new.start (content new)

@@ -1,16 +1,15 @@
 ghost use Rattle.std.specs.Prelude.{IfOk, IsTrue, [], ◌++◌, ◌+◌, ◌≡◌, ◌≤◌, ◌<◌, length, map};
 ghost use Rattle.range_set.specs.Order.{AllForward};
 ghost use Rattle.change_desc.specs.Meeting.{BeginAfter, EndsAtOrAfter};
-ghost use Rattle.range_set.specs.PrivateChunks.{FitCarriedChunks, AreChunks, AreChunksShared, Ascend, IsChunk, flat, move, shift};
+ghost use Rattle.range_set.specs.PrivateChunks.{FitCarriedChunks, AreChunks, AreChunksShared, Ascend, IsChunk, content, flat, move, shift};
 ghost use Rattle.range_set.specs.PrivateBuilders.{IsBuilder, built};
 
-use crate::chunk::{Chunk, FEW_RANGES, MAX_RANGES, Placed, is_long};
+use crate::chunk::{FEW_RANGES, MAX_RANGES, Placed, is_long};
 use crate::parts::{part_len, trim};
 use crate::range_value::RangeValue;
 use crate::ranged::Ranged;
 use change_desc::{ChangedRange, first_meets};
 use std::alloc::{AllocError, Global};
-use std::rc::Rc;
 
 /// Chunks that come in order, to which more are put.
 #[derive(Drop)]
@@ -66,25 +65,32 @@ impl<T: RangeValue> ChunkBuilder<T> {
             return Ok(());
         };
         let start = first.from;
-        let alloc = *ranges.allocator();
         trim(&mut ranges);
-        let chunk = Rc::new(alloc, Chunk::of(start, ranges))?;
-        self.done.push(Placed { start, chunk })?;
+        self.done.push(Placed::of(start, ranges)?)?;
+        Ok(())
+    }
+
+    /// Puts a chunk after the ranges. `Err`: out of memory.
+    pub(crate) fn put(&mut self, placed: Placed<T>) -> Result<(), AllocError>
+        requires builder { IsBuilder T.rules self.old }
+        requires chunk { IsChunk T.rules placed.start (content placed) }
+        requires some { 1 ≤ length (content placed).ranges }
+        ensures builder { IfOk result (λ _. IsBuilder T.rules self.new) }
+        ensures ranges { IfOk result (λ _. built self.new ≡ built self.old ++ map (shift placed.start) (content placed).ranges) }
+    {
+        self.done.push(placed)?;
         Ok(())
     }
 
     /// Puts a chunk after the ranges, at a place of its own, and shares it. `Err`: out of memory.
-    pub(crate) fn share(&mut self, start: u32, chunk: &Rc<Chunk<T>>) -> Result<(), AllocError>
+    pub(crate) fn share(&mut self, start: u32, placed: &Placed<T>) -> Result<(), AllocError>
         requires builder { IsBuilder T.rules self.old }
-        requires chunk { IsChunk T.rules start chunk.now.value }
-        requires some { 1 ≤ length chunk.now.value.ranges.items }
+        requires chunk { IsChunk T.rules start (content placed.now) }
+        requires some { 1 ≤ length (content placed.now).ranges }
         ensures builder { IfOk result (λ _. IsBuilder T.rules self.new) }
-        ensures ranges { IfOk result (λ _. built self.new ≡ built self.old ++ map (shift start) chunk.now.value.ranges.items) }
+        ensures ranges { IfOk result (λ _. built self.new ≡ built self.old ++ map (shift start) (content placed.now).ranges) }
     {
-        self.done.push(Placed {
-            start,
-            chunk: chunk.clone()?,
-        })?;
+        self.done.push(placed.at(start)?)?;
         Ok(())
     }
 
@@ -112,15 +118,12 @@ impl<T: RangeValue> ChunkBuilder<T> {
         let mut rest = chunks;
         while let Some((placed, others)) = rest.split_first() {
             let start = placed.start + base;
-            let end = start + placed.chunk.reach;
+            let end = start + placed.reach();
             if placed.chunk.is_turned || first_meets(changed, from, end) {
                 return Ok(rest);
             }
             // What `share` does stands here once more: most chunks that are shared come by here, and a call costs as much as the work.
-            self.done.push(Placed {
-                start: start - from + to,
-                chunk: placed.chunk.clone()?,
-            })?;
+            self.done.push(placed.at(start - from + to)?)?;
             rest = others;
         }
         Ok(rest)

@@ -3,7 +3,7 @@ ghost use Rattle.range_set.specs.Points.{points_of};
 ghost use Rattle.range_set.specs.PrivateChunks.{Ascend, IsNextChunk, flat, spread};
 ghost use Rattle.range_set.specs.Updating.{overlaps};
 
-use crate::chunk::{Chunk, Placed};
+use crate::chunk::Placed;
 use crate::group_cursor::GroupCursor;
 use crate::range_value::RangeValue;
 use crate::run::Run;
@@ -44,8 +44,8 @@ impl<'a, T: RangeValue> ChunkIter<'a, T> {
         }
     }
 
-    /// The next chunk and its place.
-    pub(crate) fn next_chunk(&mut self) -> Option<(u32, &'a Chunk<T>)>
+    /// The next chunk, and its place.
+    pub(crate) fn next_chunk(&mut self) -> Option<(u32, &'a Placed<T>)>
         ensures next { IfSome result (λ x. IsNextChunk self.old x.0 x.1.now self.new) }
         ensures end { result ≡ None → self.old ≡ [] }
         ensures none { result ≡ None → self.new ≡ [] }
@@ -54,7 +54,7 @@ impl<'a, T: RangeValue> ChunkIter<'a, T> {
             match self.chunks.split_first() {
                 Some((next, others)) => {
                     self.chunks = others;
-                    return Some((self.base + next.start, &*next.chunk));
+                    return Some((self.base + next.start, next));
                 }
                 None => {
                     let (start, group, others) = self.groups.split_first()?;
@@ -73,9 +73,9 @@ impl<'a, T: RangeValue> ChunkIter<'a, T> {
     {
         loop {
             match self.next_chunk() {
-                Some((start, chunk)) => {
-                    if !chunk.ranges.is_empty() {
-                        return Run::over(start, chunk.ranges.as_slice());
+                Some((start, placed)) => {
+                    if !placed.chunk.ranges.is_empty() {
+                        return Run::over(start, placed.grown, placed.chunk.ranges.as_slice());
                     }
                 }
                 None => return Run::empty(),
@@ -100,7 +100,7 @@ impl<'a, T: RangeValue> ChunkIter<'a, T> {
         loop {
             match self.chunks.split_first() {
                 Some((first, others)) => {
-                    if place <= self.base + first.start + first.chunk.reach {
+                    if place <= self.base + first.start + first.reach() {
                         return;
                     }
                     self.chunks = others;

@@ -73,7 +73,7 @@ impl<T: RangeValue> Group<T> {
         for placed in chunks.iter_mut() {
             let from = placed.start - start;
             count += placed.chunk.ranges.len();
-            reach = reach.max(from + placed.chunk.reach);
+            reach = reach.max(from + placed.reach());
             is_turned = is_turned || placed.chunk.is_turned;
             has_point = has_point || placed.chunk.has_point;
             placed.start = from;

@@ -1,10 +1,10 @@
 ghost use Rattle.std.specs.Prelude.{IfOk, [], ◌++◌, ◌+◌, ◌≡◌, ◌≤◌, ◌<◌, ◌^◌, length, map};
 ghost use Rattle.range_set.specs.Order.{AllForward, before};
-ghost use Rattle.range_set.specs.PrivateChunks.{AreGroupsOf, Ascend, IsChunk, IsGroup, flat, shift, spread};
+ghost use Rattle.range_set.specs.PrivateChunks.{AreGroupsOf, Ascend, IsChunk, IsGroup, content, flat, shift, spread};
 ghost use Rattle.range_set.specs.PrivateBuilders.{IsMappedBuilder, built, grouped, put_down};
 ghost use Rattle.stable_order.specs.StableSort.{stable_sort};
 
-use crate::chunk::{Chunk, MAX_RANGES};
+use crate::chunk::{MAX_RANGES, Placed};
 use crate::chunk_builder::ChunkBuilder;
 use crate::group::Group;
 use crate::group_builder::GroupBuilder;
@@ -68,19 +68,34 @@ impl<T: RangeValue> MappedBuilder<T> {
         open.saturating_add(len) <= joined_of(self.groups.full)
     }
 
-    /// Sorts the run and puts a chunk after it, at a place of its own, and shares it. `Err`: out of memory.
-    pub(crate) fn share_chunk(&mut self, start: u32, chunk: &Rc<Chunk<T>>) -> Result<(), AllocError>
+    /// Sorts the run and puts a chunk after it. `Err`: out of memory.
+    pub(crate) fn put_chunk(&mut self, placed: Placed<T>) -> Result<(), AllocError>
         requires builder { IsMappedBuilder T.rules self.old }
         requires order { Ascend 0 (put_down self.old ++ stable_sort (before T.rules) self.old.run.items) }
         requires forward { AllForward self.old.run.items }
-        requires chunk { IsChunk T.rules start chunk.now.value }
-        requires some { 1 ≤ length chunk.now.value.ranges.items }
+        requires chunk { IsChunk T.rules placed.start (content placed) }
+        requires some { 1 ≤ length (content placed).ranges }
         ensures builder { IfOk result (λ _. IsMappedBuilder T.rules self.new) }
-        ensures ranges { IfOk result (λ _. put_down self.new ≡ put_down self.old ++ stable_sort (before T.rules) self.old.run.items ++ map (shift start) chunk.now.value.ranges.items) }
+        ensures ranges { IfOk result (λ _. put_down self.new ≡ put_down self.old ++ stable_sort (before T.rules) self.old.run.items ++ map (shift placed.start) (content placed).ranges) }
         ensures none { IfOk result (λ _. self.new.run.items ≡ []) }
     {
         put_sorted(&mut self.run, &mut self.chunks)?;
-        self.chunks.share(start, chunk)
+        self.chunks.put(placed)
+    }
+
+    /// Sorts the run and puts a chunk after it, at a place of its own, and shares it. `Err`: out of memory.
+    pub(crate) fn share_chunk(&mut self, start: u32, placed: &Placed<T>) -> Result<(), AllocError>
+        requires builder { IsMappedBuilder T.rules self.old }
+        requires order { Ascend 0 (put_down self.old ++ stable_sort (before T.rules) self.old.run.items) }
+        requires forward { AllForward self.old.run.items }
+        requires chunk { IsChunk T.rules start (content placed.now) }
+        requires some { 1 ≤ length (content placed.now).ranges }
+        ensures builder { IfOk result (λ _. IsMappedBuilder T.rules self.new) }
+        ensures ranges { IfOk result (λ _. put_down self.new ≡ put_down self.old ++ stable_sort (before T.rules) self.old.run.items ++ map (shift start) (content placed.now).ranges) }
+        ensures none { IfOk result (λ _. self.new.run.items ≡ []) }
+    {
+        put_sorted(&mut self.run, &mut self.chunks)?;
+        self.chunks.share(start, placed)
     }
 
     /// Sorts the run and puts a group after it, at a place of its own, and shares it. No chunks are left outside groups. `Err`: out of

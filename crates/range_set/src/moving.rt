@@ -8,9 +8,9 @@ ghost use Rattle.range_set.specs.declared.ranged.Ranged.{Ranged};
 ghost use Rattle.range_set.specs.Mapping.{EndWithin, map_ranges, moved, most_mapped};
 ghost use Rattle.range_set.specs.Order.{first_fault};
 ghost use Rattle.range_set.specs.PrivateMoving.{AreMoved, AreWithin, IsClearWalk};
-ghost use Rattle.range_set.specs.PrivateChunks.{AreGroups, AreGroupsOf, Ascend, IsChunk, flat, shift, spread};
+ghost use Rattle.range_set.specs.PrivateChunks.{AreGroups, AreGroupsOf, Ascend, IsChunk, content, flat, grow, shift, spread};
 
-use crate::chunk::{Chunk, Placed};
+use crate::chunk::{MAX_SHARED_LEN, Placed};
 use crate::clear_walk::ClearWalk;
 use crate::group::Group;
 use crate::group_cursor::GroupCursor;
@@ -50,8 +50,8 @@ pub(crate) fn mapped_groups<T: RangeValue, L: Ledger>(
 /// The groups of a set after changes, and how many ranges they have, where the replaced ranges and an index of the changes are
 /// given. A group whose hull meets no Replace, and in which no empty range has an end side less than its start side, is shared,
 /// unless it becomes one with chunks before it, and whole pages of such groups before the first Replace and after a shared group are
-/// shared as pages; of the others the same holds of each chunk. The ranges of the other chunks are
-/// mapped each by itself, which raises `mapped` by one. The ranges between two that are shared are sorted by themselves, since
+/// shared as pages; of the others the same holds of each chunk, and a chunk of one range may be shared with another length. The ranges
+/// of the other chunks, and such a one, are mapped each by itself, which raises `mapped` by one. The ranges between two that are shared are sorted by themselves, since
 /// what is shared parts those before it from those after it. `Err`: out of memory.
 fn map_all<'a, T: RangeValue, L: Ledger>(
     alloc: Global,
@@ -89,20 +89,25 @@ fn map_all<'a, T: RangeValue, L: Ledger>(
                 let start = inner.start + base;
                 left = ranges_from(left, start);
                 chunks = more;
-                if is_affected(start, &inner.chunk, left) {
-                    map_each(
-                        start,
-                        &inner.chunk,
-                        left,
-                        &mut walk,
-                        index,
-                        ranges_after(&builder.run, base, more, left),
-                        &mut builder.run,
-                        mapped,
-                    )?;
+                if is_affected(start, inner, left) {
+                    if let Some(alone) = inner.moved_alone(start, left, &mut walk, index)? {
+                        mapped.tick();
+                        builder.put_chunk(alone)?;
+                    } else {
+                        map_each(
+                            start,
+                            inner,
+                            left,
+                            &mut walk,
+                            index,
+                            ranges_after(&builder.run, base, more, left),
+                            &mut builder.run,
+                            mapped,
+                        )?;
+                    }
                 } else {
                     let to = walk.place_after(start, left);
-                    builder.share_chunk(to, &inner.chunk)?;
+                    builder.share_chunk(to, inner)?;
                     chunks = builder.chunks.share_carried(more, base, start, to, left)?;
                 }
             }
@@ -146,15 +151,15 @@ fn is_group_affected<T: RangeValue>(
     group.is_turned || first_meets(changed, start, start + group.reach)
 }
 
-/// Whether the ranges of a chunk are mapped each by itself: whether its hull meets a replaced range, of which those before the
+/// Whether changes affect a chunk: whether its hull meets a replaced range, of which those before the
 /// chunk, at the place `start`, are left out, or an empty range of it has an end side less than its start side.
-fn is_affected<T: RangeValue>(start: u32, chunk: &Rc<Chunk<T>>, changed: &[ChangedRange]) -> bool
-    requires fits { start + chunk.now.value.reach < 2 ^ 32 }
+fn is_affected<T: RangeValue>(start: u32, placed: &Placed<T>, changed: &[ChangedRange]) -> bool
+    requires fits { start + (content placed.now).reach < 2 ^ 32 }
     requires order { BeginAfter 0 changed.now }
     requires first { EndsAtOrAfter start changed.now }
-    ensures { result ≡ (chunk.now.value.is_turned || list_any (meets start (start + chunk.now.value.reach)) changed.now) }
+    ensures { result ≡ ((content placed.now).is_turned || list_any (meets start (start + (content placed.now).reach)) changed.now) }
 {
-    chunk.is_turned || first_meets(changed, start, start + chunk.reach)
+    placed.chunk.is_turned || first_meets(changed, start, start + placed.reach())
 }
 
 /// How many chunks the next group has, if the first of some replaced ranges meets it. No contract speaks of this: it only says how
@@ -175,7 +180,7 @@ fn is_met(start: u32, reach: u32, changed: &ChangedRange) -> bool {
 }
 
 /// How many ranges are likely to come to a run after those of a chunk, where it has no room yet: those of the chunks after it that the
-/// first of some replaced ranges meets. No contract speaks of this: it only says how much room to make, once for all of them.
+/// first of some replaced ranges meets, up to a long range, which may end the run. No contract speaks of this: it only says how much room to make, once for all of them.
 fn ranges_after<T>(
     run: &Vec<Ranged<T>>,
     base: u32,
@@ -189,8 +194,8 @@ fn ranges_after<T>(
     }
 }
 
-/// How many ranges the first of some chunks have, those that the first of some replaced ranges meets. No contract speaks of this: it only
-/// says how much room to make.
+/// How many ranges the first of some chunks have: those that the first of some replaced ranges meets, up to a long range. No contract
+/// speaks of this: it only says how much room to make.
 fn ranges_met<T>(base: u32, chunks: &[Placed<T>], changed: &[ChangedRange]) -> usize {
     let Some(first) = changed.first() else {
         return 0;
@@ -198,7 +203,7 @@ fn ranges_met<T>(base: u32, chunks: &[Placed<T>], changed: &[ChangedRange]) -> u
     let mut len: usize = 0;
     for placed in chunks {
         let start = placed.start.saturating_add(base);
-        if !is_met(start, placed.chunk.reach, first) {
+        if placed.grown > MAX_SHARED_LEN || !is_met(start, placed.chunk.reach, first) {
             return len;
         }
         len = len.saturating_add(placed.chunk.ranges.len());
@@ -211,7 +216,7 @@ fn ranges_met<T>(base: u32, chunks: &[Placed<T>], changed: &[ChangedRange]) -> u
 #[inline(never)]
 fn map_each<'a, T: RangeValue, L: Ledger>(
     start: u32,
-    chunk: &Rc<Chunk<T>>,
+    placed: &Placed<T>,
     changed: &'a [ChangedRange],
     walk: &mut ClearWalk<'a>,
     index: &PositionIndex,
@@ -224,25 +229,25 @@ fn map_each<'a, T: RangeValue, L: Ledger>(
     requires order { BeginAfter 0 changed.now }
     requires same { (a b : ℕ) → start ≤ a → list_any (meets a b) changed.now ≡ list_any (meets a b) (replaced walk.old.walker.desc) }
     requires room { new_size counted walk.old.walker.desc < 2 ^ 32 }
-    requires chunk { IsChunk T.rules start chunk.now.value }
-    requires inside { EndWithin (old_size walk.old.walker.desc) (map (shift start) chunk.now.value.ranges.items) }
-    requires ascending { Ascend walk.old.walker.reached (map (shift start) chunk.now.value.ranges.items) }
-    ensures run { IfOk result (λ _. run.new.items ≡ run.old.items ++ filter_map (moved T.rules walk.old.walker.desc) (map (shift start) chunk.now.value.ranges.items)) }
+    requires chunk { IsChunk T.rules start (content placed.now) }
+    requires inside { EndWithin (old_size walk.old.walker.desc) (map (shift start) (content placed.now).ranges) }
+    requires ascending { Ascend walk.old.walker.reached (map (shift start) (content placed.now).ranges) }
+    ensures run { IfOk result (λ _. run.new.items ≡ run.old.items ++ filter_map (moved T.rules walk.old.walker.desc) (map (shift start) (content placed.now).ranges)) }
     ensures clear { IfOk result (λ _. IsClearWalk walk.new) }
     ensures desc { IfOk result (λ _. walk.new.walker.desc ≡ walk.old.walker.desc) }
-    ensures walk { IfOk result (λ _. (later : _) → Ascend walk.old.walker.reached (map (shift start) chunk.now.value.ranges.items ++ later) → Ascend walk.new.walker.reached later) }
-    ensures cost { mapped.new ≤ mapped.old + length chunk.now.value.ranges.items }
+    ensures walk { IfOk result (λ _. (later : _) → Ascend walk.old.walker.reached (map (shift start) (content placed.now).ranges ++ later) → Ascend walk.new.walker.reached later) }
+    ensures cost { mapped.new ≤ mapped.old + length (content placed.now).ranges }
 {
     let alloc = *run.allocator();
-    let len = chunk.ranges.len();
+    let len = placed.chunk.ranges.len();
     reserve(run, len, len.saturating_add(more))?;
     let mut left = changed;
-    let mut rest = chunk.ranges.as_slice();
+    let mut rest = placed.chunk.ranges.as_slice();
     while let Some((first, others)) = rest.split_first() {
         mapped.tick();
         let range = RangeRef {
             from: first.from + start,
-            to: first.to + start,
+            to: first.to + placed.grown + start,
             value: &first.value,
         };
         left = ranges_from(left, range.from);
@@ -250,17 +255,19 @@ fn map_each<'a, T: RangeValue, L: Ledger>(
             Some(moved) => run.push(moved)?,
             None => {}
         }
-        rest = move_clear(alloc, start, others, walk, run, mapped)?;
+        rest = move_clear(alloc, start, placed.grown, others, walk, run, mapped)?;
     }
     Ok(())
 }
 
-/// Puts the first of some ranges, which count from the place `start`, after a run of others, each moved as far as the last clear place of
-/// a walk, and gives those that are left: from the first on that begins before that place, or ends at or after the start of the next
-/// replaced range, or is empty with an end side less than its start side. No contract says how many are moved. `Err`: out of memory.
+/// Puts the first of some ranges, which count from the place `start` and end later by `grown`, after a run of others, each moved as far
+/// as the last clear place of a walk, and gives those that are left: from the first on that begins before that place, or ends at or
+/// after the start of the next replaced range, or is empty with an end side less than its start side. No contract says how many are
+/// moved. `Err`: out of memory.
 fn move_clear<'b, T: RangeValue, L: Ledger>(
     alloc: Global,
     start: u32,
+    grown: u32,
     ranges: &'b [Ranged<T>],
     walk: &ClearWalk<'_>,
     run: &mut Vec<Ranged<T>>,
@@ -268,8 +275,8 @@ fn move_clear<'b, T: RangeValue, L: Ledger>(
 ) -> Result<&'b [Ranged<T>], AllocError>
     requires walk { IsClearWalk walk.now }
     requires room { new_size counted walk.now.walker.desc < 2 ^ 32 }
-    requires within { AreWithin (old_size walk.now.walker.desc) start ranges.now }
-    ensures moved { IfOk result (λ rest. AreMoved T.rules walk.now.walker.desc start ranges.now rest.now run.old.items run.new.items mapped.old mapped.new) }
+    requires within { AreWithin (old_size walk.now.walker.desc) start (map (grow grown) ranges.now) }
+    ensures moved { IfOk result (λ rest. AreMoved T.rules walk.now.walker.desc start (map (grow grown) ranges.now) (map (grow grown) rest.now) run.old.items run.new.items mapped.old mapped.new) }
     ensures cost { mapped.new ≤ mapped.old + length ranges.now }
 {
     let Some(last) = &walk.last else {
@@ -277,16 +284,19 @@ fn move_clear<'b, T: RangeValue, L: Ledger>(
     };
     let mut rest = ranges;
     while let Some((range, others)) = rest.split_first() {
-        let from = range.from + start;
-        let to = range.to + start;
-        if range.is_turned() || !last.carries(from, to) {
+        let seen = RangeRef {
+            from: range.from + start,
+            to: range.to + grown + start,
+            value: &range.value,
+        };
+        if seen.is_turned() || !last.carries(seen.from, seen.to) {
             return Ok(rest);
         }
         mapped.tick();
         let value = range.value.try_copy(alloc)?;
         run.push(Ranged {
-            from: last.carry(from),
-            to: last.carry(to),
+            from: last.carry(seen.from),
+            to: last.carry(seen.to),
             value,
         })?;
         rest = others;

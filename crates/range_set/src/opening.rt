@@ -77,10 +77,7 @@ pub(crate) fn share_each<T: RangeValue>(
     ensures ranges { IfOk result (λ _. flat made.new.items ≡ flat made.old.items ++ map (shift base) (flat chunks.now)) }
 {
     for placed in chunks {
-        made.push(Placed {
-            start: base + placed.start,
-            chunk: placed.chunk.clone()?,
-        })?;
+        made.push(placed.at(base + placed.start)?)?;
     }
     Ok(())
 }

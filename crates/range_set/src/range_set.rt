@@ -216,8 +216,9 @@ impl<T: RangeValue> RangeSet<T> {
     /// What `map` gives. A chunk whose hull meets no Replace, and in which no empty range has an end side less than its start
     /// side, is only moved, and shared; so is a group for which this holds, as a whole, unless it and the chunks of opened groups
     /// before it fill at most three quarters of one. Pages of such groups are shared as pages, unless a page becomes one with groups
-    /// before it. Each range of the other chunks raises `mapped` by one; the values of these alone are copied.
-    /// `Err`: out of memory.
+    /// before it. Each range of the other chunks raises `mapped` by one, and its
+    /// value is copied, unless it is the only one of its chunk, no Replace meets its start, and it is longer than 256 characters after
+    /// the changes: then its chunk is shared. `Err`: out of memory.
     pub fn map_steps<L: Ledger>(
         &self,
         changes: &Desc,
@@ -335,7 +336,7 @@ fn last_in<T: RangeValue>(chunks: &[Placed<T>], base: u32) -> Option<RangeRef<'_
     let start = base + placed.start;
     Some(RangeRef {
         from: range.from + start,
-        to: range.to + start,
+        to: range.to + placed.grown + start,
         value: &range.value,
     })
 }

@@ -1,6 +1,6 @@
 ghost use Rattle.std.specs.Prelude.{[], false, ◌++◌, ◌+◌, ◌<◌, ◌^◌, ◌↔◌, ◌≡◌, IsTrue, length, map};
 ghost use Rattle.std.specs.Iterator.{YieldsFirstBy};
-ghost use Rattle.range_set.specs.PrivateChunks.{Fit, TakesSame, shift};
+ghost use Rattle.range_set.specs.PrivateChunks.{Fit, TakesSame, grow, shift};
 ghost use Rattle.range_set.specs.Seen.{seen};
 
 use crate::range_ref::RangeRef;
@@ -8,23 +8,25 @@ use crate::range_value::RangeValue;
 use crate::ranged::Ranged;
 use std::marker::Model;
 
-/// Ranges that stand next to each other in a chunk at the place `start`. Contracts see those that are left.
+/// Ranges that stand next to each other in a chunk at the place `start`, each of which ends later than the chunk says, by `grown`.
+/// Contracts see those that are left.
 #[derive(Drop)]
 pub(crate) struct Run<'a, T: RangeValue> {
     start: u32,
+    grown: u32,
     ranges: &'a [Ranged<T>],
 }
 
 impl<'a, T: RangeValue> Model for Run<'a, T> {
     ghost use Rattle.std.specs.Prelude.{List, map};
     ghost use Rattle.range_set.specs.declared.ranged.Ranged.{Ranged};
-    ghost use Rattle.range_set.specs.PrivateChunks.{Fit, shift};
+    ghost use Rattle.range_set.specs.PrivateChunks.{Fit, grow, shift};
 
     ghost Value = { List (Ranged T) };
 
-    ghost view = { λ r. map (shift r.start) r.ranges.now };
+    ghost view = { λ r. map (shift r.start) (map (grow r.grown) r.ranges.now) };
 
-    ghost invariant = { λ r. Fit (map (shift r.start) r.ranges.now) };
+    ghost invariant = { λ r. Fit (map (shift r.start) (map (grow r.grown) r.ranges.now)) };
 }
 
 impl<'a, T: RangeValue> Run<'a, T> {
@@ -34,16 +36,21 @@ impl<'a, T: RangeValue> Run<'a, T> {
     {
         Run {
             start: 0,
+            grown: 0,
             ranges: &[],
         }
     }
 
-    /// These ranges, which count from the place `start`.
-    pub(crate) fn over(start: u32, ranges: &'a [Ranged<T>]) -> Run<'a, T>
-        requires { Fit (map (shift start) ranges.now) }
-        ensures { result ≡ map (shift start) ranges.now }
+    /// These ranges, which count from the place `start`, each of which ends later by `grown`.
+    pub(crate) fn over(start: u32, grown: u32, ranges: &'a [Ranged<T>]) -> Run<'a, T>
+        requires { Fit (map (shift start) (map (grow grown) ranges.now)) }
+        ensures { result ≡ map (shift start) (map (grow grown) ranges.now) }
     {
-        Run { start, ranges }
+        Run {
+            start,
+            grown,
+            ranges,
+        }
     }
 
     /// Whether no range is left.
@@ -61,7 +68,7 @@ impl<'a, T: RangeValue> Run<'a, T> {
         self.ranges = rest;
         Some(RangeRef {
             from: self.start + first.from,
-            to: self.start + first.to,
+            to: self.start + (first.to + self.grown),
             value: &first.value,
         })
     }
@@ -74,7 +81,14 @@ impl<'a, T: RangeValue> Run<'a, T> {
         let count = self.ranges.len().min(other.ranges.len());
         let (left, left_rest) = self.ranges.split_at(count);
         let (right, right_rest) = other.ranges.split_at(count);
-        if !same_at(self.start, left, other.start, right) {
+        if !same_at(
+            self.start,
+            self.grown,
+            left,
+            other.start,
+            other.grown,
+            right,
+        ) {
             return false;
         }
         self.ranges = left_rest;
@@ -84,20 +98,22 @@ impl<'a, T: RangeValue> Run<'a, T> {
 }
 
 /// Whether as many ranges are equal at their places: those of `left` count from the place `left_start`, those of `right` from
-/// `right_start`.
+/// `right_start`, and each ends later by `left_grown` or `right_grown`.
 fn same_at<T: RangeValue>(
     left_start: u32,
+    left_grown: u32,
     left: &[Ranged<T>],
     right_start: u32,
+    right_grown: u32,
     right: &[Ranged<T>],
 ) -> bool
-    requires left_fits { Fit (map (shift left_start) left.now) }
-    requires right_fits { Fit (map (shift right_start) right.now) }
+    requires left_fits { Fit (map (shift left_start) (map (grow left_grown) left.now)) }
+    requires right_fits { Fit (map (shift right_start) (map (grow right_grown) right.now)) }
     requires as_many { length left.now ≡ length right.now }
-    ensures { IsTrue result ↔ (map (shift left_start) left.now ≡ map (shift right_start) right.now) }
+    ensures { IsTrue result ↔ (map (shift left_start) (map (grow left_grown) left.now) ≡ map (shift right_start) (map (grow right_grown) right.now)) }
 {
     for (a, b) in left.iter().zip(right) {
-        if !is_same(left_start, a, right_start, b) {
+        if !is_same(left_start, left_grown, a, right_start, right_grown, b) {
             return false;
         }
     }
@@ -107,17 +123,19 @@ fn same_at<T: RangeValue>(
 /// Whether two ranges are equal at their places.
 fn is_same<T: RangeValue>(
     left_start: u32,
+    left_grown: u32,
     left: &Ranged<T>,
     right_start: u32,
+    right_grown: u32,
     right: &Ranged<T>,
 ) -> bool
     requires left_from { left.now.from + left_start < 2 ^ 32 }
-    requires left_to { left.now.to + left_start < 2 ^ 32 }
+    requires left_to { left.now.to + left_grown + left_start < 2 ^ 32 }
     requires right_from { right.now.from + right_start < 2 ^ 32 }
-    requires right_to { right.now.to + right_start < 2 ^ 32 }
-    ensures { IsTrue result ↔ (shift left_start left.now ≡ shift right_start right.now) }
+    requires right_to { right.now.to + right_grown + right_start < 2 ^ 32 }
+    ensures { IsTrue result ↔ (shift left_start (grow left_grown left.now) ≡ shift right_start (grow right_grown right.now)) }
 {
     left.from + left_start == right.from + right_start
-        && left.to + left_start == right.to + right_start
+        && left.to + left_grown + left_start == right.to + right_grown + right_start
         && left.value.same(&right.value)
 }

@@ -1,10 +1,10 @@
 ghost use Rattle.std.specs.Prelude.{IfOk, IsTrue, None, true, filter, length, map, ◌++◌, ◌+◌, ◌-◌, ◌<◌, ◌≤◌, ◌^◌, ◌≡◌};
 ghost use Rattle.range_set.specs.Order.{before, first_fault};
-ghost use Rattle.range_set.specs.PrivateChunks.{AreChunks, AreGroups, AreGroupsOf, Ascend, IsChunk, flat, shift, spread};
+ghost use Rattle.range_set.specs.PrivateChunks.{AreChunks, AreGroups, AreGroupsOf, Ascend, IsChunk, content, flat, shift, spread};
 ghost use Rattle.range_set.specs.PrivateUpdates.{BeginPast, BeginUnder, IsBeyond, KeepsPart, TakesBefore};
 ghost use Rattle.range_set.specs.Updating.{AnswersAs, updated};
 
-use crate::chunk::{FEW_RANGES, MAX_RANGES, Placed, stands_alone};
+use crate::chunk::{FEW_RANGES, MAX_RANGES, MAX_SHARED_LEN, Placed};
 use crate::chunk_builder::ChunkBuilder;
 use crate::group_builder::GroupBuilder;
 use crate::group_cursor::GroupCursor;
@@ -128,7 +128,7 @@ pub(crate) fn updated_chunks<T: RangeValue, F: Fn(&RangeRef<'_, T>) -> bool>(
         take_before(placed, &mut added, &mut run)?;
         if is_apart(placed, &run, &added, next) && stays_whole(placed, keep) {
             put_sorted(&mut run, &mut builder)?;
-            builder.share(placed.start, &placed.chunk)?;
+            builder.share(placed.start, placed)?;
         } else {
             keep_each(alloc, placed, keep, &mut run)?;
         }
@@ -156,8 +156,8 @@ fn take_before<T: RangeValue>(
     added: &mut VecDeque<Ranged<T>>,
     run: &mut Vec<Ranged<T>>,
 ) -> Result<(), AllocError>
-    requires { IsChunk T.rules placed.now.start placed.now.chunk.value }
-    ensures { IfOk result (λ _. TakesBefore T.rules (map (shift placed.now.start) placed.now.chunk.value.ranges.items) run.old.items added.old.items run.new.items added.new.items) }
+    requires { IsChunk T.rules placed.now.start (content placed.now) }
+    ensures { IfOk result (λ _. TakesBefore T.rules (map (shift placed.now.start) (content placed.now).ranges) run.old.items added.old.items run.new.items added.new.items) }
 {
     let Some(first) = placed.chunk.ranges.first() else {
         return Ok(());
@@ -181,8 +181,8 @@ fn is_apart<T: RangeValue>(
     added: &VecDeque<Ranged<T>>,
     next: Option<&Placed<T>>,
 ) -> bool
-    requires { IsChunk T.rules placed.now.start placed.now.chunk.value }
-    ensures { IsTrue result → IsBeyond T.rules (map (shift placed.now.start) placed.now.chunk.value.ranges.items) added.now.items }
+    requires { IsChunk T.rules placed.now.start (content placed.now) }
+    ensures { IsTrue result → IsBeyond T.rules (map (shift placed.now.start) (content placed.now).ranges) added.now.items }
 {
     is_beyond(placed, added) && !is_joined(placed, run, added, next)
 }
@@ -197,23 +197,29 @@ fn is_joined<T: RangeValue>(
 ) -> bool {
     let is_open = !run.is_empty() && run.len() < MAX_RANGES;
     placed.chunk.ranges.len() <= FEW_RANGES
-        && !stands_alone(placed.chunk.ranges.as_slice())
+        && placed.grown <= MAX_SHARED_LEN
         && (is_open || is_within_next(added, next))
 }
 
 /// Whether there is an added range, and it begins by the end of the next chunk or there is none.
 fn is_within_next<T: RangeValue>(added: &VecDeque<Ranged<T>>, next: Option<&Placed<T>>) -> bool {
     match (added.front(), next) {
-        (Some(range), Some(next)) => range.from.saturating_sub(next.start) <= next.chunk.reach,
+        (Some(range), Some(next)) => is_within(range.from, next),
         (Some(_), None) => true,
         (None, _) => false,
     }
 }
 
+/// Whether a place lies before the end of the hull of a chunk, or there. No contract speaks of this: it only decides which chunks are
+/// shared.
+fn is_within<T>(place: u32, placed: &Placed<T>) -> bool {
+    place.saturating_sub(placed.start) <= placed.chunk.reach.saturating_add(placed.grown)
+}
+
 /// Whether no added range belongs before the last of a chunk.
 fn is_beyond<T: RangeValue>(placed: &Placed<T>, added: &VecDeque<Ranged<T>>) -> bool
-    requires { IsChunk T.rules placed.now.start placed.now.chunk.value }
-    ensures { IsTrue result → IsBeyond T.rules (map (shift placed.now.start) placed.now.chunk.value.ranges.items) added.now.items }
+    requires { IsChunk T.rules placed.now.start (content placed.now) }
+    ensures { IsTrue result → IsBeyond T.rules (map (shift placed.now.start) (content placed.now).ranges) added.now.items }
 {
     match (added.front(), placed.chunk.ranges.last()) {
         (Some(next), Some(last)) => !is_before(next, placed.start, last),
@@ -224,13 +230,13 @@ fn is_beyond<T: RangeValue>(placed: &Placed<T>, added: &VecDeque<Ranged<T>>) -> 
 /// Whether a chunk stays whole: a test allows each of its ranges.
 fn stays_whole<T: RangeValue, F: Fn(&RangeRef<'_, T>) -> bool>(placed: &Placed<T>, keep: &F) -> bool
     requires callable { F.IsAlwaysCallable keep.now }
-    requires chunk { IsChunk T.rules placed.now.start placed.now.chunk.value }
-    ensures { (p : _) → AnswersAs F.Fn keep.now p → IsTrue result → filter p (map (shift placed.now.start) placed.now.chunk.value.ranges.items) ≡ map (shift placed.now.start) placed.now.chunk.value.ranges.items }
+    requires chunk { IsChunk T.rules placed.now.start (content placed.now) }
+    ensures { (p : _) → AnswersAs F.Fn keep.now p → IsTrue result → filter p (map (shift placed.now.start) (content placed.now).ranges) ≡ map (shift placed.now.start) (content placed.now).ranges }
 {
     for range in &placed.chunk.ranges {
         let range = RangeRef {
             from: range.from + placed.start,
-            to: range.to + placed.start,
+            to: range.to + placed.grown + placed.start,
             value: &range.value,
         };
         if !keep(&range) {
@@ -248,16 +254,16 @@ fn keep_each<T: RangeValue, F: Fn(&RangeRef<'_, T>) -> bool>(
     run: &mut Vec<Ranged<T>>,
 ) -> Result<(), AllocError>
     requires callable { F.IsAlwaysCallable keep.now }
-    requires chunk { IsChunk T.rules placed.now.start placed.now.chunk.value }
-    ensures kept { IfOk result (λ _. (p : _) → AnswersAs F.Fn keep.now p → run.new.items ≡ run.old.items ++ filter p (map (shift placed.now.start) placed.now.chunk.value.ranges.items)) }
-    ensures part { IfOk result (λ _. KeepsPart (map (shift placed.now.start) placed.now.chunk.value.ranges.items) run.old.items run.new.items) }
+    requires chunk { IsChunk T.rules placed.now.start (content placed.now) }
+    ensures kept { IfOk result (λ _. (p : _) → AnswersAs F.Fn keep.now p → run.new.items ≡ run.old.items ++ filter p (map (shift placed.now.start) (content placed.now).ranges)) }
+    ensures part { IfOk result (λ _. KeepsPart (map (shift placed.now.start) (content placed.now).ranges) run.old.items run.new.items) }
 {
     // Mostly one range is added, and belongs among these or after them.
     reserve(run, placed.chunk.ranges.len().saturating_add(1), 0)?;
     for range in &placed.chunk.ranges {
         let range = RangeRef {
             from: range.from + placed.start,
-            to: range.to + placed.start,
+            to: range.to + placed.grown + placed.start,
             value: &range.value,
         };
         if keep(&range) {

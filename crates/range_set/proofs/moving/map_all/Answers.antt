@@ -1,6 +1,6 @@
 mod Inner
-use Rattle.std.proofs.Common.{List, [], ◌∷◌, ◌≡◌, ℕ, cond, ◌+◌, ◌++◌, map, filter_map, length, true, ap, refl, subst, sym, ◌∙◌, arith, append_assoc}
-use Rattle.std.proofs.lemmas.List.{append-nil, length-append, length-map}
+use Rattle.std.proofs.Common.{List, [], ◌∷◌, ◌≡◌, ℕ, ◌+◌, ◌++◌, map, length, true, ap, refl, subst, sym, ◌∙◌, arith}
+use Rattle.std.proofs.lemmas.List.{append-nil, length-append}
 use Rattle.std.proofs.lemmas.Result.{IfOk-weaker}
 use Rattle.std.specs.Prelude.{unwrap_or}
 use Rattle.std.specs.List.{list_any}
@@ -14,19 +14,18 @@ use Rattle.change_desc.proofs.RangesMet.{replaced-begin}
 use Rattle.stable_order.specs.StableSort.{stable_sort}
 use Rattle.range_set.specs.Order.{before}
 use Rattle.range_set.specs.Mapping.{map_ranges, moved}
-use Rattle.range_set.specs.PrivateChunks.{FitCarried, FitCarriedChunks, AreGroups, Ascend, carry, carry_chunk, flat, move, shift, spread}
+use Rattle.range_set.specs.PrivateChunks.{FitCarried, AreGroups, Ascend, carry, flat, move, shift, spread}
 use Rattle.range_set.specs.PrivateBuilders.{built, grouped, put_down}
 use Rattle.range_set.specs.declared.group.Group.{Group}
 use Rattle.range_set.specs.declared.group.PlacedGroup.{PlacedGroup}
-use Rattle.range_set.proofs.Chunks.{ascend-prefix, flat-append}
 use Rattle.range_set.proofs.Clear.{IsClear, Sections, clear_place, map_pos-clear}
 use Rattle.range_set.proofs.Cost.{allowance, allowed}
-use Rattle.range_set.proofs.Each.{Within, end_within, within}
-use Rattle.range_set.proofs.Groups.{are_spread, chunk_placed, group_placed, groups_right}
+use Rattle.range_set.proofs.Each.{within}
+use Rattle.range_set.proofs.Groups.{are_spread, group_placed, groups_right}
 use Rattle.range_set.proofs.RangeOrder.{rises-no_fault}
 use Rattle.range_set.proofs.Under.{IsUnder, rises_ascend, under_end, under_end_order}
-use Rattle.range_set.proofs.Walked.{IsWalked, affected_same, clear_chunk, run_forward, walked_clear, walked_each, walked_init, walked_less, within_prefix}
-use Rattle.range_set.proofs.WalkedGroups.{allowance_group, allowance_less, allowance_passed, are_before, carried_fit, chunks_fit, clear_group, starts_at, still_fit, walked_carried, walked_chunks, walked_group, walked_open, walked_still}
+use Rattle.range_set.proofs.Walked.{IsWalked, run_forward, walked_init, walked_less}
+use Rattle.range_set.proofs.WalkedGroups.{allowance_group, allowance_passed, carried_fit, clear_group, starts_at, still_fit, walked_carried, walked_group, walked_open, walked_still}
 use Rattle.range_set.proofs.moving.map_all.Goals as goal
 use Rattle.range_set.proofs.moving.map_all.Answers.Inner as inner
 
@@ -434,6 +433,24 @@ returns-clause-cost g c =
     omega (arith, top, spent)
 
 -- those of the loop over the chunks of a group
+pub moved_alone-requires-clause-inside : goal.moved_alone-requires-clause-inside
+moved_alone-requires-clause-inside g c = inner.moved_alone-requires-clause-inside g c
+
+pub returns-in_err-alone-clause-cost : goal.returns-in_err-alone-clause-cost
+returns-in_err-alone-clause-cost g c = inner.returns-in_err-alone-clause-cost g c
+
+pub put_chunk-requires-clause-order : goal.put_chunk-requires-clause-order
+put_chunk-requires-clause-order g c = inner.put_chunk-requires-clause-order g c
+
+pub put_chunk-requires-clause-forward : goal.put_chunk-requires-clause-forward
+put_chunk-requires-clause-forward g c = inner.put_chunk-requires-clause-forward g c
+
+pub returns-in_err-put_chunk-clause-cost : goal.returns-in_err-put_chunk-clause-cost
+returns-in_err-put_chunk-clause-cost g c = inner.returns-in_err-put_chunk-clause-cost g c
+
+pub loop-inner-preserved-in-Continue-branch-6 : goal.loop-inner-preserved-in-Continue-branch-6
+loop-inner-preserved-in-Continue-branch-6 g c = inner.loop-inner-preserved-in-Continue-branch-6 g c
+
 pub map_each-requires-clause-inside : goal.map_each-requires-clause-inside
 map_each-requires-clause-inside g c = inner.map_each-requires-clause-inside g c
 
@@ -473,8 +490,8 @@ returns-in_err-share_chunk-clause-cost g c = inner.returns-in_err-share_chunk-cl
 pub loop-inner-preserved : goal.loop-inner-preserved
 loop-inner-preserved g c = inner.loop-inner-preserved g c
 
-pub loop-inner-preserved-in-Continue-branch-4 : goal.loop-inner-preserved-in-Continue-branch-4
-loop-inner-preserved-in-Continue-branch-4 g c = inner.loop-inner-preserved-in-Continue-branch-4 g c
+pub loop-inner-preserved-in-Continue-branch-7 : goal.loop-inner-preserved-in-Continue-branch-7
+loop-inner-preserved-in-Continue-branch-7 g c = inner.loop-inner-preserved-in-Continue-branch-7 g c
 
 pub loop-inner-smaller : goal.loop-inner-smaller
 loop-inner-smaller g c = inner.loop-inner-smaller g c

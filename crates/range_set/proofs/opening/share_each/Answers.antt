@@ -1,7 +1,6 @@
 use Rattle.std.proofs.Common.{◌++◌, ◌+◌, ◌≤◌, length, map, take, ap, subst, sym, ◌∙◌, arith, append_assoc}
 use Rattle.std.proofs.lemmas.List.{take_all}
-use Rattle.range_set.specs.PrivateChunks.{IsChunk, flat, shift}
-use Rattle.range_set.specs.declared.chunk.Chunk.{Chunk}
+use Rattle.range_set.specs.PrivateChunks.{Content, IsChunk, content, flat, shift}
 use Rattle.range_set.proofs.Chunks.{AreChunks-push, flat-push}
 use Rattle.range_set.proofs.Groups.{moved_chunk, open_more}
 use Rattle.range_set.proofs.opening.share_each.Goals as goal
@@ -22,16 +21,20 @@ loop-placed-preserved g c =
     let made = c.loop-placed.made.items in
     let old = flat c.args.made.now.items in
     let here = moved_chunk rules base ps i p c.loop-placed-test.true c.placed-item.is c.requires.chunks in
-    let value = c.in_ok-clone.ensures.cases in
+    let one = c.in_ok-at.field-0 in
+    let place = c.in_ok-at.ensures.place in
+    let value = c.in_ok-at.ensures.content in
     record {
-      chunks = rw c.in_ok-push.ensures.items (AreChunks-push rules made _ c.loop-placed.invariant.chunks
-          (subst (IsChunk rules (base + p.start)) (sym value) here.0) (subst (λ (ch : Chunk g.row.T.Denot). 1 ≤ length ch.ranges.items) (sym value) here.1));
+      chunks = rw c.in_ok-push.ensures.items (AreChunks-push rules made one c.loop-placed.invariant.chunks
+          (subst (λ n. IsChunk rules n (content one)) (sym place) (subst (IsChunk rules (base + p.start)) (sym value) here.0))
+          (subst (λ (x : Content g.row.T.Denot). 1 ≤ length x.ranges) (sym value) here.1));
       ranges = ap flat c.in_ok-push.ensures.items
-          ∙ (flat-push made _
-          ∙ (ap (λ (ch : Chunk g.row.T.Denot). flat made ++ map (shift (base + p.start)) ch.ranges.items) value
-          ∙ (ap (λ rs. rs ++ map (shift (base + p.start)) p.chunk.value.ranges.items) c.loop-placed.invariant.ranges
-          ∙ (append_assoc old (map (shift base) (flat (take i ps))) (map (shift (base + p.start)) p.chunk.value.ranges.items)
-          ∙ ap (λ rs. old ++ rs) (sym (open_more rules base ps i p c.loop-placed-test.true c.placed-item.is))))));
+          ∙ (flat-push made one
+          ∙ (ap (λ n. flat made ++ map (shift n) (content one).ranges) place
+          ∙ (ap (λ (x : Content g.row.T.Denot). flat made ++ map (shift (base + p.start)) x.ranges) value
+          ∙ (ap (λ rs. rs ++ map (shift (base + p.start)) (content p).ranges) c.loop-placed.invariant.ranges
+          ∙ (append_assoc old (map (shift base) (flat (take i ps))) (map (shift (base + p.start)) (content p).ranges)
+          ∙ ap (λ rs. old ++ rs) (sym (open_more rules base ps i p c.loop-placed-test.true c.placed-item.is)))))));
     }
 
 pub returns-clause-ranges : goal.returns-clause-ranges

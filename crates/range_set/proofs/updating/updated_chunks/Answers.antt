@@ -3,7 +3,7 @@ use Rattle.std.proofs.lemmas.List.{length-append}
 use Rattle.stable_order.specs.StableSort.{stable_sort}
 use Rattle.stable_order.proofs.StableSort.{length-stable_sort}
 use Rattle.range_set.specs.Order.{AllForward, before, first_fault}
-use Rattle.range_set.specs.PrivateChunks.{Ascend, flat, shift}
+use Rattle.range_set.specs.PrivateChunks.{Ascend, content, flat, shift}
 use Rattle.range_set.specs.PrivateBuilders.{built}
 use Rattle.range_set.specs.Updating.{AnswersAs, updated}
 use Rattle.range_set.specs.declared.chunk.Placed.{Placed}
@@ -55,7 +55,7 @@ put_sorted-requires-clause-order g c =
     let done = built c.loop-placed.builder in
     let run = c.loop-placed.run.items in
     let added = c.loop-placed.added.items in
-    let chunk = map (shift p.start) p.chunk.value.ranges.items in
+    let chunk = map (shift p.start) (content p).ranges in
     let most = length (flat ps) + length c.args.add.items in
     let new_run = c.take_before.new.run.items in
     let new_added = c.take_before.new.added.items in
@@ -74,7 +74,7 @@ put_sorted-requires-clause-forward g c =
     let done = built c.loop-placed.builder in
     let run = c.loop-placed.run.items in
     let added = c.loop-placed.added.items in
-    let chunk = map (shift p.start) p.chunk.value.ranges.items in
+    let chunk = map (shift p.start) (content p).ranges in
     let most = length (flat ps) + length c.args.add.items in
     let new_run = c.take_before.new.run.items in
     let new_added = c.take_before.new.added.items in
@@ -93,7 +93,7 @@ loop-placed-preserved g c =
     let done = built c.loop-placed.builder in
     let run = c.loop-placed.run.items in
     let added = c.loop-placed.added.items in
-    let chunk = map (shift p.start) p.chunk.value.ranges.items in
+    let chunk = map (shift p.start) (content p).ranges in
     let most = length (flat ps) + length c.args.add.items in
     let new_run = c.take_before.new.run.items in
     let new_added = c.take_before.new.added.items in
@@ -107,7 +107,7 @@ loop-placed-preserved g c =
     elim c.if-is_apart.branch [
       | then-is_apart+then-stays_whole+in_ok-put_sorted+in_ok-share w ↦
           let beyond = c.is_apart.ensures w.if-is_apart.true in
-          let len = length_shifted rules p.start p.chunk.value.ranges.items in
+          let len = length_shifted rules p.start (content p).ranges in
           let many = (chunk-at rules ps i p c.loop-placed-test.true c.placed-item.is c.requires.chunks).1 in
           let more = w.in_ok-share.ensures.ranges ∙ ap (λ xs. xs ++ chunk) w.in_ok-put_sorted.ensures.ranges in
           record {

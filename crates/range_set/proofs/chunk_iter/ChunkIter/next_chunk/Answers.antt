@@ -1,6 +1,5 @@
 use Rattle.std.proofs.Common.{◌≡◌, ◌+◌, ◌++◌, List, map, ap, subst, sym, ◌∙◌}
 use Rattle.range_set.specs.PrivateChunks.{AreChunks, IsNextChunk, move, spread}
-use Rattle.range_set.specs.declared.chunk.Chunk.{Chunk}
 use Rattle.range_set.specs.declared.chunk.Placed.{Placed}
 use Rattle.range_set.specs.declared.group.Group.{Group}
 use Rattle.range_set.proofs.Groups.{left_open, next_chunk}
@@ -13,7 +12,7 @@ loop-next-preserved g c =
     let start = c.in_ok-start-in-None.start in
     let group = c.in_ok-start-in-None.group.now in
     let others = c.in_ok-start-in-None.others in
-    let list : c.as_slice-self-inside.result.now ≡ group.value.chunks.items = c.as_slice-self-inside.ensures.value ∙ ap (λ (x : Group g.row.T.Denot). x.chunks.items) c.deref-in-None.ensures in
+    let list : c.as_slice-self-inside.result.now ≡ group.value.chunks.items = c.as_slice-self-inside.ensures.value ∙ ap (λ (x : Group g.row.T.Denot). x.chunks.items) c.deref.ensures in
     let entered = left_open rules at.base at.chunks.now at.groups start group others c.in-None.ensures.cases c.in_ok-start-in-None.ensures.some in
     record {
       same = ap (λ ps. map (move start) ps ++ spread others) list ∙ (sym entered.0 ∙ c.loop-next.invariant.same);
@@ -28,5 +27,4 @@ returns-in-Some-clause-next g c =
     let others = c.in-Some.others.now in
     let left = map (move at.base) others ++ spread at.groups in
     let first = next_chunk rules at.base at.chunks.now at.groups next others c.in-Some.ensures.cases.0 c.loop-next.invariant.left in
-    subst (λ (ch : Chunk g.row.T.Denot). IsNextChunk c.args.self.now (at.base + next.start) ch left) (sym c.deref.ensures)
-    (subst (λ (ps : List (Placed g.row.T.Denot)). IsNextChunk ps (at.base + next.start) next.chunk.value left) (c.loop-next.invariant.same ∙ c.self.view_is) first)
+    subst (λ (ps : List (Placed g.row.T.Denot)). IsNextChunk ps (at.base + next.start) next left) (c.loop-next.invariant.same ∙ c.self.view_is) first

@@ -1,6 +1,5 @@
 use Rattle.std.proofs.Common.{◌≡◌, ◌++◌, ◌+◌, ◌<◌, List, length, map, ap, subst, sym, ◌∙◌, arith}
 use Rattle.range_set.specs.PrivateChunks.{AreChunks, ArePassed, move, spread}
-use Rattle.range_set.specs.declared.chunk.Chunk.{Chunk}
 use Rattle.range_set.specs.declared.chunk.Placed.{Placed}
 use Rattle.range_set.specs.declared.group.Group.{Group}
 use Rattle.range_set.proofs.Cursor.{open_fewer, pass_fewer}
@@ -20,7 +19,7 @@ loop-first-preserved-in-Some g c =
     let next = left_next rules at.base at.chunks.now at.groups first others c.in-Some.ensures.cases.0 c.loop-first.invariant.left in
     record {
       passed = passed_chunk rules place old (move at.base first) (map (move at.base) others ++ spread at.groups) next.1.0
-          (let e = ap (λ (ch : Chunk g.row.T.Denot). ch.reach) c.deref.ensures in let l = c.if-place-self.false in omega (arith, e, l))
+          (let e = c.reach.ensures in let l = c.if-place-self.false in omega (arith, e, l))
           (subst (ArePassed place old) next.0 c.loop-first.invariant.passed);
       left = next.1.1;
     }
@@ -61,7 +60,7 @@ loop-first-preserved g c =
       | else-place-start w ↦
           rw w.self-inside-is (record {
             passed = subst (ArePassed place old) (sym (left_passed rules at.base at.chunks.now next.others none))
-                (passed_group rules place old past.result next.start next.group.now next.others next.ensures.some (let e = ap (λ (x : Group g.row.T.Denot). x.reach) c.deref-in-Some-split_first.ensures in let l = w.if-place-start.false in omega (arith, e, l)) here);
+                (passed_group rules place old past.result next.start next.group.now next.others next.ensures.some (let e = ap (λ (x : Group g.row.T.Denot). x.reach) c.deref.ensures in let l = w.if-place-start.false in omega (arith, e, l)) here);
             left = c.loop-first.invariant.left;
           })
     ]

@@ -1,9 +1,9 @@
 use Rattle.std.proofs.Common.{◌≡◌, ◌+◌, ◌-◌, ◌≤◌, ◌<◌, ◌||◌, max, List, length, get_or, map, take, drop, ap, sym, subst, ◌∙◌, arith}
-use Rattle.std.proofs.lemmas.List.{length-append, take_all, take_at, take-append-drop}
+use Rattle.std.proofs.lemmas.List.{length-append, length-map, take_all, take_at, take-append-drop}
 use Rattle.std.specs.List.{list_any}
 use Rattle.range_set.specs.Mapping.{is_turned}
 use Rattle.range_set.specs.Points.{stands}
-use Rattle.range_set.specs.PrivateChunks.{flat, greatest_end, move}
+use Rattle.range_set.specs.PrivateChunks.{content, flat, greatest_end, grow, move}
 use Rattle.range_set.specs.declared.chunk.Chunk.{Chunk}
 use Rattle.range_set.proofs.Chunks.{flat-append, or_first, or_second}
 use Rattle.range_set.proofs.Groups.{counted_chunk}
@@ -31,7 +31,9 @@ overflow_add-count g c =
     let x = c.placed-item.result in
     let lt : i < length olds = subst (λ (ps : List _). i < length ps) c.deref_mut-placed-items.ensures.value c.loop-placed-test.true in
     let is = item_at (counted_chunk rules c.args.start) c.loop-placed.placed-items olds i x c.loop-placed.invariant.items lt in
-    let len = c.len-count.ensures ∙ (c.deref.result.now.ranges.ok.0 ∙ (ap (λ (ch : Chunk g.row.T.Denot). length ch.ranges.items) c.deref.ensures ∙ ap (λ p. length p.chunk.value.ranges.items) is)) in
+    let at_item = get_or c.loop-placed.placed-items i x in
+    let len = c.len-count.ensures ∙ (c.deref.result.now.ranges.ok.0 ∙ (ap (λ (ch : Chunk g.row.T.Denot). length ch.ranges.items) c.deref.ensures
+    ∙ (sym (length-map at_item.chunk.value.ranges.items (grow at_item.grown)) ∙ ap (λ p. length (content p).ranges) is))) in
     let more = count_more rules olds i x lt in
     let parts = ap (λ ps. length (flat ps)) (sym (take-append-drop (i + 1) olds)) ∙ (ap length (flat-append (take (i + 1) olds) (drop (i + 1) olds)) ∙ length-append (flat (take (i + 1) olds)) (flat (drop (i + 1) olds))) in
     let room = c.requires.room in
@@ -47,9 +49,20 @@ overflow_add-from g c =
     let lt : i < length olds = subst (λ (ps : List _). i < length ps) c.deref_mut-placed-items.ensures.value c.loop-placed-test.true in
     let is = item_at (counted_chunk rules c.args.start) c.loop-placed.placed-items olds i x c.loop-placed.invariant.items lt in
     let from = ap (λ p. p.start) is in
-    let reach = ap (λ (ch : Chunk g.row.T.Denot). ch.reach) c.deref-in-loop-placed.ensures ∙ ap (λ p. p.chunk.value.reach) is in
+    let reach = c.reach.ensures ∙ ap (λ p. (content p).reach) is in
     let fits = (chunk_item rules olds i x lt c.requires.chunks).0.fits in
     omega (arith, from, reach, fits)
+
+pub reach-requires : goal.reach-requires
+reach-requires g c =
+    let rules = g.T.RangeValue.rules in
+    let olds = c.args.chunks.items in
+    let i = c.loop-placed.placed-index in
+    let x = c.placed-item.result in
+    let lt : i < length olds = subst (λ (ps : List _). i < length ps) c.deref_mut-placed-items.ensures.value c.loop-placed-test.true in
+    let reach = ap (λ p. (content p).reach) (item_at (counted_chunk rules c.args.start) c.loop-placed.placed-items olds i x c.loop-placed.invariant.items lt) in
+    let fits = (chunk_item rules olds i x lt c.requires.chunks).0.fits in
+    omega (arith, reach, fits)
 
 pub loop-placed-preserved : goal.loop-placed-preserved
 loop-placed-preserved g c =
@@ -62,18 +75,20 @@ loop-placed-preserved g c =
     let lt : i < length olds = subst (λ (ps : List _). i < length ps) c.deref_mut-placed-items.ensures.value c.loop-placed-test.true in
     let is = item_at (counted_chunk rules start) c.loop-placed.placed-items olds i x at.items lt in
     let chunk = chunk_item rules olds i x lt c.requires.chunks in
-    let len = c.len-count.ensures ∙ (c.deref.result.now.ranges.ok.0 ∙ (ap (λ (ch : Chunk g.row.T.Denot). length ch.ranges.items) c.deref.ensures ∙ ap (λ p. length p.chunk.value.ranges.items) is)) in
+    let at_item = get_or c.loop-placed.placed-items i x in
+    let len = c.len-count.ensures ∙ (c.deref.result.now.ranges.ok.0 ∙ (ap (λ (ch : Chunk g.row.T.Denot). length ch.ranges.items) c.deref.ensures
+    ∙ (sym (length-map at_item.chunk.value.ranges.items (grow at_item.grown)) ∙ ap (λ p. length (content p).ranges) is))) in
     let more = count_more rules olds i x lt in
     let from = ap (λ p. p.start) is in
-    let reach = ap (λ (ch : Chunk g.row.T.Denot). ch.reach) c.deref-in-loop-placed.ensures ∙ ap (λ p. p.chunk.value.reach) is in
-    let most : c.max-reach.result ≡ max c.loop-placed.reach ((get_or c.loop-placed.placed-items i x).start - start + c.deref-in-loop-placed.result.now.reach) = c.max-reach.ensures in
-    let turned : c.if-is_turned.is_turned ≡ (c.loop-placed.is_turned || (get_or olds i x).chunk.value.is_turned) = elim c.if-is_turned.branch [
+    let reach = c.reach.ensures ∙ ap (λ p. (content p).reach) is in
+    let most : c.max-reach.result ≡ max c.loop-placed.reach ((get_or c.loop-placed.placed-items i x).start - start + c.reach.result) = c.max-reach.ensures in
+    let turned : c.if-is_turned.is_turned ≡ (c.loop-placed.is_turned || (content (get_or olds i x)).is_turned) = elim c.if-is_turned.branch [
       | then-is_turned w ↦ or_first _ _ _ w.is_turned-is w.if-is_turned.true
-      | else-is_turned w ↦ or_second _ _ _ (w.is_turned-is ∙ (ap (λ (ch : Chunk g.row.T.Denot). ch.is_turned) w.deref-else-is_turned.ensures ∙ ap (λ p. p.chunk.value.is_turned) is)) w.if-is_turned.false
+      | else-is_turned w ↦ or_second _ _ _ (w.is_turned-is ∙ (ap (λ (ch : Chunk g.row.T.Denot). ch.is_turned) w.deref-else-is_turned.ensures ∙ ap (λ p. (content p).is_turned) is)) w.if-is_turned.false
     ] in
-    let points : c.if-has_point.has_point ≡ (c.loop-placed.has_point || (get_or olds i x).chunk.value.has_point) = elim c.if-has_point.branch [
+    let points : c.if-has_point.has_point ≡ (c.loop-placed.has_point || (content (get_or olds i x)).has_point) = elim c.if-has_point.branch [
       | then-has_point w ↦ or_first _ _ _ w.has_point-is w.if-has_point.true
-      | else-has_point w ↦ or_second _ _ _ (w.has_point-is ∙ (ap (λ (ch : Chunk g.row.T.Denot). ch.has_point) w.deref-else-has_point.ensures ∙ ap (λ p. p.chunk.value.has_point) is)) w.if-has_point.false
+      | else-has_point w ↦ or_second _ _ _ (w.has_point-is ∙ (ap (λ (ch : Chunk g.row.T.Denot). ch.has_point) w.deref-else-has_point.ensures ∙ ap (λ p. (content p).has_point) is)) w.if-has_point.false
     ] in
     record {
       items = written (counted_chunk rules start) c.loop-placed.placed-items olds i x at.items lt;
@@ -84,8 +99,8 @@ loop-placed-preserved g c =
           let l = placed_at rules start olds i x lt c.requires.chunks c.requires.order in
           let m = chunk.0.fits in
           omega (arith, most, from, reach, k, l, m);
-      turned = turned ∙ (ap (λ b. b || (get_or olds i x).chunk.value.is_turned) at.turned ∙ sym (turned_more rules olds i x lt chunk.0));
-      points = points ∙ (ap (λ b. b || (get_or olds i x).chunk.value.has_point) at.points ∙ sym (points_more rules olds i x lt chunk.0));
+      turned = turned ∙ (ap (λ b. b || (content (get_or olds i x)).is_turned) at.turned ∙ sym (turned_more rules olds i x lt chunk.0));
+      points = points ∙ (ap (λ b. b || (content (get_or olds i x)).has_point) at.points ∙ sym (points_more rules olds i x lt chunk.0));
     }
 
 pub returns-clause-group : goal.returns-clause-group

@@ -2,7 +2,7 @@ use Rattle.std.proofs.Common.{◌≡◌, ◌++◌, map, sym, ap, subst, ◌∙�
 use Rattle.std.proofs.lemmas.Result.{IfOk-weaker}
 use Rattle.stable_order.specs.StableSort.{stable_sort}
 use Rattle.range_set.specs.Order.{before}
-use Rattle.range_set.specs.PrivateChunks.{Ascend, flat, shift}
+use Rattle.range_set.specs.PrivateChunks.{Ascend, content, flat, shift}
 use Rattle.range_set.specs.PrivateBuilders.{built, grouped}
 use Rattle.range_set.proofs.Chunks.{ascend-rest}
 use Rattle.range_set.proofs.mapped_builder.MappedBuilder.share_chunk.Goals as goal
@@ -19,7 +19,7 @@ returns-clause-ranges g c =
     let old = c.args.self.now in
     let done = flat (grouped old.groups) in
     let run = stable_sort (before g.T.RangeValue.rules) old.run.items in
-    let more = map (shift c.args.start) c.args.chunk.now.value.ranges.items in
+    let more = map (shift c.args.start) (content c.args.placed.now).ranges in
     IfOk-weaker c.share.result (λ _. built c.share.new.self ≡ built c.put_sorted.new.builder ++ more) (λ _. done ++ built c.share.new.self ≡ done ++ built old.chunks ++ run ++ more)
     (λ _ e. ap (λ rs. done ++ rs) (e ∙ ap (λ rs. rs ++ more) c.in_ok-put_sorted.ensures.ranges)
     ∙ (sym (append_assoc done (built old.chunks ++ run) more) ∙ ap (λ rs. rs ++ more) (sym (append_assoc done (built old.chunks) run))))
