@@ -22,6 +22,7 @@ pub mod Rounds
 pub mod Sharing
 pub mod Shelving
 pub mod Standing
+pub mod Standings
 pub mod Single
 pub mod Stated
 pub mod Still

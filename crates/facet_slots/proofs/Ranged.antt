@@ -12,7 +12,7 @@ pub shown-in-range : (values : Values) → IsEachInRange values → (vs : List V
 shown-in-range values each [] = tt
 shown-in-range values each (v ∷ vs) = (each v, shown-in-range values each vs)
 
-get-in-range : (xs : List (Option Val)) → AreInRange xs → (i : ℕ) → IfSome (option_flatten (slice_get xs i)) IsInRange
+pub get-in-range : (xs : List (Option Val)) → AreInRange xs → (i : ℕ) → IfSome (option_flatten (slice_get xs i)) IsInRange
 get-in-range [] h i = tt
 get-in-range (x ∷ xs) h zero = h.0
 get-in-range (x ∷ xs) h (suc i) = get-in-range xs h.1 i

@@ -5,6 +5,7 @@ use Rattle.std.proofs.lemmas.Option.{slice_get-map}
 use Rattle.std.proofs.lemmas.List.{drop-set-add, drop-set-lt, length-drop, length-map, length-set, length-take-le, map-set, take-set-le}
 use Rattle.std.proofs.Math.Seq.{take-set-lt}
 use Rattle.values.specs.InRange.{AreInRange, IsInRange}
+use Rattle.facet_slots.specs.declared.place.Place.{Place}
 use Rattle.facet_slots.specs.declared.slot.Slot.{Slot}
 use Rattle.facet_slots.specs.Shelves.{slot_flags, slot_inputs, slot_values, IsShelf}
 
@@ -72,15 +73,17 @@ part_in_range zero slots h = h
 part_in_range (suc n) [] h = tt
 part_in_range (suc n) (x ∷ xs) h = part_in_range n xs h.1
 
-pub first_put : (n : ℕ) (slots : List Slot) (i : ℕ) (s : Slot) → IsShelf n slots → i < n → IfSome s.value IsInRange → IsShelf n (set slots i s)
-first_put n slots i s shelf h k = record {
+pub first_put : (places : List Place) (n : ℕ) (slots : List Slot) (i : ℕ) (s : Slot) → IsShelf places n slots → i < n → IfSome s.value IsInRange → IsShelf places n (set slots i s)
+first_put places n slots i s shelf h k = record {
+  placed = shelf.placed;
   fits = omega (arith, length-set slots i s, shelf.fits);
   facets_in_range = rw (first_set n slots i s h) (set_in_range (take n slots) i s shelf.facets_in_range k);
   fields_in_range = rw (first_kept n slots i s h) shelf.fields_in_range;
 }
 
-pub other_put : (n : ℕ) (slots : List Slot) (i : ℕ) (s : Slot) → IsShelf n slots → IfSome s.value IsInRange → IsShelf n (set slots (n + i) s)
-other_put n slots i s shelf k = record {
+pub other_put : (places : List Place) (n : ℕ) (slots : List Slot) (i : ℕ) (s : Slot) → IsShelf places n slots → IfSome s.value IsInRange → IsShelf places n (set slots (n + i) s)
+other_put places n slots i s shelf k = record {
+  placed = shelf.placed;
   fits = omega (arith, length-set slots (n + i) s, shelf.fits);
   facets_in_range = rw (other_kept n slots i s) shelf.facets_in_range;
   fields_in_range = rw (other_set n slots i s) (set_in_range (drop n slots) i s shelf.fields_in_range k);

@@ -37,16 +37,14 @@ fn nothing_declared(alloc: Global) -> Defs<Val>
 }
 
 /// What is kept of the state of nothing.
-fn nothing_kept(alloc: Global, scene: Scene) -> Kept
-    ensures scene { scene_in result ≡ scene_of scene }
-    ensures facets { result.shelf.facets ≡ [] }
-    ensures fields { result.shelf.fields ≡ [] }
-    ensures inputs { result.shelf.inputs ≡ [] }
+fn nothing_kept(alloc: Global, scene: Scene) -> Result<Kept, AllocError>
+    ensures scene { IfOk result (λ kept. scene_in kept ≡ scene_of scene) }
+    ensures facets { IfOk result (λ kept. kept.shelf.facets ≡ []) }
+    ensures fields { IfOk result (λ kept. kept.shelf.fields ≡ []) }
+    ensures inputs { IfOk result (λ kept. kept.shelf.inputs ≡ []) }
 {
-    Kept {
-        scene,
-        shelf: Shelf::none(alloc),
-    }
+    let shelf = Shelf::none(alloc)?;
+    Ok(Kept { scene, shelf })
 }
 
 /// The configuration of nothing.
@@ -75,7 +73,7 @@ pub fn first_kept<M: Meanings, L: Ledger>(
 {
     let copy = scene_copy(&scene)?;
     let none = nothing_declared(alloc);
-    let old = nothing_kept(alloc, copy);
+    let old = nothing_kept(alloc, copy)?;
     let kept = kept_after(
         alloc,
         kit,

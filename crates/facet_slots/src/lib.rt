@@ -20,6 +20,7 @@ mod kept;
 mod next;
 mod order;
 mod outputs;
+mod place;
 mod scene_flags;
 mod setup;
 mod shelf;

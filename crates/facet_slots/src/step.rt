@@ -155,8 +155,8 @@ fn nothing(flag: bool) -> Slot
     }
 }
 
-/// A facet after a transition, by the definitions that it had and has.
-fn facet_after<M: Meanings, L: Ledger>(
+/// A facet after a transition, by the definitions that it had and has. `Err`: out of memory.
+pub fn step_facet<M: Meanings, L: Ledger>(
     alloc: Global,
     kit: &Kit<M>,
     transition: &Transition,
@@ -185,63 +185,6 @@ fn facet_after<M: Meanings, L: Ledger>(
             None => new_facet(alloc, kit, old, setup, place, facet, draft, calls),
         },
         None => Ok(nothing(false)),
-    }
-}
-
-/// The value of a facet that has no inputs now and had none before. Takes no memory.
-fn value_without_inputs<'a>(old: &'a Kept, setup: &Setup, place: u32) -> Option<&'a SharedVal>
-    ensures value { IfSome result (λ v. values_in old.now (Vertex.Facet place) ≡ Some v.now) }
-    ensures before { IfSome result (λ v. held_inputs old.now.shelf.inputs (Vertex.Facet place) ≡ []) }
-    ensures now { IfSome result (λ v. get_or (setup_of setup.now).config.inputs place [] ≡ []) }
-{
-    if setup.inputs(place).is_empty() && old.shelf.inputs(place).is_empty() {
-        old.shelf.facet(place)
-    } else {
-        None
-    }
-}
-
-/// A facet that keeps its value and has no inputs.
-fn facet_without_inputs(value: &SharedVal) -> Result<Slot, AllocError>
-    ensures value { IfOk result (λ n. n.value ≡ Some value.now) }
-    ensures flag { IfOk result (λ n. n.flag ≡ false) }
-    ensures inputs { IfOk result (λ n. n.inputs ≡ []) }
-{
-    let value = value.share()?;
-    Ok(Slot {
-        inputs: FacetInputs::none(),
-        value: Some(value),
-        flag: false,
-    })
-}
-
-/// A facet after a transition. `Err`: out of memory.
-pub fn step_facet<M: Meanings, L: Ledger>(
-    alloc: Global,
-    kit: &Kit<M>,
-    transition: &Transition,
-    old_setup: &Setup,
-    old: &Kept,
-    setup: &Setup,
-    place: u32,
-    draft: &Draft,
-    calls: &mut Steps<L>,
-) -> Result<Slot, AllocError>
-    requires whole { IsWhole M.rules kit.now }
-    requires old_scene { IsScene (scene_in old.now) }
-    requires scene { IsScene (scene_in draft.now.kept) }
-    requires kept { IsKeptIn M.rules old_setup.now old.now }
-    requires old_lawful { IsLawful M.rules (setup_of old_setup.now) }
-    requires lawful { IsLawful M.rules (setup_of setup.now) }
-    requires follows { Follows (transition_of transition.now) (setup_of old_setup.now) (setup_of setup.now) }
-    ensures next { IfOk result (λ n. IsNext M.rules (transition_of transition.now) (setup_of setup.now) (scene_in draft.now.kept) draft.now.moved (flags_in draft.now.kept) (values_in draft.now.kept) (state_in old_setup.now old.now) (held_inputs old.now.shelf.inputs) (Vertex.Facet place) n.value n.flag n.inputs) }
-    ensures cost { calls.new ≤ calls.old + next_calls M.rules (transition_of transition.now) (setup_of setup.now) (scene_in draft.now.kept) draft.now.moved (flags_in draft.now.kept) (values_in draft.now.kept) (state_in old_setup.now old.now) (held_inputs old.now.shelf.inputs) (Vertex.Facet place) }
-{
-    match value_without_inputs(old, setup, place) {
-        Some(value) => facet_without_inputs(value),
-        None => facet_after(
-            alloc, kit, transition, old_setup, old, setup, place, draft, calls,
-        ),
     }
 }
 

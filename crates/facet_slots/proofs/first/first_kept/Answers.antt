@@ -17,11 +17,11 @@ use Rattle.facet_slots.proofs.first.first_kept.Goals as goal
 
 pub kept_after-requires-clause-old_scene : goal.kept_after-requires-clause-old_scene
 kept_after-requires-clause-old_scene g c =
-    subst IsScene (sym (c.nothing_kept-old.ensures.scene ∙ c.in_ok-copy.ensures)) c.requires.is_scene
+    subst IsScene (sym (c.in_ok-old.ensures.scene ∙ c.in_ok-copy.ensures)) c.requires.is_scene
 
 pub kept_after-requires-clause-scene : goal.kept_after-requires-clause-scene
 kept_after-requires-clause-scene g c =
-    sym (c.nothing_kept-old.ensures.scene ∙ c.in_ok-copy.ensures)
+    sym (c.in_ok-old.ensures.scene ∙ c.in_ok-copy.ensures)
 
 pub kept_after-requires-clause-placed : goal.kept_after-requires-clause-placed
 kept_after-requires-clause-placed g c =
@@ -41,17 +41,17 @@ kept_after-requires-clause-follows g c =
 
 pub kept_after-requires-clause-kept : goal.kept_after-requires-clause-kept
 kept_after-requires-clause-kept g c =
-    rw (c.nothing_kept-old.ensures.facets, c.nothing_kept-old.ensures.fields, c.nothing_kept-old.ensures.inputs)
-    (subst (λ (s : Setup). IsKept g.M.Meanings.rules s (scene_in c.nothing_kept-old.result) [] [] []) (sym (c.nothing.ensures ∙ ap (λ (d : Definitions). record_setup d no_setup.config) c.nothing_declared-none.ensures)) (nothing-kept g.M.Meanings.rules (scene_in c.nothing_kept-old.result)))
+    rw (c.in_ok-old.ensures.facets, c.in_ok-old.ensures.fields, c.in_ok-old.ensures.inputs)
+    (subst (λ (s : Setup). IsKept g.M.Meanings.rules s (scene_in c.in_ok-old.old) [] [] []) (sym (c.nothing.ensures ∙ ap (λ (d : Definitions). record_setup d no_setup.config) c.nothing_declared-none.ensures)) (nothing-kept g.M.Meanings.rules (scene_in c.in_ok-old.old)))
 
 pub returns-clause-values : goal.returns-clause-values
 returns-clause-values g c =
-    c.in_ok-kept.ensures.values ∙ ap (λ (s : State). values_of g.M.Meanings.rules (setup_of c.args.setup.now) (scene_of c.args.scene) (rule_of g.M.Meanings.rules Enter s)) (state-nothing (setup_of c.nothing.result) (scene_in c.nothing_kept-old.result) (scene_of c.args.scene) c.nothing_kept-old.result.shelf.facets c.nothing_kept-old.result.shelf.fields (c.nothing.ensures ∙ ap (λ (d : Definitions). record_setup d no_setup.config) c.nothing_declared-none.ensures) (c.nothing_kept-old.ensures.scene ∙ c.in_ok-copy.ensures) c.nothing_kept-old.ensures.facets c.nothing_kept-old.ensures.fields)
+    c.in_ok-kept.ensures.values ∙ ap (λ (s : State). values_of g.M.Meanings.rules (setup_of c.args.setup.now) (scene_of c.args.scene) (rule_of g.M.Meanings.rules Enter s)) (state-nothing (setup_of c.nothing.result) (scene_in c.in_ok-old.old) (scene_of c.args.scene) c.in_ok-old.old.shelf.facets c.in_ok-old.old.shelf.fields (c.nothing.ensures ∙ ap (λ (d : Definitions). record_setup d no_setup.config) c.nothing_declared-none.ensures) (c.in_ok-old.ensures.scene ∙ c.in_ok-copy.ensures) c.in_ok-old.ensures.facets c.in_ok-old.ensures.fields)
 
 pub returns-in_err-kept-clause-cost : goal.returns-in_err-kept-clause-cost
 returns-in_err-kept-clause-cost g c =
-    subst (λ (s : State). c.kept_after.new.calls ≤ c.args.calls.now + transition_calls g.M.Meanings.rules Enter s (setup_of c.args.setup.now)) (state-nothing (setup_of c.nothing.result) (scene_in c.nothing_kept-old.result) (scene_of c.args.scene) c.nothing_kept-old.result.shelf.facets c.nothing_kept-old.result.shelf.fields (c.nothing.ensures ∙ ap (λ (d : Definitions). record_setup d no_setup.config) c.nothing_declared-none.ensures) (c.nothing_kept-old.ensures.scene ∙ c.in_ok-copy.ensures) c.nothing_kept-old.ensures.facets c.nothing_kept-old.ensures.fields) c.kept_after.ensures.cost
+    subst (λ (s : State). c.kept_after.new.calls ≤ c.args.calls.now + transition_calls g.M.Meanings.rules Enter s (setup_of c.args.setup.now)) (state-nothing (setup_of c.nothing.result) (scene_in c.in_ok-old.old) (scene_of c.args.scene) c.in_ok-old.old.shelf.facets c.in_ok-old.old.shelf.fields (c.nothing.ensures ∙ ap (λ (d : Definitions). record_setup d no_setup.config) c.nothing_declared-none.ensures) (c.in_ok-old.ensures.scene ∙ c.in_ok-copy.ensures) c.in_ok-old.ensures.facets c.in_ok-old.ensures.fields) c.kept_after.ensures.cost
 
 pub returns-clause-cost : goal.returns-clause-cost
 returns-clause-cost g c =
-    subst (λ (s : State). c.kept_after.new.calls ≤ c.args.calls.now + transition_calls g.M.Meanings.rules Enter s (setup_of c.args.setup.now)) (state-nothing (setup_of c.nothing.result) (scene_in c.nothing_kept-old.result) (scene_of c.args.scene) c.nothing_kept-old.result.shelf.facets c.nothing_kept-old.result.shelf.fields (c.nothing.ensures ∙ ap (λ (d : Definitions). record_setup d no_setup.config) c.nothing_declared-none.ensures) (c.nothing_kept-old.ensures.scene ∙ c.in_ok-copy.ensures) c.nothing_kept-old.ensures.facets c.nothing_kept-old.ensures.fields) c.kept_after.ensures.cost
+    subst (λ (s : State). c.kept_after.new.calls ≤ c.args.calls.now + transition_calls g.M.Meanings.rules Enter s (setup_of c.args.setup.now)) (state-nothing (setup_of c.nothing.result) (scene_in c.in_ok-old.old) (scene_of c.args.scene) c.in_ok-old.old.shelf.facets c.in_ok-old.old.shelf.fields (c.nothing.ensures ∙ ap (λ (d : Definitions). record_setup d no_setup.config) c.nothing_declared-none.ensures) (c.in_ok-old.ensures.scene ∙ c.in_ok-copy.ensures) c.in_ok-old.ensures.facets c.in_ok-old.ensures.fields) c.kept_after.ensures.cost

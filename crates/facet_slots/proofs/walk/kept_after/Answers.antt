@@ -16,13 +16,18 @@ use Rattle.facet_slots.specs.Found.{scene_of}
 use Rattle.facet_slots.proofs.Places.{all-at, sum-more}
 use Rattle.facet_slots.proofs.Still.{scene-kept}
 use Rattle.facet_slots.proofs.Walking.{drafted-more, drafted-calls, drafted-values, drafted-kept}
+use Rattle.facet_slots.proofs.WithoutInputs.{stay-still}
 use Rattle.facet_slots.proofs.walk.kept_after.Goals as goal
 
-pub step-requires-clause-scene : goal.step-requires-clause-scene
-step-requires-clause-scene g c = subst IsScene (c.requires.scene ∙ sym c.loop-place.invariant.drafted.scene_is) c.requires.is_scene
+pub begun_draft-requires-clause-still : goal.begun_draft-requires-clause-still
+begun_draft-requires-clause-still g c =
+    λ t is. stay-still g.M.Meanings.rules (setup_of c.args.old_setup.now) (setup_of c.args.setup.now) (scene_in c.args.old.now) c.args.old.now.shelf c.requires.kept (c.requires.follows.continued t is)
 
-pub store-requires-clause-vertex : goal.store-requires-clause-vertex
-store-requires-clause-vertex g c =
+pub advance-requires-clause-scene : goal.advance-requires-clause-scene
+advance-requires-clause-scene g c = subst IsScene (c.requires.scene ∙ sym c.loop-place.invariant.drafted.scene_is) c.requires.is_scene
+
+pub advance-requires-clause-vertex : goal.advance-requires-clause-vertex
+advance-requires-clause-vertex g c =
     let order : List Vertex = order_of (setup_of c.args.setup.now) in
     let i = c.loop-place.place in
     let inside : i < length order = omega (arith, c.order_len-place-end.ensures, c.loop-place-test.true) in
@@ -31,8 +36,8 @@ store-requires-clause-vertex g c =
     let known : IsVertex (setup_of c.args.setup.now) vertex = all-at (IsVertex (setup_of c.args.setup.now)) order i vertex there c.requires.ordered.known in
     known
 
-pub returns-in_err-next-clause-cost : goal.returns-in_err-next-clause-cost
-returns-in_err-next-clause-cost g c =
+pub returns-in_err-advance-clause-cost : goal.returns-in_err-advance-clause-cost
+returns-in_err-advance-clause-cost g c =
     let order : List Vertex = order_of (setup_of c.args.setup.now) in
     let i = c.loop-place.place in
     let inside : i < length order = omega (arith, c.order_len-place-end.ensures, c.loop-place-test.true) in
@@ -44,7 +49,7 @@ returns-in_err-next-clause-cost g c =
     let calls : ℕ = next_calls g.M.Meanings.rules (transition_of c.args.transition.now) (setup_of c.args.setup.now) (scene_in c.loop-place.draft.kept) c.loop-place.draft.moved (flags_in c.loop-place.draft.kept) (values_in c.loop-place.draft.kept) (state_in c.args.old_setup.now c.args.old.now) (held_inputs c.args.old.now.shelf.inputs) vertex in
     let paid : calls ≡ due vertex = drafted-calls g.M.Meanings.rules g.met.M.Meanings.lawful (transition_of c.args.transition.now) (setup_of c.args.old_setup.now) (scene_in c.args.old.now) c.args.old.now.shelf.facets c.args.old.now.shelf.fields c.args.old.now.shelf.inputs c.requires.kept (setup_of c.args.setup.now) c.requires.ordered c.requires.lawful c.requires.follows.agree (scene-kept (scene_in c.args.old.now) c.requires.old_scene (transition_of c.args.transition.now) c.requires.made)
     (scene_in c.loop-place.draft.kept) c.loop-place.draft.moved (values_in c.loop-place.draft.kept) (flags_in c.loop-place.draft.kept) (held_inputs c.loop-place.draft.kept.shelf.inputs) i c.loop-place.invariant.drafted vertex inside there known in
-    let called : c.step.new.calls ≤ c.loop-place.calls + calls = c.step.ensures.cost in
+    let called : c.advance.new.calls ≤ c.loop-place.calls + calls = c.advance.ensures.cost in
     omega (arith, c.loop-place.invariant.cost, one, paid, called)
 
 pub loop-place-preserved : goal.loop-place-preserved
@@ -60,15 +65,16 @@ loop-place-preserved g c =
     let calls : ℕ = next_calls g.M.Meanings.rules (transition_of c.args.transition.now) (setup_of c.args.setup.now) (scene_in c.loop-place.draft.kept) c.loop-place.draft.moved (flags_in c.loop-place.draft.kept) (values_in c.loop-place.draft.kept) (state_in c.args.old_setup.now c.args.old.now) (held_inputs c.args.old.now.shelf.inputs) vertex in
     let paid : calls ≡ due vertex = drafted-calls g.M.Meanings.rules g.met.M.Meanings.lawful (transition_of c.args.transition.now) (setup_of c.args.old_setup.now) (scene_in c.args.old.now) c.args.old.now.shelf.facets c.args.old.now.shelf.fields c.args.old.now.shelf.inputs c.requires.kept (setup_of c.args.setup.now) c.requires.ordered c.requires.lawful c.requires.follows.agree (scene-kept (scene_in c.args.old.now) c.requires.old_scene (transition_of c.args.transition.now) c.requires.made)
     (scene_in c.loop-place.draft.kept) c.loop-place.draft.moved (values_in c.loop-place.draft.kept) (flags_in c.loop-place.draft.kept) (held_inputs c.loop-place.draft.kept.shelf.inputs) i c.loop-place.invariant.drafted vertex inside there known in
-    let called : c.step.new.calls ≤ c.loop-place.calls + calls = c.step.ensures.cost in
+    let called : c.advance.new.calls ≤ c.loop-place.calls + calls = c.advance.ensures.cost in
     record {
       drafted = drafted-more g.M.Meanings.rules g.met.M.Meanings.lawful (transition_of c.args.transition.now) (setup_of c.args.old_setup.now) (scene_in c.args.old.now) c.args.old.now.shelf.facets c.args.old.now.shelf.fields c.args.old.now.shelf.inputs c.requires.kept (setup_of c.args.setup.now) c.requires.ordered c.requires.lawful c.requires.follows.agree (scene-kept (scene_in c.args.old.now) c.requires.old_scene (transition_of c.args.transition.now) c.requires.made)
           (scene_in c.loop-place.draft.kept) c.loop-place.draft.moved (values_in c.loop-place.draft.kept) (flags_in c.loop-place.draft.kept) (held_inputs c.loop-place.draft.kept.shelf.inputs) i c.loop-place.invariant.drafted vertex inside there known
-          c.in_ok-next.next.value c.in_ok-next.next.flag c.in_ok-next.next.inputs c.in_ok-next.ensures.next
-          (scene_in c.store.new.draft.kept) c.store.new.draft.moved (values_in c.store.new.draft.kept) (flags_in c.store.new.draft.kept) (held_inputs c.store.new.draft.kept.shelf.inputs)
-          c.store.ensures.scene c.store.ensures.moved c.store.ensures.value c.store.ensures.flag c.store.ensures.inputs;
-      room = c.store.ensures.room;
-      flag_room = c.store.ensures.flags;
+          (values_in c.advance.new.draft.kept vertex) (flags_in c.advance.new.draft.kept vertex) (held_inputs c.advance.new.draft.kept.shelf.inputs vertex) c.in_ok-advance.ensures.next
+          (scene_in c.advance.new.draft.kept) c.advance.new.draft.moved (values_in c.advance.new.draft.kept) (flags_in c.advance.new.draft.kept) (held_inputs c.advance.new.draft.kept.shelf.inputs)
+          c.in_ok-advance.ensures.scene c.in_ok-advance.ensures.moved c.in_ok-advance.ensures.value c.in_ok-advance.ensures.flag c.in_ok-advance.ensures.inputs;
+      room = c.in_ok-advance.ensures.room;
+      lasting = c.in_ok-advance.ensures.lasting;
+      flag_room = c.in_ok-advance.ensures.flags;
       cost = omega (arith, c.loop-place.invariant.cost, one, paid, called);
     }
 
