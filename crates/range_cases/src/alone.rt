@@ -5,10 +5,10 @@ use std::alloc::{AllocError, Global};
 use std::test::*;
 
 /// A span as plain data: its ends, its number, and the greatest number that may be copied.
-type Span = (u32, u32, u32, u32);
+pub(crate) type Span = (u32, u32, u32, u32);
 
 /// The set of some spans with the sides `side` and minus `side`, which stand for what they cover.
-fn spans(alloc: Global, side: i32, rows: &[Span]) -> Result<RangeSet<Numbered>, Fail> {
+pub(crate) fn spans(alloc: Global, side: i32, rows: &[Span]) -> Result<RangeSet<Numbered>, Fail> {
     let mut ranges = Vec::new(alloc);
     for (from, to, number, most) in rows {
         ranges.push(Ranged {
@@ -26,20 +26,30 @@ fn spans(alloc: Global, side: i32, rows: &[Span]) -> Result<RangeSet<Numbered>, 
     Ok(RangeSet::of(ranges)?)
 }
 
-/// A set over a Replace at a place of a text of 1,000 characters: `None` where a copy is refused.
-fn after(
+/// A set over a Replace at a place of a text of so many characters: `None` where a copy is refused.
+pub(crate) fn over(
     alloc: Global,
+    len: u32,
     set: &RangeSet<Numbered>,
     change: (u32, u32, u32),
 ) -> Result<Option<RangeSet<Numbered>>, AllocError> {
     let (at, old, new) = change;
-    let rest = 1_000u32.wrapping_sub(at).wrapping_sub(old);
+    let rest = len.wrapping_sub(at).wrapping_sub(old);
     let sections = [
         Section::Keep(at),
         Section::Replace(old, new),
         Section::Keep(rest),
     ];
     mapped(alloc, set, &sections)
+}
+
+/// A set over a Replace at a place of a text of 1,000 characters: `None` where a copy is refused.
+fn after(
+    alloc: Global,
+    set: &RangeSet<Numbered>,
+    change: (u32, u32, u32),
+) -> Result<Option<RangeSet<Numbered>>, AllocError> {
+    over(alloc, 1_000, set, change)
 }
 
 /// Whether the span from 10 to 500 comes to these ends over a Replace: none where it is dropped. `None` where a copy is refused, as each
@@ -132,13 +142,13 @@ fn grown(alloc: Global) -> Result<RangeSet<Numbered>, Fail> {
 }
 
 /// Whether one of its ranges overlaps or touches what is from a place to another.
-fn has_between(set: &RangeSet<Numbered>, from: u32, to: u32) -> bool {
+pub(crate) fn has_between(set: &RangeSet<Numbered>, from: u32, to: u32) -> bool {
     let mut found = set.between(from, to);
     found.next().is_some()
 }
 
 /// Whether one of its ranges stands for what it covers.
-fn has_point(set: &RangeSet<Numbered>) -> bool {
+pub(crate) fn has_point(set: &RangeSet<Numbered>) -> bool {
     let mut points = set.points();
     points.next().is_some()
 }

@@ -7,6 +7,8 @@ mod alone;
 #[cfg(test)]
 mod decorations;
 #[cfg(test)]
+mod far;
+#[cfg(test)]
 mod grouping;
 #[cfg(test)]
 mod numbered;

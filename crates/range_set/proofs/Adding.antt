@@ -9,7 +9,7 @@ use Rattle.range_set.specs.Rules.{RangeRules}
 use Rattle.range_set.specs.Order.{AllForward, before, first_fault}
 use Rattle.range_set.specs.Ranking.{before-order}
 use Rattle.range_set.specs.Updating.{updated}
-use Rattle.range_set.specs.PrivateChunks.{AreGroups, Ascend, BeginBy, first_start, flat, shift, spread}
+use Rattle.range_set.specs.PrivateChunks.{AreGroups, Ascend, BeginBy, first_start, flat, group_content, shift, spread}
 use Rattle.range_set.specs.PrivateUpdates.{AreOpened, AreSharedBefore, BeginPast, BeginUnder}
 use Rattle.range_set.specs.declared.ranged.Ranged.{Ranged}
 use Rattle.range_set.specs.declared.chunk.Placed.{Placed}
@@ -81,9 +81,9 @@ module _ {T : Type 0} where
 
 module _ {T : Type 0} (rules : RangeRules T) where
   -- ranges that stand before a group begin no later than it
-  pub begin_by_group : (n : ℕ) (xs : List (Ranged T)) (g : PlacedGroup T) (gs : List (PlacedGroup T)) → 1 ≤ length (flat g.group.value.chunks.items) → first_start (flat g.group.value.chunks.items) ≡ 0
+  pub begin_by_group : (n : ℕ) (xs : List (Ranged T)) (g : PlacedGroup T) (gs : List (PlacedGroup T)) → 1 ≤ length (flat (group_content g).chunks) → first_start (flat (group_content g).chunks) ≡ 0
       → Ascend n (xs ++ flat (spread (g ∷ gs))) → BeginBy g.start xs
-  begin_by_group n xs g gs some f asc = at (flat g.group.value.chunks.items) some f (subst (λ rs. Ascend n (xs ++ rs)) (flat-spread g gs) asc)
+  begin_by_group n xs g gs some f asc = at (flat (group_content g).chunks) some f (subst (λ rs. Ascend n (xs ++ rs)) (flat-spread g gs) asc)
     where
       at : (rs : List (Ranged T)) → 1 ≤ length rs → first_start rs ≡ 0 → Ascend n (xs ++ (map (shift g.start) rs ++ flat (spread gs))) → BeginBy g.start xs
       at [] some f a = absurd (omega arith)

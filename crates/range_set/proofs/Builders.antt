@@ -2,7 +2,7 @@
 use Rattle.std.proofs.Common.{◌≡◌, ℕ, ◌+◌, ◌^◌, ◌<◌, ◌≤◌, List, [], ◌∷◌, ◌++◌, length, map, ◌∙◌, ap, sym, subst, arith, append_assoc}
 use Rattle.std.proofs.lemmas.List.{append-nil, length-append}
 use Rattle.range_set.specs.Rules.{RangeRules}
-use Rattle.range_set.specs.PrivateChunks.{AreChunks, AreGroups, Ascend, IsGroup, flat, move, shift, spread}
+use Rattle.range_set.specs.PrivateChunks.{AreChunks, AreGroups, Ascend, IsGroup, flat, group_content, move, shift, spread}
 use Rattle.range_set.specs.PrivateBuilders.{IsGroupBuilder, grouped}
 use Rattle.range_set.specs.declared.chunk.Placed.{Placed}
 use Rattle.range_set.specs.declared.group.PlacedGroup.{PlacedGroup}
@@ -25,12 +25,12 @@ module _ {T : Type 0} (rules : RangeRules T) where
         room = omega (arith, n, room);
       }
 
-  one_group : (g : PlacedGroup T) → length (flat (spread (g ∷ []))) ≡ length (flat g.group.value.chunks.items)
-  one_group g = ap length (flat-spread g []) ∙ (ap length (append-nil (map (shift g.start) (flat g.group.value.chunks.items))) ∙ length_shifted rules g.start (flat g.group.value.chunks.items))
+  one_group : (g : PlacedGroup T) → length (flat (spread (g ∷ []))) ≡ length (flat (group_content g).chunks)
+  one_group g = ap length (flat-spread g []) ∙ (ap length (append-nil (map (shift g.start) (flat (group_content g).chunks))) ∙ length_shifted rules g.start (flat (group_content g).chunks))
 
   -- a group was put after those of a builder
-  pub grown_one : (b new : GroupBuilder T) (g : PlacedGroup T) (count : ℕ) → IsGroupBuilder rules b → new.done ≡ b.done ++ g ∷ [] → new.full ≡ b.full → new.len ≡ b.len + count → count ≡ length (flat g.group.value.chunks.items)
-      → IsGroup rules g.start g.group.value → 1 ≤ length (flat g.group.value.chunks.items) → length (flat (grouped b)) + length (flat g.group.value.chunks.items) < 2 ^ 64 → IsGroupBuilder rules new
+  pub grown_one : (b new : GroupBuilder T) (g : PlacedGroup T) (count : ℕ) → IsGroupBuilder rules b → new.done ≡ b.done ++ g ∷ [] → new.full ≡ b.full → new.len ≡ b.len + count → count ≡ length (flat (group_content g).chunks)
+      → IsGroup rules g.start (group_content g) → 1 ≤ length (flat (group_content g).chunks) → length (flat (grouped b)) + length (flat (group_content g).chunks) < 2 ^ 64 → IsGroupBuilder rules new
   grown_one b new g count h done full len is group some room =
       let n = one_group g in
       grown b new (g ∷ []) count h done full len (omega (arith, n, is)) ((group, some), tt) (omega (arith, n, room))

@@ -4,7 +4,7 @@ use Rattle.std.proofs.lemmas.List.{append-nil, map-append}
 use Rattle.std.specs.List.{list_any}
 use Rattle.change_desc.specs.Ranges.{meets}
 use Rattle.change_desc.specs.declared.changed_range.ChangedRange.{ChangedRange}
-use Rattle.range_set.specs.PrivateChunks.{AllChunksApart, AreChunksShared, AreShared, carry_chunk, content, flat, move, shift}
+use Rattle.range_set.specs.PrivateChunks.{AllChunksApart, AreChunksShared, AreShared, carry_chunk, content, flat, group_content, move, shift}
 use Rattle.range_set.specs.declared.ranged.Ranged.{Ranged}
 use Rattle.range_set.specs.declared.chunk.Placed.{Placed}
 use Rattle.range_set.specs.declared.group.PlacedGroup.{PlacedGroup}
@@ -12,10 +12,10 @@ use Rattle.range_set.proofs.Chunks.{flat-append, flat-push}
 
 module _ {T : Type 0} where
   -- one more group was put after chunks
-  pub shared_group : (from to : ℕ) (changed : List ChangedRange) (gs : List (PlacedGroup T)) (g : PlacedGroup T) (others : List (PlacedGroup T)) (old new : List (Placed T)) → gs ≡ g ∷ others → g.group.value.is_turned ≡ false
-      → list_any (meets from (g.start + g.group.value.reach)) changed ≡ false → new ≡ old ++ map (move (g.start - from + to)) g.group.value.chunks.items → AreShared from to changed gs others (flat old) (flat new)
+  pub shared_group : (from to : ℕ) (changed : List ChangedRange) (gs : List (PlacedGroup T)) (g : PlacedGroup T) (others : List (PlacedGroup T)) (old new : List (Placed T)) → gs ≡ g ∷ others → (group_content g).is_turned ≡ false
+      → list_any (meets from (g.start + (group_content g).reach)) changed ≡ false → new ≡ old ++ map (move (g.start - from + to)) (group_content g).chunks → AreShared from to changed gs others (flat old) (flat new)
   shared_group from to changed gs g others old new is t m e =
-      let more = map (move (g.start - from + to)) g.group.value.chunks.items in record {
+      let more = map (move (g.start - from + to)) (group_content g).chunks in record {
         taken = g ∷ [];
         is = is;
         apart = ((t, m), tt);

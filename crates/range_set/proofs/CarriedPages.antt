@@ -7,7 +7,7 @@ use Rattle.change_desc.specs.Ranges.{meets}
 use Rattle.change_desc.specs.declared.changed_range.ChangedRange.{ChangedRange}
 use Rattle.range_set.specs.Rules.{RangeRules}
 use Rattle.range_set.specs.Mapping.{is_turned}
-use Rattle.range_set.specs.PrivateChunks.{AllApart, AreGroups, AreShared, Ascend, FitCarried, carry, flat, greatest_end, shift, spread}
+use Rattle.range_set.specs.PrivateChunks.{AllApart, AreGroups, AreShared, Ascend, FitCarried, carry, flat, greatest_end, group_content, shift, spread}
 use Rattle.range_set.specs.PrivatePages.{IsPage, further}
 use Rattle.range_set.specs.declared.ranged.Ranged.{Ranged}
 use Rattle.range_set.specs.declared.group.PlacedGroup.{PlacedGroup}
@@ -27,7 +27,7 @@ module _ {T : Type 0} where
   carry_further from to start [] l = refl
   carry_further from to start (g ∷ gs) l =
       let e : g.start + start - from + to ≡ g.start + (start - from + to) = omega (arith, l) in
-      ap (λ n. let h : PlacedGroup T = record { start = n; group = g.group } in h ∷ map (carry from to) (map (further start) gs)) e
+      ap (λ n. let h : PlacedGroup T = record { start = n; grown = g.grown; group = g.group } in h ∷ map (carry from to) (map (further start) gs)) e
       ∙ ap (λ hs. further (start - from + to) g ∷ hs) (carry_further from to start gs l)
 
   AllApart-append : (from : ℕ) (changed : List ChangedRange) (gs hs : List (PlacedGroup T)) → AllApart from changed gs → AllApart from changed hs → AllApart from changed (gs ++ hs)
@@ -84,7 +84,7 @@ module _ {T : Type 0} (rules : RangeRules T) where
   length_carried : (from to : ℕ) (gs : List (PlacedGroup T)) → length (flat (spread (map (carry from to) gs))) ≡ length (flat (spread gs))
   length_carried from to [] = refl
   length_carried from to (g ∷ gs) =
-      let ranges = flat g.group.value.chunks.items in
+      let ranges = flat (group_content g).chunks in
       let a = ap length (flat-spread (carry from to g) (map (carry from to) gs)) ∙ length-append (map (shift (g.start - from + to)) ranges) (flat (spread (map (carry from to) gs))) in
       let b = ap length (flat-spread g gs) ∙ length-append (map (shift g.start) ranges) (flat (spread gs)) in
       let c = length_shifted rules (g.start - from + to) ranges in
@@ -118,13 +118,13 @@ module _ {T : Type 0} (rules : RangeRules T) where
       → list_any (meets from (start + reach)) changed ≡ false → AllApart from changed (map (further start) gs)
   apart_page from start reach changed [] h l t m = tt
   apart_page from start reach changed (g ∷ gs) h l t m =
-      let ranges = map (shift g.start) (flat g.group.value.chunks.items) in
+      let ranges = map (shift g.start) (flat (group_content g).chunks) in
       let each = sym (ap (list_any (is_turned rules)) (flat-spread g gs) ∙ list_any-append (is_turned rules) ranges (flat (spread gs))) ∙ t in
       let first = hull_first rules g gs h in
       let later = hull_others rules g gs in (
         (
-          h.0.0.turned ∙ (sym (turned_any rules g.start (flat g.group.value.chunks.items)) ∙ or_first_false (list_any (is_turned rules) ranges) (list_any (is_turned rules) (flat (spread gs))) each),
-          none-narrow from (start + reach) from (g.start + start + g.group.value.reach) changed (omega arith) (omega (arith, first, l)) m,
+          h.0.0.turned ∙ (sym (turned_any rules g.start (flat (group_content g).chunks)) ∙ or_first_false (list_any (is_turned rules) ranges) (list_any (is_turned rules) (flat (spread gs))) each),
+          none-narrow from (start + reach) from (g.start + start + (group_content g).reach) changed (omega arith) (omega (arith, first, l)) m,
         ),
         apart_page from start reach changed gs h.1 (omega (arith, later, l)) (or_second_false (list_any (is_turned rules) ranges) (list_any (is_turned rules) (flat (spread gs))) each) m,
       )
@@ -134,18 +134,18 @@ module _ {T : Type 0} (rules : RangeRules T) where
   fit_page from to start reach changed [] others s h some l m f = absurd (omega (arith, some))
   fit_page from to start reach changed (g ∷ []) others s h some l m f =
       let first = hull_first rules g [] h in
-      let here = f.0 (none-narrow from (start + reach) from (g.start + start + g.group.value.reach) changed (omega arith) (omega (arith, first, l)) m) in
-      let a = ap greatest_end (flat-spread g []) ∙ greatest-append (map (shift g.start) (flat g.group.value.chunks.items)) [] in
-      let b = greatest_shifted g.start (flat g.group.value.chunks.items) h.0.1 in
+      let here = f.0 (none-narrow from (start + reach) from (g.start + start + (group_content g).reach) changed (omega arith) (omega (arith, first, l)) m) in
+      let a = ap greatest_end (flat-spread g []) ∙ greatest-append (map (shift g.start) (flat (group_content g).chunks)) [] in
+      let b = greatest_shifted g.start (flat (group_content g).chunks) h.0.1 in
       let c = h.0.0.reach in
       omega (arith, here, a, b, c, s)
   fit_page from to start reach changed (g ∷ q ∷ gs) others s h some l m f =
       let first = hull_first rules g (q ∷ gs) h in
       let later = hull_others rules g (q ∷ gs) in
-      let here = f.0 (none-narrow from (start + reach) from (g.start + start + g.group.value.reach) changed (omega arith) (omega (arith, first, l)) m) in
+      let here = f.0 (none-narrow from (start + reach) from (g.start + start + (group_content g).reach) changed (omega arith) (omega (arith, first, l)) m) in
       let more = fit_page from to start reach changed (q ∷ gs) others s h.1 (omega arith) (omega (arith, later, l)) m f.1 in
-      let a = ap greatest_end (flat-spread g (q ∷ gs)) ∙ greatest-append (map (shift g.start) (flat g.group.value.chunks.items)) (flat (spread (q ∷ gs))) in
-      let b = greatest_shifted g.start (flat g.group.value.chunks.items) h.0.1 in
+      let a = ap greatest_end (flat-spread g (q ∷ gs)) ∙ greatest-append (map (shift g.start) (flat (group_content g).chunks)) (flat (spread (q ∷ gs))) in
+      let b = greatest_shifted g.start (flat (group_content g).chunks) h.0.1 in
       let c = h.0.0.reach in
       omega (arith, here, more, a, b, c, s)
 

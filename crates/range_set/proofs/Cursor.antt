@@ -5,7 +5,7 @@ use Rattle.std.specs.declared.alloc.Global.{Global}
 use Rattle.std.specs.declared.rc.Rc.{Rc}
 use Rattle.range_set.specs.Rules.{RangeRules}
 use Rattle.range_set.specs.Points.{points_of}
-use Rattle.range_set.specs.PrivateChunks.{AreGroups, ArePassed, IsGroup, flat, move, shift, spread}
+use Rattle.range_set.specs.PrivateChunks.{AreGroups, ArePassed, IsGroup, flat, group_content, move, shift, spread}
 use Rattle.range_set.specs.PrivatePages.{AreLast, ArePages, AreGroupsLeft, PlacesFirst, PlacesGroups, PlacesPage, further, laid}
 use Rattle.range_set.specs.declared.chunk.Placed.{Placed}
 use Rattle.range_set.specs.declared.group.Group.{Group}
@@ -38,7 +38,7 @@ module _ {T : Type 0} (rules : RangeRules T) where
   -- the first group of the page that comes next
   pub first_of_page : (base : ℕ) (groups : List (PlacedGroup T)) (pages : List (PlacedPage T)) (p : PlacedPage T) (ps : List (PlacedPage T)) (g : PlacedGroup T) (gs : List (PlacedGroup T))
       → length groups ≡ 0 → pages ≡ p ∷ ps → p.page.value.groups.items ≡ g ∷ gs → AreGroupsLeft rules base groups pages
-      → PlacesFirst rules (map (further base) groups ++ laid pages) (p.start + g.start) g.group (map (further p.start) gs ++ laid ps) × AreGroupsLeft rules p.start gs ps
+      → PlacesFirst rules (map (further base) groups ++ laid pages) (p.start + g.start) g (map (further p.start) gs ++ laid ps) × AreGroupsLeft rules p.start gs ps
   first_of_page base groups pages p ps g gs none some first h =
       let all = subst (ArePages rules) some h.others in
       let opened = subst (λ hs. AreGroups rules (map (further p.start) hs)) first (page_opened rules p.start p.page.value all.0.0) in
@@ -46,8 +46,8 @@ module _ {T : Type 0} (rules : RangeRules T) where
       let is : map (further base) groups ++ laid pages ≡ further p.start g ∷ (map (further p.start) gs ++ laid ps) =
       ap (λ hs. map (further base) hs ++ laid pages) (no_groups groups none) ∙ (ap laid some ∙ ap (λ hs. map (further p.start) hs ++ laid ps) first) in (
         record {
-          is = is ∙ ap (λ k. let q : PlacedGroup T = record { start = k; group = g.group } in q ∷ (map (further p.start) gs ++ laid ps)) n;
-          first = subst (λ k. IsGroup rules k g.group.value) n opened.0.0;
+          is = is ∙ ap (λ k. let q : PlacedGroup T = record { start = k; grown = g.grown; group = g.group } in q ∷ (map (further p.start) gs ++ laid ps)) n;
+          first = subst (λ k. IsGroup rules k (group_content g)) n opened.0.0;
           some = opened.0.1;
         },
         record { opened = opened.1; others = all.1 },
@@ -88,9 +88,9 @@ module _ {T : Type 0} (rules : RangeRules T) where
       sym (no_points rules p.start rs (flat (spread others)) (sym h.page.points ∙ none)) ∙ (ap (points_of rules) (sym (ranges_of_page groups p others h)) ∙ k)
 
   -- fewer chunks or groups are left where the next group is opened or passed over
-  pub open_fewer : (base : ℕ) (chunks : List (Placed T)) (groups rest : List (PlacedGroup T)) (start : ℕ) (group : Rc (Group T) Global) (others : List (PlacedGroup T)) → AreLast groups rest → PlacesFirst rules rest start group others
-      → length (map (move start) group.value.chunks.items ++ spread others) + length others < length (map (move base) chunks ++ spread groups) + length groups
-  open_fewer base chunks groups rest start group others last h =
+  pub open_fewer : (base : ℕ) (chunks : List (Placed T)) (groups rest : List (PlacedGroup T)) (start : ℕ) (placed : PlacedGroup T) (others : List (PlacedGroup T)) → AreLast groups rest → PlacesFirst rules rest start placed others
+      → length (map (move start) (group_content placed).chunks ++ spread others) + length others < length (map (move base) chunks ++ spread groups) + length groups
+  open_fewer base chunks groups rest start placed others last h =
       let a = last_fewer groups rest last in
       let b = last_fewer_chunks groups rest last in
       let m = ap length h.is in
@@ -98,13 +98,13 @@ module _ {T : Type 0} (rules : RangeRules T) where
       let l = length-append (map (move base) chunks) (spread groups) in
       omega (arith, a, b, m, n, l)
 
-  pub pass_fewer : (base : ℕ) (chunks : List (Placed T)) (groups rest : List (PlacedGroup T)) (start : ℕ) (group : Rc (Group T) Global) (others : List (PlacedGroup T)) → AreLast groups rest → PlacesFirst rules rest start group others
+  pub pass_fewer : (base : ℕ) (chunks : List (Placed T)) (groups rest : List (PlacedGroup T)) (start : ℕ) (placed : PlacedGroup T) (others : List (PlacedGroup T)) → AreLast groups rest → PlacesFirst rules rest start placed others
       → length (map (move base) chunks ++ spread others) + length others < length (map (move base) chunks ++ spread groups) + length groups
-  pass_fewer base chunks groups rest start group others last h =
+  pass_fewer base chunks groups rest start placed others last h =
       let a = last_fewer groups rest last in
       let b = last_fewer_chunks groups rest last in
       let m = ap length h.is in
-      let n = ap (λ gs. length (spread gs)) h.is ∙ length-append (map (move start) group.value.chunks.items) (spread others) in
+      let n = ap (λ gs. length (spread gs)) h.is ∙ length-append (map (move start) (group_content placed).chunks) (spread others) in
       let l = length-append (map (move base) chunks) (spread groups) in
       let k = length-append (map (move base) chunks) (spread others) in
       omega (arith, a, b, m, n, l, k)

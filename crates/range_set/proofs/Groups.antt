@@ -1,15 +1,13 @@
 -- Groups of chunks, and builders of them, seen as lists of chunks and of ranges.
-use Rattle.std.proofs.Common.{◌≡◌, ℕ, zero, suc, ◌+◌, ◌-◌, ◌^◌, ◌<◌, ◌≤◌, max, ◌||◌, List, [], ◌∷◌, ◌++◌, length, get_or, take, map, refl, sym, ◌∙◌, ap, subst, arith, append_assoc}
+use Rattle.std.proofs.Common.{◌≡◌, ℕ, zero, suc, ◌+◌, ◌-◌, ◌^◌, ◌<◌, ◌≤◌, max, ◌||◌, List, [], ◌∷◌, ◌++◌, length, get_or, set, take, map, refl, sym, ◌∙◌, ap, subst, arith, append_assoc}
 use Rattle.std.proofs.lemmas.List.{append-nil, map-append, length-append, take_more}
 use Rattle.std.specs.List.{list_any}
 use Rattle.range_set.specs.Rules.{RangeRules}
 use Rattle.range_set.specs.Order.{AllForward}
 use Rattle.range_set.specs.Mapping.{is_turned}
 use Rattle.range_set.specs.Points.{stands}
-use Rattle.range_set.specs.PrivateChunks.{AreChunks, AreGroups, Ascend, Content, EndBy, IsChunk, IsGroup, IsNextChunk, content, first_start, flat, greatest_end, move, shift, spread}
+use Rattle.range_set.specs.PrivateChunks.{AreChunks, AreGroups, Ascend, Content, EndBy, GroupContent, IsChunk, IsGroup, IsNextChunk, content, first_start, flat, greatest_end, group_content, group_plain, group_stretch, lengthen, move, shift, spread}
 use Rattle.range_set.specs.PrivatePages.{PlacesFirst}
-use Rattle.std.specs.declared.alloc.Global.{Global}
-use Rattle.std.specs.declared.rc.Rc.{Rc}
 use Rattle.range_set.specs.declared.ranged.Ranged.{Ranged}
 use Rattle.range_set.specs.declared.chunk.Placed.{Placed}
 use Rattle.range_set.specs.declared.group.Group.{Group}
@@ -42,27 +40,60 @@ module _ {T : Type 0} where
       let e : p.start + 0 ≡ p.start = omega arith in
       ap (λ n. let q : Placed T = record { start = n; grown = p.grown; chunk = p.chunk } in q ∷ map (move 0) ps) e ∙ ap (λ qs. p ∷ qs) (moved_none ps)
 
+  -- chunks that haven't grown
+  pub lengthened_none : (ps : List (Placed T)) → map (lengthen 0) ps ≡ ps
+  lengthened_none [] = refl
+  lengthened_none (p ∷ ps) =
+      let e : p.grown + 0 ≡ p.grown = omega arith in
+      ap (λ n. let q : Placed T = record { start = p.start; grown = n; chunk = p.chunk } in q ∷ map (lengthen 0) ps) e ∙ ap (λ qs. p ∷ qs) (lengthened_none ps)
+
+  pub unlengthened : (by : ℕ) (ps : List (Placed T)) → by ≡ 0 → map (lengthen by) ps ≡ ps
+  unlengthened by ps e = ap (λ n. map (lengthen n) ps) e ∙ lengthened_none ps
+
+  -- an element of a list of chunks, in the list of those that have grown
+  pub lengthened_at : (by : ℕ) (ps : List (Placed T)) (i : ℕ) (p : Placed T) → i < length ps → p ≡ get_or ps i p → (i < length (map (lengthen by) ps)) × (lengthen by p ≡ get_or (map (lengthen by) ps) i (lengthen by p))
+  lengthened_at by [] i p l e = absurd (omega arith)
+  lengthened_at by (q ∷ ps) zero p l e = (omega arith, ap (lengthen by) e)
+  lengthened_at by (q ∷ ps) (suc i) p l e = let k = lengthened_at by ps i p (omega arith) e in (omega (arith, k.0), k.1)
+
+  -- a group that hasn't grown
+  pub group_unstretched : (g : Group T) → group_stretch 0 g ≡ group_plain g
+  group_unstretched g =
+      let reach : g.reach + 0 ≡ g.reach = omega arith in
+      ap (λ ps. let x : GroupContent T = record { grown = 0; chunks = ps; count = g.count; reach = g.reach + 0; is_turned = g.is_turned; has_point = g.has_point } in x) (lengthened_none g.chunks.items)
+      ∙ ap (λ n. let x : GroupContent T = record { grown = 0; chunks = g.chunks.items; count = g.count; reach = n; is_turned = g.is_turned; has_point = g.has_point } in x) reach
+
+  -- the only chunk without what it has grown by, which its group has in its stead
+  pub without_grown : (ps rest : List (Placed T)) (x : Placed T) (n : ℕ) → length ps ≡ 1 → n ≡ 1
+      → map (lengthen (get_or ps 0 x).grown) (take n (set ps 0 (record { start = (get_or ps 0 x).start; grown = 0; chunk = (get_or ps 0 x).chunk }) ++ rest)) ≡ ps
+  without_grown [] rest x n l e = absurd (omega arith)
+  without_grown (p ∷ []) rest x n l e =
+      let q : Placed T = record { start = p.start; grown = 0; chunk = p.chunk } in
+      let by : 0 + p.grown ≡ p.grown = omega arith in
+      ap (λ k. map (lengthen p.grown) (take k (q ∷ rest))) e ∙ ap (λ k. let x : Placed T = record { start = p.start; grown = k; chunk = p.chunk } in x ∷ []) by
+  without_grown (p ∷ q ∷ ps) rest x n l e = absurd (omega (arith, l))
+
   pub flat-unmoved : (ps : List (Placed T)) → map (shift 0) (flat ps) ≡ flat ps
   flat-unmoved ps = sym (flat-moved 0 ps) ∙ ap flat (moved_none ps)
 
   pub spread-append : (gs hs : List (PlacedGroup T)) → spread (gs ++ hs) ≡ spread gs ++ spread hs
   spread-append [] hs = refl
   spread-append (g ∷ gs) hs =
-      ap (λ r. map (move g.start) g.group.value.chunks.items ++ r) (spread-append gs hs)
-      ∙ sym (append_assoc (map (move g.start) g.group.value.chunks.items) (spread gs) (spread hs))
+      ap (λ r. map (move g.start) (group_content g).chunks ++ r) (spread-append gs hs)
+      ∙ sym (append_assoc (map (move g.start) (group_content g).chunks) (spread gs) (spread hs))
 
-  pub spread-push : (gs : List (PlacedGroup T)) (g : PlacedGroup T) → spread (gs ++ g ∷ []) ≡ spread gs ++ map (move g.start) g.group.value.chunks.items
-  spread-push gs g = spread-append gs (g ∷ []) ∙ ap (λ r. spread gs ++ r) (append-nil (map (move g.start) g.group.value.chunks.items))
+  pub spread-push : (gs : List (PlacedGroup T)) (g : PlacedGroup T) → spread (gs ++ g ∷ []) ≡ spread gs ++ map (move g.start) (group_content g).chunks
+  spread-push gs g = spread-append gs (g ∷ []) ∙ ap (λ r. spread gs ++ r) (append-nil (map (move g.start) (group_content g).chunks))
 
   -- the ranges of a group at its place, and of the groups after it
-  pub flat-spread : (g : PlacedGroup T) (gs : List (PlacedGroup T)) → flat (spread (g ∷ gs)) ≡ map (shift g.start) (flat g.group.value.chunks.items) ++ flat (spread gs)
+  pub flat-spread : (g : PlacedGroup T) (gs : List (PlacedGroup T)) → flat (spread (g ∷ gs)) ≡ map (shift g.start) (flat (group_content g).chunks) ++ flat (spread gs)
   flat-spread g gs =
-      flat-append (map (move g.start) g.group.value.chunks.items) (spread gs) ∙ ap (λ rs. rs ++ flat (spread gs)) (flat-moved g.start g.group.value.chunks.items)
+      flat-append (map (move g.start) (group_content g).chunks) (spread gs) ∙ ap (λ rs. rs ++ flat (spread gs)) (flat-moved g.start (group_content g).chunks)
 
-  pub flat-spread_push : (gs : List (PlacedGroup T)) (g : PlacedGroup T) → flat (spread (gs ++ g ∷ [])) ≡ flat (spread gs) ++ map (shift g.start) (flat g.group.value.chunks.items)
+  pub flat-spread_push : (gs : List (PlacedGroup T)) (g : PlacedGroup T) → flat (spread (gs ++ g ∷ [])) ≡ flat (spread gs) ++ map (shift g.start) (flat (group_content g).chunks)
   flat-spread_push gs g =
       ap flat (spread-push gs g)
-      ∙ (flat-append (spread gs) (map (move g.start) g.group.value.chunks.items) ∙ ap (λ rs. flat (spread gs) ++ rs) (flat-moved g.start g.group.value.chunks.items))
+      ∙ (flat-append (spread gs) (map (move g.start) (group_content g).chunks) ∙ ap (λ rs. flat (spread gs) ++ rs) (flat-moved g.start (group_content g).chunks))
 
   pub flat-spread_append : (gs hs : List (PlacedGroup T)) → flat (spread (gs ++ hs)) ≡ flat (spread gs) ++ flat (spread hs)
   flat-spread_append gs hs = ap flat (spread-append gs hs) ∙ flat-append (spread gs) (spread hs)
@@ -103,9 +134,10 @@ module _ {T : Type 0} (rules : RangeRules T) where
   }
 
   -- a group at another place
-  pub group_placed : (start at : ℕ) (group : Group T) → IsGroup rules start group → at + group.reach < 2 ^ 32 → IsGroup rules at group
+  pub group_placed : (start at : ℕ) (group : GroupContent T) → IsGroup rules start group → at + group.reach < 2 ^ 32 → IsGroup rules at group
   group_placed start at group h l = record {
     few = h.few;
+    single = h.single;
     chunks = h.chunks;
     first = h.first;
     count = h.count;
@@ -113,6 +145,21 @@ module _ {T : Type 0} (rules : RangeRules T) where
     turned = h.turned;
     points = h.points;
     fits = l;
+  }
+
+  -- a group of the same chunks, of which another part is said to be what they have grown by
+  pub regrown_group : (start : ℕ) (old new : GroupContent T) → IsGroup rules start old → (0 < new.grown → length old.chunks ≤ 1) → new.chunks ≡ old.chunks → new.count ≡ old.count → new.reach ≡ old.reach → new.is_turned ≡ old.is_turned
+      → new.has_point ≡ old.has_point → IsGroup rules start new
+  regrown_group start old new h single chunks count reach turned points = record {
+    few = rw chunks h.few;
+    single = rw chunks single;
+    chunks = rw chunks h.chunks;
+    first = rw chunks h.first;
+    count = rw chunks (count ∙ h.count);
+    reach = rw chunks (reach ∙ h.reach);
+    turned = rw chunks (turned ∙ h.turned);
+    points = rw chunks (points ∙ h.points);
+    fits = let f = h.fits in omega (arith, f, reach);
   }
 
   -- the hull of a chunk lies in that of its group
@@ -125,6 +172,11 @@ module _ {T : Type 0} (rules : RangeRules T) where
 
   hull_others : (p : Placed T) (ps : List (Placed T)) → greatest_end (flat ps) ≤ greatest_end (flat (p ∷ ps))
   hull_others p ps = let a = greatest-append (map (shift p.start) (content p).ranges) (flat ps) in omega (arith, a)
+
+  -- the hull of the first of some chunks is no shorter than what its ranges have grown by
+  pub hull_grown : (ps : List (Placed T)) (x : Placed T) → 1 ≤ length ps → AreChunks rules ps → (get_or ps 0 x).grown ≤ greatest_end (flat ps)
+  hull_grown [] x l h = absurd (omega arith)
+  hull_grown (p ∷ ps) x l h = let a = hull_first p ps h in omega (arith, a)
 
   pub hull_at : (ps : List (Placed T)) (i : ℕ) (p : Placed T) → i < length ps → p ≡ get_or ps i p → AreChunks rules ps → p.start + (content p).reach ≤ greatest_end (flat ps)
   hull_at [] i p l e h = absurd (omega arith)
@@ -141,19 +193,19 @@ module _ {T : Type 0} (rules : RangeRules T) where
         are_moved by n ps h.1 (omega (arith, b, l)) m,
       )
 
-  pub are_opened : (start : ℕ) (group : Group T) → IsGroup rules start group → AreChunks rules (map (move start) group.chunks.items)
-  are_opened start group h = let e = h.reach in are_moved start group.reach group.chunks.items h.chunks (omega (arith, e)) h.fits
+  pub are_opened : (start : ℕ) (group : GroupContent T) → IsGroup rules start group → AreChunks rules (map (move start) group.chunks)
+  are_opened start group h = let e = h.reach in are_moved start group.reach group.chunks h.chunks (omega (arith, e)) h.fits
 
   pub are_spread : (gs : List (PlacedGroup T)) → AreGroups rules gs → AreChunks rules (spread gs)
   are_spread [] h = tt
-  are_spread (g ∷ gs) h = AreChunks-append (map (move g.start) g.group.value.chunks.items) (spread gs) (are_opened g.start g.group.value h.0.0) (are_spread gs h.1)
+  are_spread (g ∷ gs) h = AreChunks-append (map (move g.start) (group_content g).chunks) (spread gs) (are_opened g.start (group_content g) h.0.0) (are_spread gs h.1)
 
   pub flat_forward : (ps : List (Placed T)) → AreChunks rules ps → AllForward (flat ps)
   flat_forward [] h = tt
   flat_forward (p ∷ ps) h = forward-append (map (shift p.start) (content p).ranges) (flat ps) (forward_shifted p.start (content p).ranges h.0.0.forward) (flat_forward ps h.1)
 
-  pub group_ends : (start : ℕ) (group : Group T) → IsGroup rules start group → EndBy group.reach (flat group.chunks.items)
-  group_ends start group h = let e = h.reach in end_by_greatest (flat group.chunks.items) group.reach (omega (arith, e))
+  pub group_ends : (start : ℕ) (group : GroupContent T) → IsGroup rules start group → EndBy group.reach (flat group.chunks)
+  group_ends start group h = let e = h.reach in end_by_greatest (flat group.chunks) group.reach (omega (arith, e))
 
   some_flat : (p : Placed T) (ps : List (Placed T)) → AreChunks rules (p ∷ ps) → 1 ≤ length (flat (p ∷ ps))
   some_flat p ps h =
@@ -166,13 +218,13 @@ module _ {T : Type 0} (rules : RangeRules T) where
   flat_some [] h some = absurd (omega arith)
   flat_some (p ∷ ps) h some = some_flat p ps h
 
-  pub AreGroups-push : (gs : List (PlacedGroup T)) (g : PlacedGroup T) → AreGroups rules gs → IsGroup rules g.start g.group.value → 1 ≤ length (flat g.group.value.chunks.items) → AreGroups rules (gs ++ g ∷ [])
+  pub AreGroups-push : (gs : List (PlacedGroup T)) (g : PlacedGroup T) → AreGroups rules gs → IsGroup rules g.start (group_content g) → 1 ≤ length (flat (group_content g).chunks) → AreGroups rules (gs ++ g ∷ [])
   AreGroups-push [] g h k some = ((k, some), tt)
   AreGroups-push (q ∷ gs) g h k some = (h.0, AreGroups-push gs g h.1 k some)
 
-  pub group-at : (gs : List (PlacedGroup T)) (i : ℕ) (g : PlacedGroup T) → i < length gs → g ≡ get_or gs i g → AreGroups rules gs → IsGroup rules g.start g.group.value × (1 ≤ length (flat g.group.value.chunks.items))
+  pub group-at : (gs : List (PlacedGroup T)) (i : ℕ) (g : PlacedGroup T) → i < length gs → g ≡ get_or gs i g → AreGroups rules gs → IsGroup rules g.start (group_content g) × (1 ≤ length (flat (group_content g).chunks))
   group-at [] i g l e h = absurd (omega arith)
-  group-at (q ∷ gs) zero g l e h = subst (λ (x : PlacedGroup T). IsGroup rules x.start x.group.value × (1 ≤ length (flat x.group.value.chunks.items))) (sym e) h.0
+  group-at (q ∷ gs) zero g l e h = subst (λ (x : PlacedGroup T). IsGroup rules x.start (group_content x) × (1 ≤ length (flat (group_content x).chunks))) (sym e) h.0
   group-at (q ∷ gs) (suc i) g l e h = group-at gs i g (omega arith) e h.1
 
   pub groups_left : (gs hs : List (PlacedGroup T)) → AreGroups rules (gs ++ hs) → AreGroups rules gs
@@ -195,32 +247,34 @@ module _ {T : Type 0} (rules : RangeRules T) where
   nothing (p ∷ ps) h = absurd (omega (arith, h))
 
   -- a group is opened, where no chunk is left of the one before it, or passed over
-  pub left_open : (base : ℕ) (chunks : List (Placed T)) (groups : List (PlacedGroup T)) (start : ℕ) (group : Rc (Group T) Global) (others : List (PlacedGroup T)) → length chunks ≡ 0 → PlacesFirst rules groups start group others
-      → (map (move base) chunks ++ spread groups ≡ map (move start) group.value.chunks.items ++ spread others) × AreChunks rules (map (move start) group.value.chunks.items)
-  left_open base chunks groups start group others none h = (
-    ap (λ ps. map (move base) ps ++ spread groups) (nothing chunks none) ∙ ap spread h.is,
-    are_opened start group.value h.first,
+  pub left_open : (base grown : ℕ) (chunks : List (Placed T)) (groups : List (PlacedGroup T)) (start : ℕ) (placed : PlacedGroup T) (others : List (PlacedGroup T)) → length chunks ≡ 0 → PlacesFirst rules groups start placed others
+      → (map (move base) (map (lengthen grown) chunks) ++ spread groups ≡ map (move start) (group_content placed).chunks ++ spread others) × AreChunks rules (map (move start) (group_content placed).chunks)
+  left_open base grown chunks groups start placed others none h = (
+    ap (λ ps. map (move base) (map (lengthen grown) ps) ++ spread groups) (nothing chunks none) ∙ ap spread h.is,
+    are_opened start (group_content placed) h.first,
   )
 
-  pub left_passed : (base : ℕ) (chunks : List (Placed T)) (groups : List (PlacedGroup T)) → length chunks ≡ 0 → map (move base) chunks ++ spread groups ≡ spread groups
-  left_passed base chunks groups none = ap (λ ps. map (move base) ps ++ spread groups) (nothing chunks none)
+  pub left_passed : (base grown : ℕ) (chunks : List (Placed T)) (groups : List (PlacedGroup T)) → length chunks ≡ 0 → map (move base) (map (lengthen grown) chunks) ++ spread groups ≡ spread groups
+  left_passed base grown chunks groups none = ap (λ ps. map (move base) (map (lengthen grown) ps) ++ spread groups) (nothing chunks none)
 
-  pub left_next : (base : ℕ) (chunks : List (Placed T)) (groups : List (PlacedGroup T)) (p : Placed T) (ps : List (Placed T)) → chunks ≡ p ∷ ps → AreChunks rules (map (move base) chunks)
-      → (map (move base) chunks ++ spread groups ≡ move base p ∷ (map (move base) ps ++ spread groups)) × (IsChunk rules (p.start + base) (content p) × AreChunks rules (map (move base) ps))
-  left_next base chunks groups p ps some h =
-      let all = subst (λ qs. AreChunks rules (map (move base) qs)) some h in
-      (ap (λ qs. map (move base) qs ++ spread groups) some, (all.0.0, all.1))
+  pub left_next : (base grown : ℕ) (chunks : List (Placed T)) (groups : List (PlacedGroup T)) (p : Placed T) (ps : List (Placed T)) → chunks ≡ p ∷ ps → AreChunks rules (map (move base) (map (lengthen grown) chunks))
+      → (map (move base) (map (lengthen grown) chunks) ++ spread groups ≡ move base (lengthen grown p) ∷ (map (move base) (map (lengthen grown) ps) ++ spread groups))
+      × (IsChunk rules (p.start + base) (content (lengthen grown p)) × AreChunks rules (map (move base) (map (lengthen grown) ps)))
+  left_next base grown chunks groups p ps some h =
+      let all = subst (λ qs. AreChunks rules (map (move base) (map (lengthen grown) qs))) some h in
+      (ap (λ qs. map (move base) (map (lengthen grown) qs) ++ spread groups) some, (all.0.0, all.1))
 
   -- the first of chunks that are left
-  pub next_chunk : (base : ℕ) (chunks : List (Placed T)) (groups : List (PlacedGroup T)) (p : Placed T) (ps : List (Placed T)) → chunks ≡ p ∷ ps → AreChunks rules (map (move base) chunks)
-      → IsNextChunk (map (move base) chunks ++ spread groups) (base + p.start) p (map (move base) ps ++ spread groups)
-  next_chunk base chunks groups p ps some h =
-      let next = left_next base chunks groups p ps some h in
-      let later = map (move base) ps ++ spread groups in
+  pub next_chunk : (base grown : ℕ) (chunks : List (Placed T)) (groups : List (PlacedGroup T)) (p : Placed T) (ps : List (Placed T)) → chunks ≡ p ∷ ps → AreChunks rules (map (move base) (map (lengthen grown) chunks))
+      → IsNextChunk (map (move base) (map (lengthen grown) chunks) ++ spread groups) (base + p.start) (content (lengthen grown p)) (map (move base) (map (lengthen grown) ps) ++ spread groups)
+  next_chunk base grown chunks groups p ps some h =
+      let next = left_next base grown chunks groups p ps some h in
+      let chunk = content (lengthen grown p) in
+      let later = map (move base) (map (lengthen grown) ps) ++ spread groups in
       let n : p.start + base ≡ base + p.start = omega arith in
-      subst (λ qs. IsNextChunk qs (base + p.start) p later) (sym next.0)
-      (subst (λ k. IsNextChunk (move base p ∷ later) k p later) n
-      (record { ranges = refl; fits = fit_chunk rules (p.start + base) (content p) next.1.0; fewer = omega arith }))
+      subst (λ qs. IsNextChunk qs (base + p.start) chunk later) (sym next.0)
+      (subst (λ k. IsNextChunk (move base (lengthen grown p) ∷ later) k chunk later) n
+      (record { ranges = refl; fits = fit_chunk rules (p.start + base) chunk next.1.0; fewer = omega arith }))
 
   -- one more chunk of a group at its place
   pub open_more : (start : ℕ) (ps : List (Placed T)) (i : ℕ) (p : Placed T) → i < length ps → p ≡ get_or ps i p

@@ -3,6 +3,7 @@ pub mod Clear
 pub mod Chunks
 pub mod Whole
 pub mod Groups
+pub mod GroupsAlone
 pub mod Pages
 pub mod WholePages
 pub mod Builders

@@ -2,7 +2,7 @@
 use Rattle.std.proofs.Common.{◌≡◌, ℕ, zero, suc, ◌+◌, ◌^◌, ◌<◌, ◌≤◌, List, [], ◌∷◌, ◌++◌, length, get_or, take, map, refl, sym, ◌∙◌, ap, subst, arith, append_assoc}
 use Rattle.std.proofs.lemmas.List.{append-nil, map-append, length-append, take_more}
 use Rattle.range_set.specs.Rules.{RangeRules}
-use Rattle.range_set.specs.PrivateChunks.{AreGroups, flat, greatest_end, move, shift, spread}
+use Rattle.range_set.specs.PrivateChunks.{AreGroups, flat, greatest_end, group_content, move, shift, spread}
 use Rattle.range_set.specs.PrivatePages.{ArePages, IsPage, further, laid}
 use Rattle.range_set.specs.declared.chunk.Placed.{Placed}
 use Rattle.range_set.specs.declared.group.PlacedGroup.{PlacedGroup}
@@ -21,9 +21,9 @@ module _ {T : Type 0} where
   pub spread-further : (by : ℕ) (gs : List (PlacedGroup T)) → spread (map (further by) gs) ≡ map (move by) (spread gs)
   spread-further by [] = refl
   spread-further by (g ∷ gs) =
-      ap (λ ps. map (move (g.start + by)) g.group.value.chunks.items ++ ps) (spread-further by gs)
-      ∙ (ap (λ ps. ps ++ map (move by) (spread gs)) (sym (move-twice by g.start g.group.value.chunks.items))
-      ∙ sym (map-append (move by) (map (move g.start) g.group.value.chunks.items) (spread gs)))
+      ap (λ ps. map (move (g.start + by)) (group_content g).chunks ++ ps) (spread-further by gs)
+      ∙ (ap (λ ps. ps ++ map (move by) (spread gs)) (sym (move-twice by g.start (group_content g).chunks))
+      ∙ sym (map-append (move by) (map (move g.start) (group_content g).chunks) (spread gs)))
 
   pub flat-further : (by : ℕ) (gs : List (PlacedGroup T)) → flat (spread (map (further by) gs)) ≡ map (shift by) (flat (spread gs))
   flat-further by gs = ap flat (spread-further by gs) ∙ flat-moved by (spread gs)
@@ -69,19 +69,19 @@ module _ {T : Type 0} (rules : RangeRules T) where
   AreGroups-append (g ∷ gs) hs h k = (h.0, AreGroups-append gs hs h.1 k)
 
   -- the hull of a group lies in that of its page
-  pub hull_first : (g : PlacedGroup T) (gs : List (PlacedGroup T)) → AreGroups rules (g ∷ gs) → g.start + g.group.value.reach ≤ greatest_end (flat (spread (g ∷ gs)))
+  pub hull_first : (g : PlacedGroup T) (gs : List (PlacedGroup T)) → AreGroups rules (g ∷ gs) → g.start + (group_content g).reach ≤ greatest_end (flat (spread (g ∷ gs)))
   hull_first g gs h =
-      let a = ap greatest_end (flat-spread g gs) ∙ greatest-append (map (shift g.start) (flat g.group.value.chunks.items)) (flat (spread gs)) in
-      let b = greatest_shifted g.start (flat g.group.value.chunks.items) h.0.1 in
+      let a = ap greatest_end (flat-spread g gs) ∙ greatest-append (map (shift g.start) (flat (group_content g).chunks)) (flat (spread gs)) in
+      let b = greatest_shifted g.start (flat (group_content g).chunks) h.0.1 in
       let c = h.0.0.reach in
       omega (arith, a, b, c)
 
   pub hull_others : (g : PlacedGroup T) (gs : List (PlacedGroup T)) → greatest_end (flat (spread gs)) ≤ greatest_end (flat (spread (g ∷ gs)))
-  hull_others g gs = let a = ap greatest_end (flat-spread g gs) ∙ greatest-append (map (shift g.start) (flat g.group.value.chunks.items)) (flat (spread gs)) in omega (arith, a)
+  hull_others g gs = let a = ap greatest_end (flat-spread g gs) ∙ greatest-append (map (shift g.start) (flat (group_content g).chunks)) (flat (spread gs)) in omega (arith, a)
 
-  pub hull_at_group : (gs : List (PlacedGroup T)) (i : ℕ) (g : PlacedGroup T) → i < length gs → g ≡ get_or gs i g → AreGroups rules gs → g.start + g.group.value.reach ≤ greatest_end (flat (spread gs))
+  pub hull_at_group : (gs : List (PlacedGroup T)) (i : ℕ) (g : PlacedGroup T) → i < length gs → g ≡ get_or gs i g → AreGroups rules gs → g.start + (group_content g).reach ≤ greatest_end (flat (spread gs))
   hull_at_group [] i g l e h = absurd (omega arith)
-  hull_at_group (q ∷ gs) zero g l e h = subst (λ (x : PlacedGroup T). x.start + x.group.value.reach ≤ greatest_end (flat (spread (q ∷ gs)))) (sym e) (hull_first q gs h)
+  hull_at_group (q ∷ gs) zero g l e h = subst (λ (x : PlacedGroup T). x.start + (group_content x).reach ≤ greatest_end (flat (spread (q ∷ gs)))) (sym e) (hull_first q gs h)
   hull_at_group (q ∷ gs) (suc i) g l e h = let k = hull_at_group gs i g (omega arith) e h.1 in let o = hull_others q gs in omega (arith, k, o)
 
   -- groups whose ranges end in a document are groups further on
@@ -90,7 +90,7 @@ module _ {T : Type 0} (rules : RangeRules T) where
   groups_further by n (g ∷ gs) h l m =
       let a = hull_first g gs h in
       let b = hull_others g gs in (
-        (group_placed rules g.start (g.start + by) g.group.value h.0.0 (omega (arith, a, l, m)), h.0.1),
+        (group_placed rules g.start (g.start + by) (group_content g) h.0.0 (omega (arith, a, l, m)), h.0.1),
         groups_further by n gs h.1 (omega (arith, b, l)) m,
       )
 
@@ -120,8 +120,8 @@ module _ {T : Type 0} (rules : RangeRules T) where
 
   some_groups : (g : PlacedGroup T) (gs : List (PlacedGroup T)) → AreGroups rules (g ∷ gs) → 1 ≤ length (flat (spread (g ∷ gs)))
   some_groups g gs h =
-      let a = ap length (flat-spread g gs) ∙ length-append (map (shift g.start) (flat g.group.value.chunks.items)) (flat (spread gs)) in
-      let b = length_shifted rules g.start (flat g.group.value.chunks.items) in
+      let a = ap length (flat-spread g gs) ∙ length-append (map (shift g.start) (flat (group_content g).chunks)) (flat (spread gs)) in
+      let b = length_shifted rules g.start (flat (group_content g).chunks) in
       let c = h.0.1 in
       omega (arith, a, b, c)
 

@@ -6,7 +6,7 @@ use Rattle.std.specs.Prelude.{nat_le}
 use Rattle.std.specs.List.{list_any}
 use Rattle.range_set.specs.Rules.{RangeRules}
 use Rattle.range_set.specs.Points.{points_of, stands}
-use Rattle.range_set.specs.PrivateChunks.{ArePassed, Ascend, EndBy, IsChunk, content, flat, shift, spread}
+use Rattle.range_set.specs.PrivateChunks.{ArePassed, Ascend, EndBy, IsChunk, content, flat, group_content, put_at, shift, spread}
 use Rattle.range_set.specs.PrivatePages.{PlacesFirst}
 use Rattle.range_set.specs.Updating.{overlaps}
 use Rattle.std.specs.declared.alloc.Global.{Global}
@@ -89,11 +89,11 @@ module _ {T : Type 0} where
       let e = c.reach in
       passed_hull place p.start (content p).reach old (p ∷ later) later (content p).ranges refl (end_by_greatest (content p).ranges (content p).reach (omega (arith, e))) l h
 
-  pub passed_group : (rules : RangeRules T) (place : ℕ) (old : List (Placed T)) (groups : List (PlacedGroup T)) (start : ℕ) (group : Rc (Group T) Global) (others : List (PlacedGroup T)) → PlacesFirst rules groups start group others
-      → start + group.value.reach < place → ArePassed place old (spread groups) → ArePassed place old (spread others)
-  passed_group rules place old groups start group others c l h =
-      let g : PlacedGroup T = record { start = start; group = group } in
-      passed_hull place start group.value.reach old (spread groups) (spread others) (flat group.value.chunks.items) (ap (λ gs. flat (spread gs)) c.is ∙ flat-spread g others) (group_ends rules start group.value c.first) l h
+  pub passed_group : (rules : RangeRules T) (place : ℕ) (old : List (Placed T)) (groups : List (PlacedGroup T)) (start : ℕ) (placed : PlacedGroup T) (others : List (PlacedGroup T)) → PlacesFirst rules groups start placed others
+      → start + (group_content placed).reach < place → ArePassed place old (spread groups) → ArePassed place old (spread others)
+  passed_group rules place old groups start placed others c l h =
+      let g : PlacedGroup T = put_at start placed in
+      passed_hull place start (group_content placed).reach old (spread groups) (spread others) (flat (group_content placed).chunks) (ap (λ gs. flat (spread gs)) c.is ∙ flat-spread g others) (group_ends rules start (group_content placed) c.first) l h
 
   pub passed_both : (place : ℕ) (old here later : List (Placed T)) → ArePassed place old here → ArePassed place here later → ArePassed place old later
   passed_both place old here later h k = record {
@@ -123,11 +123,11 @@ module _ {T : Type 0} (rules : RangeRules T) where
   pub no_point_chunk : (old : List (Placed T)) (p : Placed T) (later : List (Placed T)) → IsChunk rules p.start (content p) → (content p).has_point ≡ false → HaveNoPoint old (p ∷ later) → HaveNoPoint old later
   no_point_chunk old p later c e h = no_point_hull p.start old (p ∷ later) later (content p).ranges refl (sym c.points ∙ e) h
 
-  pub no_point_group : (old : List (Placed T)) (groups : List (PlacedGroup T)) (start : ℕ) (group : Rc (Group T) Global) (others : List (PlacedGroup T)) → PlacesFirst rules groups start group others
-      → group.value.has_point ≡ false → HaveNoPoint old (spread groups) → HaveNoPoint old (spread others)
-  no_point_group old groups start group others c e h =
-      let g : PlacedGroup T = record { start = start; group = group } in
-      no_point_hull start old (spread groups) (spread others) (flat group.value.chunks.items) (ap (λ gs. flat (spread gs)) c.is ∙ flat-spread g others) (sym c.first.points ∙ e) h
+  pub no_point_group : (old : List (Placed T)) (groups : List (PlacedGroup T)) (start : ℕ) (placed : PlacedGroup T) (others : List (PlacedGroup T)) → PlacesFirst rules groups start placed others
+      → (group_content placed).has_point ≡ false → HaveNoPoint old (spread groups) → HaveNoPoint old (spread others)
+  no_point_group old groups start placed others c e h =
+      let g : PlacedGroup T = put_at start placed in
+      no_point_hull start old (spread groups) (spread others) (flat (group_content placed).chunks) (ap (λ gs. flat (spread gs)) c.is ∙ flat-spread g others) (sym c.first.points ∙ e) h
 
   pub no_point_both : (old here later : List (Placed T)) → HaveNoPoint old here → HaveNoPoint here later → HaveNoPoint old later
   no_point_both old here later h k = record {

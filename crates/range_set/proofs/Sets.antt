@@ -13,7 +13,7 @@ use Rattle.stable_order.specs.StableSort.{insert_by, stable_sort}
 use Rattle.range_set.specs.Rules.{RangeRules}
 use Rattle.range_set.specs.Order.{AllForward, before}
 use Rattle.range_set.specs.Mapping.{Ends, EndWithin, ends_unless_turned, map_ranges, moved, new_ends, place_of, point_ends, span_ends}
-use Rattle.range_set.specs.PrivateChunks.{AreChunks, AreGroups, EndBy, Fit, content, flat, greatest_end, grow, shift, spread}
+use Rattle.range_set.specs.PrivateChunks.{AreChunks, AreGroups, EndBy, Fit, content, flat, greatest_end, group_content, lengthen, grow, shift, spread}
 use Rattle.range_set.specs.PrivatePages.{ArePages, further, laid}
 use Rattle.range_set.specs.declared.ranged.Ranged.{Ranged}
 use Rattle.range_set.specs.declared.chunk.Placed.{Placed}
@@ -139,6 +139,10 @@ pub last_grown : {T : Type 0} (by : ℕ) (rs : List (Ranged T)) (r : Ranged T) �
 last_grown by rs r h =
     ap (λ n. slice_get (map (grow by) rs) (n - 1)) (length-map rs (grow by)) ∙ (slice_get-map (grow by) rs (length rs - 1) ∙ ap (option_map (grow by)) h)
 
+pub last_lengthened : {T : Type 0} (by : ℕ) (ps : List (Placed T)) (p : Placed T) → slice_get ps (length ps - 1) ≡ Some p → slice_get (map (lengthen by) ps) (length (map (lengthen by) ps) - 1) ≡ Some (lengthen by p)
+last_lengthened by ps p h =
+    ap (λ n. slice_get (map (lengthen by) ps) (n - 1)) (length-map ps (lengthen by)) ∙ (slice_get-map (lengthen by) ps (length ps - 1) ∙ ap (option_map (lengthen by)) h)
+
 last_append : {X : Type 0} (xs ys : List X) → 1 ≤ length ys → slice_get (xs ++ ys) (length (xs ++ ys) - 1) ≡ slice_get ys (length ys - 1)
 last_append [] ys h = refl
 last_append (x ∷ xs) ys h =
@@ -167,11 +171,11 @@ module _ {T : Type 0} (rules : RangeRules T) where
 
   -- the last range of some groups
   last_spread : (gs : List (PlacedGroup T)) (g : PlacedGroup T) (o : Option (Ranged T)) → AreGroups rules gs → slice_get gs (length gs - 1) ≡ Some g
-      → o ≡ slice_get (map (shift g.start) (flat g.group.value.chunks.items)) (length (flat g.group.value.chunks.items) - 1) → o ≡ slice_get (flat (spread gs)) (length (flat (spread gs)) - 1)
+      → o ≡ slice_get (map (shift g.start) (flat (group_content g).chunks)) (length (flat (group_content g).chunks) - 1) → o ≡ slice_get (flat (spread gs)) (length (flat (spread gs)) - 1)
   last_spread [] g o h e f = cc
   last_spread (q ∷ []) g o h e f =
       let same : q ≡ g = cc in
-      let ranges = flat g.group.value.chunks.items in
+      let ranges = flat (group_content g).chunks in
       let n = length_shifted rules g.start ranges in
       f ∙ (ap (λ k. slice_get (map (shift g.start) ranges) (k - 1)) (sym n)
       ∙ (ap (λ xs. slice_get xs (length xs - 1)) (sym (append-nil (map (shift g.start) ranges)) ∙ sym (flat-spread g []))
@@ -179,12 +183,12 @@ module _ {T : Type 0} (rules : RangeRules T) where
   last_spread (q ∷ q' ∷ gs) g o h e f =
       let n : length (q ∷ q' ∷ gs) - 1 ≡ suc (length (q' ∷ gs) - 1) = omega arith in
       let some : 1 ≤ length (flat (spread (q' ∷ gs))) =
-      let a = ap length (flat-spread q' gs) ∙ length-append (map (shift q'.start) (flat q'.group.value.chunks.items)) (flat (spread gs)) in
-      let b = length_shifted rules q'.start (flat q'.group.value.chunks.items) in
+      let a = ap length (flat-spread q' gs) ∙ length-append (map (shift q'.start) (flat (group_content q').chunks)) (flat (spread gs)) in
+      let b = length_shifted rules q'.start (flat (group_content q').chunks) in
       let c = h.1.0.1 in
       omega (arith, a, b, c) in
       last_spread (q' ∷ gs) g o h.1 (ap (slice_get (q ∷ q' ∷ gs)) (sym n) ∙ e) f
-      ∙ (sym (last_append (map (shift q.start) (flat q.group.value.chunks.items)) (flat (spread (q' ∷ gs))) some)
+      ∙ (sym (last_append (map (shift q.start) (flat (group_content q).chunks)) (flat (spread (q' ∷ gs))) some)
       ∙ ap (λ xs. slice_get xs (length xs - 1)) (sym (flat-spread q (q' ∷ gs))))
 
   -- the last range of some pages
@@ -211,7 +215,7 @@ module _ {T : Type 0} (rules : RangeRules T) where
   -- it is the last one of the last group of the last page
   pub last_paged : (ps : List (PlacedPage T)) (p : PlacedPage T) (g : PlacedGroup T) (o : Option (Ranged T)) → ArePages rules ps → slice_get ps (length ps - 1) ≡ Some p
       → slice_get p.page.value.groups.items (length p.page.value.groups.items - 1) ≡ Some g
-      → o ≡ slice_get (map (shift (p.start + g.start)) (flat g.group.value.chunks.items)) (length (flat g.group.value.chunks.items) - 1) → o ≡ slice_get (flat (spread (laid ps))) (length (flat (spread (laid ps))) - 1)
+      → o ≡ slice_get (map (shift (p.start + g.start)) (flat (group_content g).chunks)) (length (flat (group_content g).chunks) - 1) → o ≡ slice_get (flat (spread (laid ps))) (length (flat (spread (laid ps))) - 1)
   last_paged ps p g o h e k f =
       let place = last_place ps p e in
       let page = (page-at rules ps (length ps - 1) p place.0 place.1 h).0 in
@@ -220,11 +224,11 @@ module _ {T : Type 0} (rules : RangeRules T) where
       let at : slice_get (map (further p.start) gs) (length (map (further p.start) gs) - 1) ≡ Some (further p.start g) =
       ap (λ n. slice_get (map (further p.start) gs) (n - 1)) (length-map gs (further p.start)) ∙ (slice_get-map (further p.start) gs (length gs - 1) ∙ ap (option_map (further p.start)) k) in
       last_laid ps p o h e (last_spread (map (further p.start) gs) (further p.start g) o (page_opened rules p.start p.page.value page) at
-      (f ∙ ap (λ n. slice_get (map (shift n) (flat g.group.value.chunks.items)) (length (flat g.group.value.chunks.items) - 1)) m))
+      (f ∙ ap (λ n. slice_get (map (shift n) (flat (group_content g).chunks)) (length (flat (group_content g).chunks) - 1)) m))
 
   -- the last group of the last page counts from a place in the document
   pub last_group : (ps : List (PlacedPage T)) (p : PlacedPage T) (g : PlacedGroup T) → ArePages rules ps → slice_get ps (length ps - 1) ≡ Some p → slice_get p.page.value.groups.items (length p.page.value.groups.items - 1) ≡ Some g
-      → AreChunks rules g.group.value.chunks.items × (p.start + g.start + greatest_end (flat g.group.value.chunks.items) < 2 ^ 32)
+      → AreChunks rules (group_content g).chunks × (p.start + g.start + greatest_end (flat (group_content g).chunks) < 2 ^ 32)
   last_group ps p g h e k =
       let place = last_place ps p e in
       let page = (page-at rules ps (length ps - 1) p place.0 place.1 h).0 in

@@ -217,23 +217,23 @@ module _ {T : Type 0} (rules : RangeRules T) (d : Sections) where
       }
 
   -- a chunk of one range whose start no change meets
-  alone_clear : (start : ℕ) (c : Content T) (q : Placed T) (h : IsMovedAlone rules d start c q) → Within (old_size d) (map (shift start) c.ranges) → AreClear rules d (λ r. h.image.to) (shift start h.range ∷ [])
+  alone_clear : (start : ℕ) (c : Content T) (q : Placed T) (h : IsMovedAlone rules d start c q.start (content q)) → Within (old_size d) (map (shift start) c.ranges) → AreClear rules d (λ r. h.image.to) (shift start h.range ∷ [])
   alone_clear start c q h w =
       let x = shift start h.range in
       let inside = (subst (λ rs. Within (old_size d) (map (shift start) rs)) h.one w).0.0 in
       ((h.clear, inside, h.moves ∙ ap Some (image_is rules d x h.image h.clear inside h.moves)), tt)
 
-  alone_under : (whole : List (Ranged T)) (p q : Placed T) (rest : List (Placed T)) (done run : List (Ranged T)) (h : IsMovedAlone rules d p.start (content p) q) → IsUnder rules d whole done run (flat (p ∷ rest)) → IsUnder rules d whole done run ((shift p.start h.range ∷ []) ++ flat rest)
+  alone_under : (whole : List (Ranged T)) (p q : Placed T) (rest : List (Placed T)) (done run : List (Ranged T)) (h : IsMovedAlone rules d p.start (content p) q.start (content q)) → IsUnder rules d whole done run (flat (p ∷ rest)) → IsUnder rules d whole done run ((shift p.start h.range ∷ []) ++ flat rest)
   alone_under whole p q rest done run h u = subst (λ rs. IsUnder rules d whole done run (map (shift p.start) rs ++ flat rest)) h.one u
 
-  pub alone_order : (whole : List (Ranged T)) (p q : Placed T) (rest : List (Placed T)) (done run : List (Ranged T)) (reached : ℕ) (reps : List ChangedRange) → IsWalked whole (p ∷ rest) done run reached reps → IsMovedAlone rules d p.start (content p) q
+  pub alone_order : (whole : List (Ranged T)) (p q : Placed T) (rest : List (Placed T)) (done run : List (Ranged T)) (reached : ℕ) (reps : List ChangedRange) → IsWalked whole (p ∷ rest) done run reached reps → IsMovedAlone rules d p.start (content p) q.start (content q)
       → Ascend 0 (done ++ stable_sort (before rules) run)
   alone_order whole p q rest done run reached reps h k =
       under_order rules d (λ r. k.image.to) whole done run (shift p.start k.range ∷ []) (flat rest) (alone_under whole p q rest done run k h.under) (omega arith)
       (alone_clear p.start (content p) q k (within_prefix (old_size d) (map (shift p.start) (content p).ranges) (flat rest) h.within)) (start_in (flat rest) (within_rest (old_size d) (map (shift p.start) (content p).ranges) (flat rest) h.within))
 
   pub walked_alone : (whole : List (Ranged T)) (p q : Placed T) (rest : List (Placed T)) (done run more : List (Ranged T)) (reached : ℕ) (reps after : List ChangedRange) → IsWalked whole (p ∷ rest) done run reached reps
-      → ((a b : ℕ) → p.start ≤ a → list_any (meets a b) after ≡ list_any (meets a b) reps) → IsMovedAlone rules d p.start (content p) q
+      → ((a b : ℕ) → p.start ≤ a → list_any (meets a b) after ≡ list_any (meets a b) reps) → IsMovedAlone rules d p.start (content p) q.start (content q)
       → more ≡ done ++ stable_sort (before rules) run ++ map (shift q.start) (content q).ranges
       → IsWalked whole rest more [] p.start after
   walked_alone whole p q rest done run more reached reps after h f k e =

@@ -8,7 +8,7 @@ use Rattle.change_desc.specs.declared.changed_range.ChangedRange.{ChangedRange}
 use Rattle.stable_order.specs.StableSort.{stable_sort}
 use Rattle.range_set.specs.Rules.{RangeRules}
 use Rattle.range_set.specs.Order.{before}
-use Rattle.range_set.specs.PrivateChunks.{AllApart, AllChunksApart, AreChunks, AreGroups, Ascend, FitCarried, FitCarriedChunks, IsGroup, carry, carry_chunk, content, first_start, flat, move, shift, spread}
+use Rattle.range_set.specs.PrivateChunks.{AllApart, AllChunksApart, AreChunks, AreGroups, Ascend, FitCarried, FitCarriedChunks, IsGroup, carry, carry_chunk, content, first_start, flat, group_content, move, shift, spread}
 use Rattle.range_set.specs.declared.ranged.Ranged.{Ranged}
 use Rattle.range_set.specs.declared.chunk.Placed.{Placed}
 use Rattle.range_set.specs.declared.group.PlacedGroup.{PlacedGroup}
@@ -64,9 +64,9 @@ module _ {T : Type 0} (rules : RangeRules T) (d : Sections) where
   are_left (p ∷ ps) qs h = are_left ps qs h.1
 
   -- the chunks from a group on begin by each place that isn't before it
-  pub starts_at : (g : PlacedGroup T) (others : List (PlacedGroup T)) (a : ℕ) → IsGroup rules g.start g.group.value → 1 ≤ length (flat g.group.value.chunks.items) → g.start ≤ a → StartsBy a (spread (g ∷ others))
+  pub starts_at : (g : PlacedGroup T) (others : List (PlacedGroup T)) (a : ℕ) → IsGroup rules g.start (group_content g) → 1 ≤ length (flat (group_content g).chunks) → g.start ≤ a → StartsBy a (spread (g ∷ others))
   starts_at g others a group some m =
-      starts_more g.start a (map (move g.start) g.group.value.chunks.items) (spread others) m (group_first g.start g.group.value.chunks.items (spread others) group.chunks some group.first)
+      starts_more g.start a (map (move g.start) (group_content g).chunks) (spread others) m (group_first g.start (group_content g).chunks (spread others) group.chunks some group.first)
 
   -- what comes after the next chunks or groups begins no earlier than they
   skipped : (n start a : ℕ) (rs : List (Ranged T)) (ps : List (Placed T)) → AreChunks rules ps → 1 ≤ length rs → first_start rs ≡ 0 → Ascend n (map (shift start) rs ++ flat ps) → StartsBy a ps → start ≤ a
@@ -78,40 +78,40 @@ module _ {T : Type 0} (rules : RangeRules T) (d : Sections) where
       at (q ∷ qs) some f k = omega (arith, k.0, f, s)
 
   -- a group is opened
-  pub walked_open : (whole : List (Ranged T)) (g : PlacedGroup T) (others : List (PlacedGroup T)) (done run : List (Ranged T)) (reached : ℕ) (reps after : List ChangedRange) → 1 ≤ length (flat g.group.value.chunks.items)
+  pub walked_open : (whole : List (Ranged T)) (g : PlacedGroup T) (others : List (PlacedGroup T)) (done run : List (Ranged T)) (reached : ℕ) (reps after : List ChangedRange) → 1 ≤ length (flat (group_content g).chunks)
       → ((a b : ℕ) → g.start ≤ a → list_any (meets a b) after ≡ list_any (meets a b) reps) → IsWalked rules d whole (spread (g ∷ others)) done run reached reps
-      → IsWalked rules d whole (map (move g.start) g.group.value.chunks.items ++ spread others) done run reached after
+      → IsWalked rules d whole (map (move g.start) (group_content g).chunks ++ spread others) done run reached after
   walked_open whole g others done run reached reps after some f h = record {
     under = h.under;
     chunks = h.chunks;
     within = h.within;
     ascend = h.ascend;
-    same = λ a b s. f a b (group_before g.start a g.group.value.chunks.items (spread others) some s) ∙ h.same a b s;
+    same = λ a b s. f a b (group_before g.start a (group_content g).chunks (spread others) some s) ∙ h.same a b s;
   }
 
   -- What a group that no change affects gives.
   pub record IsClearGroup (whole : List (Ranged T)) (g : PlacedGroup T) (done run : List (Ranged T)) (reached : ℕ) : Type 0 where
-    pub hull : IsClearHull rules d g.start g.group.value.reach (flat g.group.value.chunks.items)
+    pub hull : IsClearHull rules d g.start (group_content g).reach (flat (group_content g).chunks)
     pub ascend : reached ≤ g.start
     pub order : Ascend 0 (done ++ stable_sort (before rules) run)
-    pub room : length done + length run + length (flat g.group.value.chunks.items) ≤ length whole
+    pub room : length done + length run + length (flat (group_content g).chunks) ≤ length whole
 
   pub clear_group : (whole : List (Ranged T)) (g : PlacedGroup T) (others : List (PlacedGroup T)) (done run : List (Ranged T)) (reached : ℕ) (reps after : List ChangedRange) → AreGroups rules (g ∷ others)
       → ((a b : ℕ) → g.start ≤ a → list_any (meets a b) after ≡ list_any (meets a b) reps) → IsWalked rules d whole (spread (g ∷ others)) done run reached reps
-      → (g.group.value.is_turned || list_any (meets g.start (g.start + g.group.value.reach)) after) ≡ false → IsClearGroup whole g done run reached
+      → ((group_content g).is_turned || list_any (meets g.start (g.start + (group_content g).reach)) after) ≡ false → IsClearGroup whole g done run reached
   clear_group whole g others done run reached reps after h f w none =
       let group = h.0 in
-      let ranges = flat g.group.value.chunks.items in
+      let ranges = flat (group_content g).chunks in
       let later = flat (spread others) in
       let is = flat-spread g others in
       let inside = subst (Within (old_size d)) is w.within in
       let order = subst (Ascend reached) is w.ascend in
       let under = subst (λ rs. IsUnder rules d whole done run rs) is w.under in
-      let first = group_first g.start g.group.value.chunks.items (spread others) group.0.chunks group.1 group.0.first in
-      let met : list_any (meets g.start (g.start + g.group.value.reach)) (replaced d) ≡ false =
-      sym (w.same g.start _ first) ∙ (sym (f g.start _ (omega arith)) ∙ or_right g.group.value.is_turned _ none) in
-      let turned = sym group.0.turned ∙ or_left g.group.value.is_turned (list_any (meets g.start (g.start + g.group.value.reach)) after) none in
-      let hull = clear_hull rules d g.start g.group.value.reach ranges group.1 (flat_forward rules g.group.value.chunks.items group.0.chunks) group.0.reach turned met (within_prefix (old_size d) (map (shift g.start) ranges) later inside) in
+      let first = group_first g.start (group_content g).chunks (spread others) group.0.chunks group.1 group.0.first in
+      let met : list_any (meets g.start (g.start + (group_content g).reach)) (replaced d) ≡ false =
+      sym (w.same g.start _ first) ∙ (sym (f g.start _ (omega arith)) ∙ or_right (group_content g).is_turned _ none) in
+      let turned = sym group.0.turned ∙ or_left (group_content g).is_turned (list_any (meets g.start (g.start + (group_content g).reach)) after) none in
+      let hull = clear_hull rules d g.start (group_content g).reach ranges group.1 (flat_forward rules (group_content g).chunks group.0.chunks) group.0.reach turned met (within_prefix (old_size d) (map (shift g.start) ranges) later inside) in
       let n = length_shifted rules g.start ranges in
       let some : 0 < length (map (shift g.start) ranges) = let m = group.1 in omega (arith, n, m) in
       record {
@@ -123,11 +123,11 @@ module _ {T : Type 0} (rules : RangeRules T) (d : Sections) where
 
   pub walked_group : (whole : List (Ranged T)) (g : PlacedGroup T) (others : List (PlacedGroup T)) (done run more : List (Ranged T)) (reached : ℕ) (reps after : List ChangedRange) → AreGroups rules (g ∷ others)
       → ((a b : ℕ) → g.start ≤ a → list_any (meets a b) after ≡ list_any (meets a b) reps) → IsWalked rules d whole (spread (g ∷ others)) done run reached reps
-      → IsClearGroup whole g done run reached → more ≡ done ++ stable_sort (before rules) run ++ map (shift (clear_place d g.start)) (flat g.group.value.chunks.items)
+      → IsClearGroup whole g done run reached → more ≡ done ++ stable_sort (before rules) run ++ map (shift (clear_place d g.start)) (flat (group_content g).chunks)
       → IsWalked rules d whole (spread others) more [] g.start after
   walked_group whole g others done run more reached reps after h f w k m =
       let group = h.0 in
-      let ranges = flat g.group.value.chunks.items in
+      let ranges = flat (group_content g).chunks in
       let next = spread others in
       let later = flat next in
       let is = flat-spread g others in
@@ -135,8 +135,8 @@ module _ {T : Type 0} (rules : RangeRules T) (d : Sections) where
       let order = subst (Ascend reached) is w.ascend in
       let n = length_shifted rules g.start ranges in
       let some : 0 < length (map (shift g.start) ranges) = let s = group.1 in omega (arith, n, s) in
-      let chunks = are_left (map (move g.start) g.group.value.chunks.items) next w.chunks in
-      let first = group_first g.start g.group.value.chunks.items next group.0.chunks group.1 group.0.first in
+      let chunks = are_left (map (move g.start) (group_content g).chunks) next w.chunks in
+      let first = group_first g.start (group_content g).chunks next group.0.chunks group.1 group.0.first in
       record {
         under = under_clear rules d (λ r. clear_place d r.to) whole done run (map (shift g.start) ranges) later more (subst (λ rs. IsUnder rules d whole done run rs) is w.under) some k.hull.each (start_in rules d later inside)
             (m ∙ ap (λ xs. done ++ stable_sort (before rules) run ++ xs) (sym k.hull.images));
@@ -145,7 +145,7 @@ module _ {T : Type 0} (rules : RangeRules T) (d : Sections) where
         ascend = (ascend_hull reached g.start ranges later group.1 group.0.first order).1;
         same = λ a b s.
             let at = skipped reached g.start a ranges next chunks group.1 group.0.first order s in
-            f a b at ∙ w.same a b (starts_more g.start a (map (move g.start) g.group.value.chunks.items) next at first);
+            f a b at ∙ w.same a b (starts_more g.start a (map (move g.start) (group_content g).chunks) next at first);
       }
 
   -- Groups that are carried as far as the place from, up to whose ends no change is met, are walked.
@@ -154,15 +154,15 @@ module _ {T : Type 0} (rules : RangeRules T) (d : Sections) where
       → more ≡ done ++ flat (spread (map (carry from (clear_place d from)) gs)) → IsWalked rules d whole (spread others) more [] reached reps
   walked_carried whole from [] others done more reached reps h l w asc f apart e = subst (λ rs. IsWalked rules d whole (spread others) rs [] reached reps) (sym (e ∙ append-nil done)) w
   walked_carried whole from (g ∷ gs) others done more reached reps h l w asc f apart e =
-      let ranges = flat g.group.value.chunks.items in
+      let ranges = flat (group_content g).chunks in
       let rest = gs ++ others in
       let hull = ascend_hull from g.start ranges (flat (spread rest)) h.0.1 h.0.0.first (subst (Ascend from) (flat-spread g rest) asc) in
-      let met : IsClear from (g.start + g.group.value.reach) d = sym (f (g.start + g.group.value.reach)) ∙ apart.0.1 in
-      let here : IsClear from g.start d = none-narrow from (g.start + g.group.value.reach) from g.start (replaced d) (omega arith) (omega arith) met in
+      let met : IsClear from (g.start + (group_content g).reach) d = sym (f (g.start + (group_content g).reach)) ∙ apart.0.1 in
+      let here : IsClear from g.start d = none-narrow from (g.start + (group_content g).reach) from g.start (replaced d) (omega arith) (omega arith) met in
       let first = starts_at g rest g.start h.0.0 h.0.1 (omega arith) in
-      let narrow : list_any (meets g.start (g.start + g.group.value.reach)) reps ≡ false =
-      w.same g.start _ first ∙ none-narrow from (g.start + g.group.value.reach) g.start (g.start + g.group.value.reach) (replaced d) hull.0 (omega arith) met in
-      let none : (g.group.value.is_turned || list_any (meets g.start (g.start + g.group.value.reach)) reps) ≡ false = ap (λ b. b || list_any (meets g.start (g.start + g.group.value.reach)) reps) apart.0.0 ∙ narrow in
+      let narrow : list_any (meets g.start (g.start + (group_content g).reach)) reps ≡ false =
+      w.same g.start _ first ∙ none-narrow from (g.start + (group_content g).reach) g.start (g.start + (group_content g).reach) (replaced d) hull.0 (omega arith) met in
+      let none : ((group_content g).is_turned || list_any (meets g.start (g.start + (group_content g).reach)) reps) ≡ false = ap (λ b. b || list_any (meets g.start (g.start + (group_content g).reach)) reps) apart.0.0 ∙ narrow in
       let clear = clear_group whole g rest done [] reached reps reps h (λ a b s. refl) w none in
       let place : clear_place d g.start ≡ g.start - from + clear_place d from = let k = clear_apart d from g.start hull.0 here in omega (arith, k) in
       let put = map (shift (g.start - from + clear_place d from)) ranges in
@@ -176,9 +176,9 @@ module _ {T : Type 0} (rules : RangeRules T) (d : Sections) where
       → ((b : ℕ) → list_any (meets from b) changed ≡ list_any (meets from b) (replaced d)) → new_size counted d < 2 ^ 32 → FitCarried from (clear_place d from) changed gs
   carried_fit from changed [] h asc w f size = tt
   carried_fit from changed (g ∷ gs) h asc w f size =
-      let ranges = flat g.group.value.chunks.items in
+      let ranges = flat (group_content g).chunks in
       let later = flat (spread gs) in
-      let end = g.start + g.group.value.reach in
+      let end = g.start + (group_content g).reach in
       let hull = ascend_hull from g.start ranges later h.0.1 h.0.0.first (subst (Ascend from) (flat-spread g gs) asc) in
       let inside = subst (Within (old_size d)) (flat-spread g gs) w in
       let last = hull_within rules d (old_size d) g.start ranges h.0.1 (within_prefix (old_size d) (map (shift g.start) ranges) later inside) in
@@ -195,7 +195,7 @@ module _ {T : Type 0} (rules : RangeRules T) (d : Sections) where
   carried_still : (gs : List (PlacedGroup T)) (reps : List ChangedRange) → reps ≡ replaced d → AllApart 0 reps gs → map (carry 0 (clear_place d 0)) gs ≡ map (carry 0 0) gs
   carried_still [] reps e apart = refl
   carried_still (g ∷ gs) reps e apart =
-      let end = g.start + g.group.value.reach in
+      let end = g.start + (group_content g).reach in
       let met : IsClear 0 end d = sym (ap (list_any (meets 0 end)) e) ∙ apart.0.1 in
       ap (λ n. map (carry 0 n) (g ∷ gs)) (clear_start 0 0 d (none-narrow 0 end 0 0 (replaced d) (omega arith) (omega arith) met))
 
@@ -259,8 +259,8 @@ module _ {T : Type 0} (rules : RangeRules T) (d : Sections) where
   allowance_less ps qs = let k = allowance-append ps qs in omega (arith, k)
 
   -- a group's share of how many ranges are mapped by themselves at most
-  pub allowance_group : (g : PlacedGroup T) (others : List (PlacedGroup T)) → allowance rules d (spread (g ∷ others)) ≡ allowance rules d (map (move g.start) g.group.value.chunks.items) + allowance rules d (spread others)
-  allowance_group g others = allowance-append (map (move g.start) g.group.value.chunks.items) (spread others)
+  pub allowance_group : (g : PlacedGroup T) (others : List (PlacedGroup T)) → allowance rules d (spread (g ∷ others)) ≡ allowance rules d (map (move g.start) (group_content g).chunks) + allowance rules d (spread others)
+  allowance_group g others = allowance-append (map (move g.start) (group_content g).chunks) (spread others)
 
   -- groups that are passed leave no more to be mapped
   pub allowance_passed : (gs others : List (PlacedGroup T)) → allowance rules d (spread others) ≤ allowance rules d (spread (gs ++ others))

@@ -6,10 +6,9 @@ use Rattle.std.specs.List.{list_any}
 use Rattle.range_set.specs.Rules.{RangeRules}
 use Rattle.range_set.specs.Mapping.{is_turned}
 use Rattle.range_set.specs.Points.{stands}
-use Rattle.range_set.specs.PrivateChunks.{AreChunks, Ascend, IsChunk, IsGroup, content, first_start, flat, greatest_end, move, shift}
+use Rattle.range_set.specs.PrivateChunks.{AreChunks, Ascend, GroupContent, IsChunk, IsGroup, content, first_start, flat, greatest_end, move, shift}
 use Rattle.range_set.specs.declared.ranged.Ranged.{Ranged}
 use Rattle.range_set.specs.declared.chunk.Placed.{Placed}
-use Rattle.range_set.specs.declared.group.Group.{Group}
 use Rattle.range_set.proofs.Chunks.{ascend-less, ascend-rest, flat-push, greatest_shifted, length_shifted}
 use Rattle.range_set.proofs.Groups.{chunk_placed, counted_chunk, greatest-append, points_any, turned_any}
 
@@ -130,11 +129,12 @@ module _ {T : Type 0} (rules : RangeRules T) where
       ap (λ q. q ∷ map (move start) (map (counted_chunk rules start) ps)) (placed_back start p k.0)
       ∙ ap (λ qs. p ∷ qs) (chunks_back start ps h.1 (ascend-less start p.start (flat ps) k.0 k.1))
 
-  pub whole_group : (start : ℕ) (group : Group T) (ps : List (Placed T)) → group.chunks.items ≡ map (counted_chunk rules start) ps → length ps ≤ 64 → AreChunks rules ps → first_start (flat ps) ≡ start
+  pub whole_group : (start : ℕ) (group : GroupContent T) (ps : List (Placed T)) → group.grown ≡ 0 → group.chunks ≡ map (counted_chunk rules start) ps → length ps ≤ 64 → AreChunks rules ps → first_start (flat ps) ≡ start
       → group.count ≡ length (flat ps) → group.reach ≡ greatest_end (flat (map (counted_chunk rules start) ps)) → group.is_turned ≡ list_any (is_turned rules) (flat ps) → group.has_point ≡ list_any (stands rules) (flat ps)
       → start + group.reach < 2 ^ 32 → IsGroup rules start group
-  whole_group start group ps e few chunks first count reach turned points fits = record {
+  whole_group start group ps none e few chunks first count reach turned points fits = record {
     few = rw e (let n = length-map ps (counted_chunk rules start) in omega (arith, n, few));
+    single = λ some. absurd (omega (arith, none, some));
     chunks = rw e (counted_chunks start ps chunks);
     first = rw e (counted_first start ps chunks first);
     count = count ∙ (sym (counted_length start ps) ∙ ap (λ qs. length (flat qs)) (sym e));

@@ -22,6 +22,15 @@ pub record Content (T : Type 0) : Type 0 where
   pub is_turned : Bool
   pub has_point : Bool
 
+-- the chunks of a group, which count from its place, by how much their ranges end later than it says, and what it keeps of them
+pub record GroupContent (T : Type 0) : Type 0 where
+  pub grown : ℕ
+  pub chunks : List (Placed T)
+  pub count : ℕ
+  pub reach : ℕ
+  pub is_turned : Bool
+  pub has_point : Bool
+
 module _ {T : Type 0} where
   -- the range further on
   abbrev pub shift : ℕ → Ranged T → Ranged T
@@ -52,10 +61,30 @@ module _ {T : Type 0} where
   abbrev pub move : ℕ → Placed T → Placed T
   move by p = record { start = p.start + by; grown = p.grown; chunk = p.chunk }
 
+  -- the chunk, each of whose ranges ends later by so much more
+  abbrev pub lengthen : ℕ → Placed T → Placed T
+  lengthen by p = record { start = p.start; grown = p.grown + by; chunk = p.chunk }
+
+  -- what a group says of itself
+  abbrev pub group_plain : Group T → GroupContent T
+  group_plain g = record { grown = 0; chunks = g.chunks.items; count = g.count; reach = g.reach; is_turned = g.is_turned; has_point = g.has_point }
+
+  -- what it holds where each of its ranges ends later by so much
+  abbrev pub group_stretch : ℕ → Group T → GroupContent T
+  group_stretch by g = record { grown = by; chunks = map (lengthen by) g.chunks.items; count = g.count; reach = g.reach + by; is_turned = g.is_turned; has_point = g.has_point }
+
+  -- what a group at a place holds
+  abbrev pub group_content : PlacedGroup T → GroupContent T
+  group_content g = group_stretch g.grown g.group.value
+
+  -- the group at another place
+  abbrev pub put_at : ℕ → PlacedGroup T → PlacedGroup T
+  put_at start g = record { start = start; grown = g.grown; group = g.group }
+
   -- the chunks of all groups at their places
   abbrev pub spread : List (PlacedGroup T) → List (Placed T)
   spread [] = []
-  spread (g ∷ gs) = map (move g.start) g.group.value.chunks.items ++ spread gs
+  spread (g ∷ gs) = map (move g.start) (group_content g).chunks ++ spread gs
 
   -- the start of the first range, and the greatest end
   abbrev pub first_start : List (Ranged T) → ℕ
@@ -83,17 +112,17 @@ module _ {T : Type 0} where
 
   -- the group as far on as the place from goes to the place to
   abbrev pub carry : (from to : ℕ) → PlacedGroup T → PlacedGroup T
-  carry from to g = record { start = g.start - from + to; group = g.group }
+  carry from to g = record { start = g.start - from + to; grown = g.grown; group = g.group }
 
   -- none of the groups is turned, and no range meets what is from a place to the end of one of them
   abbrev pub AllApart : (from : ℕ) → List ChangedRange → List (PlacedGroup T) → Type 0
   AllApart from changed [] = Unit {0}
-  AllApart from changed (g ∷ gs) = ((g.group.value.is_turned ≡ false) × (list_any (meets from (g.start + g.group.value.reach)) changed ≡ false)) × AllApart from changed gs
+  AllApart from changed (g ∷ gs) = (((group_content g).is_turned ≡ false) × (list_any (meets from (g.start + (group_content g).reach)) changed ≡ false)) × AllApart from changed gs
 
   -- the groups fit their types as far on as the place from goes to the place to, where no range meets what is between
   abbrev pub FitCarried : (from to : ℕ) → List ChangedRange → List (PlacedGroup T) → Type 0
   FitCarried from to changed [] = Unit {0}
-  FitCarried from to changed (g ∷ gs) = (list_any (meets from (g.start + g.group.value.reach)) changed ≡ false → g.start - from + to + g.group.value.reach < 2 ^ 32) × FitCarried from to changed gs
+  FitCarried from to changed (g ∷ gs) = (list_any (meets from (g.start + (group_content g).reach)) changed ≡ false → g.start - from + to + (group_content g).reach < 2 ^ 32) × FitCarried from to changed gs
 
   -- the first of some groups were put after ranges, as far on as the place from goes to the place to, and the others were left
   pub record AreShared (from to : ℕ) (changed : List ChangedRange) (groups rest : List (PlacedGroup T)) (old new : List (Ranged T)) : Type 0 where
@@ -124,9 +153,9 @@ module _ {T : Type 0} where
     pub ranges : new ≡ old ++ flat (map (carry_chunk from to) taken)
 
   -- a chunk at a place is the first of those that were left
-  pub record IsNextChunk (old : List (Placed T)) (start : ℕ) (placed : Placed T) (new : List (Placed T)) : Type 0 where
-    pub ranges : flat old ≡ map (shift start) (content placed).ranges ++ flat new
-    pub fits : Fit (map (shift start) (content placed).ranges)
+  pub record IsNextChunk (old : List (Placed T)) (start : ℕ) (chunk : Content T) (new : List (Placed T)) : Type 0 where
+    pub ranges : flat old ≡ map (shift start) chunk.ranges ++ flat new
+    pub fits : Fit (map (shift start) chunk.ranges)
     pub fewer : length new < length old
 
   -- equal ranges are taken from the starts of both lists, so that one has none left
@@ -164,21 +193,23 @@ module _ {T : Type 0} (rules : RangeRules T) where
   AreChunks [] = Unit {0}
   AreChunks (p ∷ ps) = (IsChunk p.start (content p) × (1 ≤ length (content p).ranges)) × AreChunks ps
 
-  -- Up to 64 chunks that count from the start of the first of their ranges, with what a group keeps of these.
-  pub record IsGroup (start : ℕ) (group : Group T) : Type 0 where
-    pub few : length group.chunks.items ≤ 64
-    pub chunks : AreChunks group.chunks.items
-    pub first : first_start (flat group.chunks.items) ≡ 0
-    pub count : group.count ≡ length (flat group.chunks.items)
-    pub reach : group.reach ≡ greatest_end (flat group.chunks.items)
-    pub turned : group.is_turned ≡ list_any (is_turned rules) (flat group.chunks.items)
-    pub points : group.has_point ≡ list_any (stands rules) (flat group.chunks.items)
+  -- Up to 64 chunks that count from the start of the first of their ranges, with what a group keeps of these. Its ranges end later than
+  -- it says only where it has no more than one chunk.
+  pub record IsGroup (start : ℕ) (group : GroupContent T) : Type 0 where
+    pub few : length group.chunks ≤ 64
+    pub single : 0 < group.grown → length group.chunks ≤ 1
+    pub chunks : AreChunks group.chunks
+    pub first : first_start (flat group.chunks) ≡ 0
+    pub count : group.count ≡ length (flat group.chunks)
+    pub reach : group.reach ≡ greatest_end (flat group.chunks)
+    pub turned : group.is_turned ≡ list_any (is_turned rules) (flat group.chunks)
+    pub points : group.has_point ≡ list_any (stands rules) (flat group.chunks)
     pub fits : start + group.reach < 2 ^ 32
 
   -- each group is one, and has ranges
   abbrev pub AreGroups : List (PlacedGroup T) → Type 0
   AreGroups [] = Unit {0}
-  AreGroups (g ∷ gs) = (IsGroup g.start g.group.value × (1 ≤ length (flat g.group.value.chunks.items))) × AreGroups gs
+  AreGroups (g ∷ gs) = (IsGroup g.start (group_content g) × (1 ≤ length (flat (group_content g).chunks))) × AreGroups gs
 
   -- groups, and how many ranges they have
   pub record AreGroupsOf (gs : List (PlacedGroup T)) (len : ℕ) : Type 0 where

@@ -6,7 +6,7 @@ use Rattle.change_desc.specs.Places.{place_after}
 use Rattle.change_desc.specs.Ranges.{meets, replaced}
 use Rattle.change_desc.specs.Sections.{old_size}
 use Rattle.range_set.specs.Mapping.{Changes, moved}
-use Rattle.range_set.specs.PrivateChunks.{Content, IsChunk, content, shift}
+use Rattle.range_set.specs.PrivateChunks.{Content, GroupContent, IsChunk, IsGroup, content, shift}
 use Rattle.range_set.specs.Rules.{RangeRules}
 use Rattle.range_set.specs.declared.chunk.Placed.{Placed}
 use Rattle.range_set.specs.declared.clear_walk.ClearPlace.{ClearPlace}
@@ -39,12 +39,21 @@ pub record AreMoved {T : Type 0} (rules : RangeRules T) (d : Changes) (start : �
   pub run : new ≡ old ++ filter_map (moved rules d) (map (shift start) taken)
   pub cost : after + length rest ≤ before + length ranges
 
--- A chunk of one range at a place that no replaced range meets, and the chunk that its range is in after the changes.
-pub record IsMovedAlone {T : Type 0} (rules : RangeRules T) (d : Changes) (start : ℕ) (old : Content T) (new : Placed T) : Type 0 where
+-- A chunk of one range at a place that no replaced range meets, and the chunk at a place that its range is in after the changes.
+pub record IsMovedAlone {T : Type 0} (rules : RangeRules T) (d : Changes) (start : ℕ) (old : Content T) (at : ℕ) (new : Content T) : Type 0 where
   pub range : Ranged T
   pub one : old.ranges ≡ range ∷ []
   pub clear : list_any (meets (range.from + start) (range.from + start)) (replaced d) ≡ false
   pub image : Ranged T
   pub moves : moved rules d (shift start range) ≡ Some image
-  pub images : map (shift new.start) (content new).ranges ≡ image ∷ []
-  pub chunk : IsChunk rules new.start (content new)
+  pub images : map (shift at) new.ranges ≡ image ∷ []
+  pub chunk : IsChunk rules at new
+
+-- A group of one such chunk at a place, and the group that its range is in after the changes.
+pub record IsGroupMovedAlone {T : Type 0} (rules : RangeRules T) (d : Changes) (start : ℕ) (old : GroupContent T) (at : ℕ) (new : GroupContent T) : Type 0 where
+  pub chunk : Placed T
+  pub one : old.chunks ≡ chunk ∷ []
+  pub image : Placed T
+  pub images : new.chunks ≡ image ∷ []
+  pub alone : IsMovedAlone rules d (chunk.start + start) (content chunk) (image.start + at) (content image)
+  pub group : IsGroup rules at new

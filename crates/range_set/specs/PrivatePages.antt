@@ -1,13 +1,10 @@
 -- Pages of groups as one list of groups at their places. Private: contracts of sets see the ranges alone.
 use Rattle.std.specs.Prelude.{◌≡◌, ℕ, ◌+◌, ◌^◌, ◌<◌, ◌≤◌, All, List, [], ◌∷◌, ◌++◌, length, map}
 use Rattle.std.specs.List.{list_any}
-use Rattle.std.specs.declared.alloc.Global.{Global}
-use Rattle.std.specs.declared.rc.Rc.{Rc}
 use Rattle.range_set.specs.Rules.{RangeRules}
 use Rattle.range_set.specs.Mapping.{is_turned}
 use Rattle.range_set.specs.Points.{stands}
-use Rattle.range_set.specs.PrivateChunks.{AreGroups, IsGroup, first_start, flat, greatest_end, spread}
-use Rattle.range_set.specs.declared.group.Group.{Group}
+use Rattle.range_set.specs.PrivateChunks.{AreGroups, IsGroup, first_start, flat, greatest_end, group_content, put_at, spread}
 use Rattle.range_set.specs.declared.group.PlacedGroup.{PlacedGroup}
 use Rattle.range_set.specs.declared.page.Page.{Page}
 use Rattle.range_set.specs.declared.page.PlacedPage.{PlacedPage}
@@ -15,7 +12,7 @@ use Rattle.range_set.specs.declared.page.PlacedPage.{PlacedPage}
 module _ {T : Type 0} where
   -- the group further on
   abbrev pub further : ℕ → PlacedGroup T → PlacedGroup T
-  further by g = record { start = g.start + by; group = g.group }
+  further by g = record { start = g.start + by; grown = g.grown; group = g.group }
 
   -- the groups of all pages at their places
   abbrev pub laid : List (PlacedPage T) → List (PlacedGroup T)
@@ -61,10 +58,10 @@ module _ {T : Type 0} (rules : RangeRules T) where
     pub others : ArePages pages
 
   -- a group at a place is the first of some groups, and others come after it
-  pub record PlacesFirst (groups : List (PlacedGroup T)) (start : ℕ) (group : Rc (Group T) Global) (others : List (PlacedGroup T)) : Type 0 where
-    pub is : (let g : PlacedGroup T = record { start = start; group = group } in groups ≡ g ∷ others)
-    pub first : IsGroup rules start group.value
-    pub some : 1 ≤ length (flat group.value.chunks.items)
+  pub record PlacesFirst (groups : List (PlacedGroup T)) (start : ℕ) (placed : PlacedGroup T) (others : List (PlacedGroup T)) : Type 0 where
+    pub is : groups ≡ put_at start placed ∷ others
+    pub first : IsGroup rules start (group_content placed)
+    pub some : 1 ≤ length (flat (group_content placed).chunks)
 
   -- groups that count from a place are the first of some groups, and those of pages come after them
   pub record PlacesGroups (groups : List (PlacedGroup T)) (base : ℕ) (opened : List (PlacedGroup T)) (pages : List (PlacedPage T)) : Type 0 where
@@ -81,4 +78,4 @@ module _ {T : Type 0} (rules : RangeRules T) where
   -- a group comes next, and begins before a place
   abbrev pub NextBegins : ℕ → List (PlacedGroup T) → Type 0
   NextBegins place [] = ⊥
-  NextBegins place (g ∷ gs) = (g.start < place) × (IsGroup rules g.start g.group.value × (1 ≤ length (flat g.group.value.chunks.items)))
+  NextBegins place (g ∷ gs) = (g.start < place) × (IsGroup rules g.start (group_content g) × (1 ≤ length (flat (group_content g).chunks)))

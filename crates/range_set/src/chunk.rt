@@ -1,4 +1,4 @@
-ghost use Rattle.std.specs.Prelude.{IfOk, IfSome, false, [], map, ℕ, ◌≡◌, ◌≤◌, ◌<◌, ◌^◌, length};
+ghost use Rattle.std.specs.Prelude.{IfOk, IfSome, false, [], map, ℕ, ◌+◌, ◌-◌, ◌≡◌, ◌≤◌, ◌<◌, ◌^◌, length};
 ghost use Rattle.std.specs.List.{list_any};
 ghost use Rattle.change_desc.specs.Meeting.{BeginAfter, EndsAtOrAfter};
 ghost use Rattle.change_desc.specs.Ranges.{meets, replaced};
@@ -6,7 +6,7 @@ ghost use Rattle.change_desc.specs.Sections.{counted, new_size, old_size};
 ghost use Rattle.range_set.specs.Mapping.{EndWithin};
 ghost use Rattle.range_set.specs.PrivateMoving.{IsClearWalk, IsMovedAlone};
 ghost use Rattle.range_set.specs.Order.{AllForward};
-ghost use Rattle.range_set.specs.PrivateChunks.{Ascend, IsChunk, content, first_start, greatest_end, plain, shift, stretch};
+ghost use Rattle.range_set.specs.PrivateChunks.{Ascend, IsChunk, content, first_start, greatest_end, lengthen, plain, shift, stretch};
 
 use crate::clear_walk::ClearWalk;
 use crate::range_value::RangeValue;
@@ -29,7 +29,7 @@ pub(crate) const FEW_RANGES: usize = 12;
 pub(crate) const MAX_SHARED_LEN: u32 = 256;
 
 /// Ranges in order, whose places count from the start of the first. Contracts allow up to 128 of them; a chunk that is made has at most
-/// 32. The range of a chunk of one has no length here: its length stands beside the chunk's place.
+/// 32. The range of a chunk of one has no length here: its length stands beside the place of the chunk or of its group.
 #[derive(Drop)]
 pub(crate) struct Chunk<T> {
     /// Their greatest end as they stand here: the hull of the chunk runs from its place to its place, this and what `Placed` adds.
@@ -47,7 +47,8 @@ pub(crate) struct Chunk<T> {
 pub(crate) struct Placed<T> {
     pub(crate) start: u32,
     /// By how many characters each range ends later than its chunk says: the length of the range of a chunk of one, so that it keeps
-    /// its chunk as it grows and shrinks; 0 in a chunk of more. Contracts ask for neither.
+    /// its chunk as it grows and shrinks; 0 in a chunk of more, and where the length stands beside the group's place. Contracts ask for
+    /// none of this.
     pub(crate) grown: u32,
     pub(crate) chunk: Rc<Chunk<T>>,
 }
@@ -110,30 +111,32 @@ impl<T: RangeValue> Placed<T> {
         ensures clear { IfOk result (λ _. IsClearWalk walk.new) }
         ensures desc { IfOk result (λ _. walk.new.walker.desc ≡ walk.old.walker.desc) }
         ensures reached { IfOk result (λ _. walk.new.walker.reached ≤ start) }
-        ensures moved { IfOk result (λ moved. IfSome moved (IsMovedAlone T.rules walk.old.walker.desc start (content self.now))) }
+        ensures moved { IfOk result (λ moved. IfSome moved (λ new. IsMovedAlone T.rules walk.old.walker.desc start (content self.now) new.start (content new))) }
     {
-        let [only] = self.chunk.ranges.as_slice() else {
+        let Some((from, to)) = ends_alone(start, self.grown, &self.chunk, changed, walk, index)
+        else {
             return Ok(None);
         };
-        // A chunk of one keeps no length, so the end is 0: this is asked so that no contract needs to say it.
-        if only.to != 0 || self.grown == 0 || first_meets(changed, start, start) {
-            return Ok(None);
-        }
-        let end = start + self.grown;
-        let side = only.value.end_side();
-        let Some(to) = index.walk_from(end).map_pos(end, side, MapMode::Simple) else {
-            return Ok(None);
-        };
-        let from = walk.place_after(start, changed);
-        if to.saturating_sub(from) <= MAX_SHARED_LEN {
-            return Ok(None);
-        }
         let chunk = self.chunk.clone()?;
         Ok(Some(Placed {
             start: from,
             grown: to - from,
             chunk,
         }))
+    }
+
+    /// The same chunk at another place, where each range ends later by so much more. `Err`: no further owner can be counted.
+    #[inline(always)]
+    pub(crate) fn lengthened(&self, start: u32, grown: u32) -> Result<Placed<T>, AllocError>
+        requires { self.now.grown + grown < 2 ^ 32 }
+        ensures place { IfOk result (λ placed. placed.start ≡ start) }
+        ensures content { IfOk result (λ placed. content placed ≡ content (lengthen grown self.now)) }
+    {
+        Ok(Placed {
+            start,
+            grown: self.grown + grown,
+            chunk: self.chunk.clone()?,
+        })
     }
 
     /// The greatest end of its ranges, counted from its place.
@@ -189,6 +192,52 @@ impl<T: RangeValue> Chunk<T> {
             _ => 0,
         }
     }
+}
+
+/// The ends to which changes move the only range of a chunk at the place `start` that ends later by `grown`, if no replaced range meets
+/// its start and it is too long there to share a chunk with others; else `None`. No contract says when: it only decides what is shared.
+/// The replaced ranges are given from the first on that doesn't end before the range.
+#[inline(always)]
+pub(crate) fn ends_alone<'a, T: RangeValue>(
+    start: u32,
+    grown: u32,
+    chunk: &Chunk<T>,
+    changed: &'a [ChangedRange],
+    walk: &mut ClearWalk<'a>,
+    index: &PositionIndex,
+) -> Option<(u32, u32)>
+    requires walk { IsClearWalk walk.old }
+    requires index { index.now ≡ walk.old.walker.desc }
+    requires order { BeginAfter 0 changed.now }
+    requires first { EndsAtOrAfter start changed.now }
+    requires same { (a b : ℕ) → start ≤ a → list_any (meets a b) changed.now ≡ list_any (meets a b) (replaced walk.old.walker.desc) }
+    requires room { new_size counted walk.old.walker.desc < 2 ^ 32 }
+    requires chunk { IsChunk T.rules start (stretch grown chunk.now) }
+    requires inside { EndWithin (old_size walk.old.walker.desc) (map (shift start) (stretch grown chunk.now).ranges) }
+    requires ascending { walk.old.walker.reached ≤ start }
+    ensures clear { IsClearWalk walk.new }
+    ensures desc { walk.new.walker.desc ≡ walk.old.walker.desc }
+    ensures reached { walk.new.walker.reached ≤ start }
+    ensures forward { IfSome result (λ ends. ends.0 ≤ ends.1) }
+    ensures moved { IfSome result (λ ends. IsMovedAlone T.rules walk.old.walker.desc start (stretch grown chunk.now) ends.0 (stretch (ends.1 - ends.0) chunk.now)) }
+{
+    let [only] = chunk.ranges.as_slice() else {
+        return None;
+    };
+    // A chunk of one keeps no length, so the end is 0: this is asked so that no contract needs to say it.
+    if only.to != 0 || grown == 0 || first_meets(changed, start, start) {
+        return None;
+    }
+    let end = start + grown;
+    let side = only.value.end_side();
+    let Some(to) = index.walk_from(end).map_pos(end, side, MapMode::Simple) else {
+        return None;
+    };
+    let from = walk.place_after(start, changed);
+    if to.saturating_sub(from) <= MAX_SHARED_LEN {
+        return None;
+    }
+    Some((from, to))
 }
 
 /// Whether a range shares no chunk with others, since it is longer than `MAX_SHARED_LEN`. No contract speaks of this: it only

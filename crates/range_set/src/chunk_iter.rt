@@ -1,9 +1,9 @@
 ghost use Rattle.std.specs.Prelude.{◌++◌, ◌≡◌, ◌≤◌, IfSome, [], None, ℕ, filter, length};
 ghost use Rattle.range_set.specs.Points.{points_of};
-ghost use Rattle.range_set.specs.PrivateChunks.{Ascend, IsNextChunk, flat, spread};
+ghost use Rattle.range_set.specs.PrivateChunks.{Ascend, IsNextChunk, flat, spread, stretch};
 ghost use Rattle.range_set.specs.Updating.{overlaps};
 
-use crate::chunk::Placed;
+use crate::chunk::{Chunk, Placed};
 use crate::group_cursor::GroupCursor;
 use crate::range_value::RangeValue;
 use crate::run::Run;
@@ -14,6 +14,8 @@ use std::marker::Model;
 pub(crate) struct ChunkIter<'a, T: RangeValue> {
     /// The place from which the chunks of the group that was reached count.
     base: u32,
+    /// By how many characters each range of that group ends later than its chunk says.
+    grown: u32,
     chunks: &'a [Placed<T>],
     groups: GroupCursor<'a, T>,
 }
@@ -25,11 +27,11 @@ impl<'a, T: RangeValue> Model for ChunkIter<'a, T> {
     ghost Value = { List (Placed T) };
 
     ghost use Rattle.std.specs.Prelude.{◌++◌, map};
-    ghost use Rattle.range_set.specs.PrivateChunks.{AreChunks, move, spread};
+    ghost use Rattle.range_set.specs.PrivateChunks.{AreChunks, lengthen, move, spread};
 
-    ghost view = { λ s. map (move s.base) s.chunks.now ++ spread s.groups };
+    ghost view = { λ s. map (move s.base) (map (lengthen s.grown) s.chunks.now) ++ spread s.groups };
 
-    ghost invariant = { λ s. AreChunks T.rules (map (move s.base) s.chunks.now) };
+    ghost invariant = { λ s. AreChunks T.rules (map (move s.base) (map (lengthen s.grown) s.chunks.now)) };
 }
 
 impl<'a, T: RangeValue> ChunkIter<'a, T> {
@@ -39,14 +41,15 @@ impl<'a, T: RangeValue> ChunkIter<'a, T> {
     {
         ChunkIter {
             base: 0,
+            grown: 0,
             chunks: &[],
             groups,
         }
     }
 
-    /// The next chunk, and its place.
-    pub(crate) fn next_chunk(&mut self) -> Option<(u32, &'a Placed<T>)>
-        ensures next { IfSome result (λ x. IsNextChunk self.old x.0 x.1.now self.new) }
+    /// The next chunk, its place, and by how many characters each of its ranges ends later than it says.
+    pub(crate) fn next_chunk(&mut self) -> Option<(u32, u32, &'a Chunk<T>)>
+        ensures next { IfSome result (λ x. IsNextChunk self.old x.0 (stretch x.1 x.2.now) self.new) }
         ensures end { result ≡ None → self.old ≡ [] }
         ensures none { result ≡ None → self.new ≡ [] }
     {
@@ -54,12 +57,13 @@ impl<'a, T: RangeValue> ChunkIter<'a, T> {
             match self.chunks.split_first() {
                 Some((next, others)) => {
                     self.chunks = others;
-                    return Some((self.base + next.start, next));
+                    return Some((self.base + next.start, next.grown + self.grown, &next.chunk));
                 }
                 None => {
-                    let (start, group, others) = self.groups.split_first()?;
+                    let (start, placed, others) = self.groups.split_first()?;
                     self.base = start;
-                    self.chunks = group.chunks.as_slice();
+                    self.grown = placed.grown;
+                    self.chunks = placed.group.chunks.as_slice();
                     self.groups = others;
                 }
             }
@@ -73,9 +77,9 @@ impl<'a, T: RangeValue> ChunkIter<'a, T> {
     {
         loop {
             match self.next_chunk() {
-                Some((start, placed)) => {
-                    if !placed.chunk.ranges.is_empty() {
-                        return Run::over(start, placed.grown, placed.chunk.ranges.as_slice());
+                Some((start, grown, chunk)) => {
+                    if !chunk.ranges.is_empty() {
+                        return Run::over(start, grown, chunk.ranges.as_slice());
                     }
                 }
                 None => return Run::empty(),
@@ -100,7 +104,7 @@ impl<'a, T: RangeValue> ChunkIter<'a, T> {
         loop {
             match self.chunks.split_first() {
                 Some((first, others)) => {
-                    if place <= self.base + first.start + first.reach() {
+                    if place <= self.base + first.start + first.reach() + self.grown {
                         return;
                     }
                     self.chunks = others;
@@ -108,10 +112,11 @@ impl<'a, T: RangeValue> ChunkIter<'a, T> {
                 None => {
                     self.groups = self.groups.past_pages(place);
                     match self.groups.split_first() {
-                        Some((start, group, others)) => {
-                            if place <= start + group.reach {
+                        Some((start, placed, others)) => {
+                            if place <= start + placed.reach() {
                                 self.base = start;
-                                self.chunks = group.chunks.as_slice();
+                                self.grown = placed.grown;
+                                self.chunks = placed.group.chunks.as_slice();
                             }
                             self.groups = others;
                         }
@@ -138,10 +143,11 @@ impl<'a, T: RangeValue> ChunkIter<'a, T> {
                 None => {
                     self.groups = self.groups.past_pages_without_point();
                     match self.groups.split_first() {
-                        Some((start, group, others)) => {
-                            if group.has_point {
+                        Some((start, placed, others)) => {
+                            if placed.group.has_point {
                                 self.base = start;
-                                self.chunks = group.chunks.as_slice();
+                                self.grown = placed.grown;
+                                self.chunks = placed.group.chunks.as_slice();
                             }
                             self.groups = others;
                         }

@@ -1,12 +1,12 @@
 ghost use Rattle.std.specs.Prelude.{IfOk, [], ◌++◌, ◌+◌, ◌≡◌, ◌≤◌, ◌<◌, ◌^◌, length, map};
 ghost use Rattle.change_desc.specs.Meeting.{BeginAfter, EndsAtOrAfter};
-ghost use Rattle.range_set.specs.PrivateChunks.{FitCarried, AreChunks, AreGroups, AreGroupsOf, AreShared, Ascend, IsGroup, flat, move, spread};
+ghost use Rattle.range_set.specs.PrivateChunks.{FitCarried, AreChunks, AreGroups, AreGroupsOf, AreShared, Ascend, IsGroup, flat, group_content, move, spread};
 ghost use Rattle.range_set.specs.PrivateBuilders.{IsGroupBuilder, grouped};
 ghost use Rattle.range_set.specs.PrivatePages.{IsPage, further};
 ghost use Rattle.range_set.specs.PrivateUpdates.{AreSharedBefore};
 
 use crate::chunk::Placed;
-use crate::group::{Group, PlacedGroup, few_of, full_among, full_for};
+use crate::group::{PlacedGroup, few_of, full_among, full_for, is_far};
 use crate::group_cursor::GroupCursor;
 use crate::group_list::GroupList;
 use crate::page::{Page, full_page_among, full_page_for};
@@ -73,7 +73,7 @@ impl<T: RangeValue> GroupBuilder<T> {
         ensures builder { IfOk result (λ _. IsGroupBuilder T.rules self.new) }
         ensures ranges { IfOk result (λ _. grouped self.new ≡ grouped self.old ++ chunks.items) }
     {
-        let part = part_len(chunks.len(), self.full, few_of(self.full));
+        let part = group_len(&chunks, self.full);
         if part < chunks.len() {
             let rest = chunks.split_off(part)?;
             self.put_all(chunks)?;
@@ -96,31 +96,41 @@ impl<T: RangeValue> GroupBuilder<T> {
             return Ok(());
         };
         let start = first.start;
-        let alloc = *chunks.allocator();
         trim(&mut chunks);
-        let group = Group::of(start, chunks);
-        let count = group.count;
-        let group = Rc::new(alloc, group)?;
-        self.done.push(PlacedGroup { start, group })?;
+        let placed = PlacedGroup::of(start, chunks)?;
+        let count = placed.group.count;
+        self.done.push(placed)?;
+        self.len += count;
+        Ok(())
+    }
+
+    /// Puts a group after the ranges. `Err`: out of memory.
+    pub(crate) fn put(&mut self, placed: PlacedGroup<T>) -> Result<(), AllocError>
+        requires builder { IsGroupBuilder T.rules self.old }
+        requires group { IsGroup T.rules placed.start (group_content placed) }
+        requires some { 1 ≤ length (flat (group_content placed).chunks) }
+        requires room { length (flat (grouped self.old)) + length (flat (group_content placed).chunks) < 2 ^ 64 }
+        ensures builder { IfOk result (λ _. IsGroupBuilder T.rules self.new) }
+        ensures ranges { IfOk result (λ _. grouped self.new ≡ grouped self.old ++ map (move placed.start) (group_content placed).chunks) }
+    {
+        let count = placed.group.count;
+        self.done.push_quick(placed)?;
         self.len += count;
         Ok(())
     }
 
     /// Puts a group after the ranges, at a place of its own, and shares it. `Err`: out of memory.
     #[inline(always)]
-    pub(crate) fn share(&mut self, start: u32, group: &Rc<Group<T>>) -> Result<(), AllocError>
+    pub(crate) fn share(&mut self, start: u32, placed: &PlacedGroup<T>) -> Result<(), AllocError>
         requires builder { IsGroupBuilder T.rules self.old }
-        requires group { IsGroup T.rules start group.now.value }
-        requires some { 1 ≤ length (flat group.now.value.chunks.items) }
-        requires room { length (flat (grouped self.old)) + length (flat group.now.value.chunks.items) < 2 ^ 64 }
+        requires group { IsGroup T.rules start (group_content placed.now) }
+        requires some { 1 ≤ length (flat (group_content placed.now).chunks) }
+        requires room { length (flat (grouped self.old)) + length (flat (group_content placed.now).chunks) < 2 ^ 64 }
         ensures builder { IfOk result (λ _. IsGroupBuilder T.rules self.new) }
-        ensures ranges { IfOk result (λ _. grouped self.new ≡ grouped self.old ++ map (move start) group.now.value.chunks.items) }
+        ensures ranges { IfOk result (λ _. grouped self.new ≡ grouped self.old ++ map (move start) (group_content placed.now).chunks) }
     {
-        let count = group.count;
-        self.done.push_quick(PlacedGroup {
-            start,
-            group: group.clone()?,
-        })?;
+        let count = placed.group.count;
+        self.done.push_quick(placed.at(start)?)?;
         self.len += count;
         Ok(())
     }
@@ -196,11 +206,11 @@ impl<T: RangeValue> GroupBuilder<T> {
         let mut rest = groups;
         while let Some((placed, others)) = rest.split_first() {
             let start = placed.start + base;
-            let end = start + placed.group.reach;
+            let end = start + placed.reach();
             if placed.group.is_turned || first_meets(changed, from, end) {
                 return Ok(rest);
             }
-            self.share(start - from + to, &placed.group)?;
+            self.share(start - from + to, placed)?;
             rest = others;
         }
         Ok(rest)
@@ -265,11 +275,11 @@ impl<T: RangeValue> GroupBuilder<T> {
                 }
             }
             match rest.split_first() {
-                Some((start, group, others)) => {
+                Some((start, placed, others)) => {
                     if !others.begins_before(place) {
                         return Ok(rest);
                     }
-                    self.share(start, group)?;
+                    self.share(start, placed)?;
                     rest = others;
                 }
                 None => return Ok(rest),
@@ -296,8 +306,8 @@ impl<T: RangeValue> GroupBuilder<T> {
                 }
             }
             match rest.split_first() {
-                Some((start, group, others)) => {
-                    self.share(start, group)?;
+                Some((start, placed, others)) => {
+                    self.share(start, placed)?;
                     rest = others;
                 }
                 None => return Ok(()),
@@ -314,4 +324,39 @@ impl<T: RangeValue> GroupBuilder<T> {
     {
         Ok((self.done.finish()?, self.len))
     }
+}
+
+/// How many of some chunks come into the first part where they are cut, and `full` make a group full: all, where they make one group.
+/// They do where they are one chunk, or at most `full` of which none is of a range longer than `MAX_GROUP_LEN`. Where at most `full` and
+/// those of a small group are left, those before the first of a longer range do, or it alone where it stands first; else as many as
+/// `part_len` says.
+fn group_len<T>(chunks: &[Placed<T>], full: usize) -> usize
+    requires { 1 ≤ full }
+    ensures some { 1 ≤ length chunks.now → 1 ≤ result }
+    ensures within { result ≤ length chunks.now }
+    ensures few { result ≡ length chunks.now → length chunks.now ≤ full }
+{
+    let len = chunks.len();
+    let few = few_of(full);
+    if len <= full.saturating_add(few) {
+        let near = near_len(chunks);
+        if near < len {
+            return near.max(1);
+        }
+    }
+    part_len(len, full, few)
+}
+
+/// How many chunks stand before the first whose range is too long to share a group with others.
+fn near_len<T>(chunks: &[Placed<T>]) -> usize
+    ensures { result ≤ length chunks.now }
+{
+    let mut count = 0;
+    for placed in chunks {
+        if is_far(placed) {
+            return count;
+        }
+        count += 1;
+    }
+    count
 }

@@ -3,11 +3,10 @@ ghost use Rattle.range_set.specs.Points.{points_of};
 ghost use Rattle.range_set.specs.PrivateChunks.{ArePassed, flat, spread};
 ghost use Rattle.range_set.specs.PrivatePages.{AreGroupsLeft, AreLast, ArePages, NextBegins, PlacesFirst, PlacesGroups, PlacesPage, further, laid};
 
-use crate::group::{Group, PlacedGroup};
+use crate::group::PlacedGroup;
 use crate::page::PlacedPage;
 use crate::range_value::RangeValue;
 use std::marker::Model;
-use std::rc::Rc;
 
 /// A place between the groups of pages. Contracts see the groups after it, at their places.
 #[derive(Drop)]
@@ -74,14 +73,14 @@ impl<'a, T: RangeValue> GroupCursor<'a, T> {
 
     /// The next group, its place, and the place after it.
     #[inline(always)]
-    pub(crate) fn split_first(&self) -> Option<(u32, &'a Rc<Group<T>>, GroupCursor<'a, T>)>
+    pub(crate) fn split_first(&self) -> Option<(u32, &'a PlacedGroup<T>, GroupCursor<'a, T>)>
         ensures some { IfSome result (λ x. PlacesFirst T.rules self.now x.0 x.1.now x.2) }
         ensures none { result ≡ None → self.now ≡ [] }
     {
         match self.groups.split_first() {
             Some((placed, others)) => Some((
                 self.base + placed.start,
-                &placed.group,
+                placed,
                 GroupCursor {
                     base: self.base,
                     groups: others,
@@ -93,7 +92,7 @@ impl<'a, T: RangeValue> GroupCursor<'a, T> {
                 let (first, groups) = placed.page.groups.as_slice().split_first()?;
                 Some((
                     placed.start + first.start,
-                    &first.group,
+                    first,
                     GroupCursor {
                         base: placed.start,
                         groups,

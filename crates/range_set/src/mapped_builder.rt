@@ -1,12 +1,12 @@
 ghost use Rattle.std.specs.Prelude.{IfOk, [], ◌++◌, ◌+◌, ◌≡◌, ◌≤◌, ◌<◌, ◌^◌, length, map};
 ghost use Rattle.range_set.specs.Order.{AllForward, before};
-ghost use Rattle.range_set.specs.PrivateChunks.{AreGroupsOf, Ascend, IsChunk, IsGroup, content, flat, shift, spread};
+ghost use Rattle.range_set.specs.PrivateChunks.{AreGroupsOf, Ascend, IsChunk, IsGroup, content, flat, group_content, shift, spread};
 ghost use Rattle.range_set.specs.PrivateBuilders.{IsMappedBuilder, built, grouped, put_down};
 ghost use Rattle.stable_order.specs.StableSort.{stable_sort};
 
 use crate::chunk::{MAX_RANGES, Placed};
 use crate::chunk_builder::ChunkBuilder;
-use crate::group::Group;
+use crate::group::PlacedGroup;
 use crate::group_builder::GroupBuilder;
 use crate::group_list::GroupList;
 use crate::parts::{joined_of, reserve};
@@ -15,7 +15,6 @@ use crate::ranged::Ranged;
 use crate::sorting::put_sorted;
 use std::alloc::{AllocError, Global};
 use std::mem;
-use std::rc::Rc;
 
 /// Cuts ranges that changes moved into groups: groups that are done, chunks that come after them and aren't in a group yet, and a run
 /// of ranges that is still to be sorted.
@@ -98,23 +97,45 @@ impl<T: RangeValue> MappedBuilder<T> {
         self.chunks.share(start, placed)
     }
 
-    /// Sorts the run and puts a group after it, at a place of its own, and shares it. No chunks are left outside groups. `Err`: out of
-    /// memory.
-    pub(crate) fn share_group(&mut self, start: u32, group: &Rc<Group<T>>) -> Result<(), AllocError>
+    /// Sorts the run and puts a group after it. No chunks are left outside groups. `Err`: out of memory.
+    pub(crate) fn put_group(&mut self, placed: PlacedGroup<T>) -> Result<(), AllocError>
         requires builder { IsMappedBuilder T.rules self.old }
         requires order { Ascend 0 (put_down self.old ++ stable_sort (before T.rules) self.old.run.items) }
         requires forward { AllForward self.old.run.items }
-        requires group { IsGroup T.rules start group.now.value }
-        requires some { 1 ≤ length (flat group.now.value.chunks.items) }
-        requires room { length (put_down self.old) + length self.old.run.items + length (flat group.now.value.chunks.items) < 2 ^ 64 }
+        requires group { IsGroup T.rules placed.start (group_content placed) }
+        requires some { 1 ≤ length (flat (group_content placed).chunks) }
+        requires room { length (put_down self.old) + length self.old.run.items + length (flat (group_content placed).chunks) < 2 ^ 64 }
         ensures builder { IfOk result (λ _. IsMappedBuilder T.rules self.new) }
-        ensures ranges { IfOk result (λ _. put_down self.new ≡ put_down self.old ++ stable_sort (before T.rules) self.old.run.items ++ map (shift start) (flat group.now.value.chunks.items)) }
+        ensures ranges { IfOk result (λ _. put_down self.new ≡ put_down self.old ++ stable_sort (before T.rules) self.old.run.items ++ map (shift placed.start) (flat (group_content placed).chunks)) }
         ensures none { IfOk result (λ _. self.new.run.items ≡ []) }
         ensures ended { IfOk result (λ _. built self.new.chunks ≡ []) }
     {
         put_sorted(&mut self.run, &mut self.chunks)?;
         self.end_groups()?;
-        self.groups.share(start, group)
+        self.groups.put(placed)
+    }
+
+    /// Sorts the run and puts a group after it, at a place of its own, and shares it. No chunks are left outside groups. `Err`: out of
+    /// memory.
+    pub(crate) fn share_group(
+        &mut self,
+        start: u32,
+        placed: &PlacedGroup<T>,
+    ) -> Result<(), AllocError>
+        requires builder { IsMappedBuilder T.rules self.old }
+        requires order { Ascend 0 (put_down self.old ++ stable_sort (before T.rules) self.old.run.items) }
+        requires forward { AllForward self.old.run.items }
+        requires group { IsGroup T.rules start (group_content placed.now) }
+        requires some { 1 ≤ length (flat (group_content placed.now).chunks) }
+        requires room { length (put_down self.old) + length self.old.run.items + length (flat (group_content placed.now).chunks) < 2 ^ 64 }
+        ensures builder { IfOk result (λ _. IsMappedBuilder T.rules self.new) }
+        ensures ranges { IfOk result (λ _. put_down self.new ≡ put_down self.old ++ stable_sort (before T.rules) self.old.run.items ++ map (shift start) (flat (group_content placed.now).chunks)) }
+        ensures none { IfOk result (λ _. self.new.run.items ≡ []) }
+        ensures ended { IfOk result (λ _. built self.new.chunks ≡ []) }
+    {
+        put_sorted(&mut self.run, &mut self.chunks)?;
+        self.end_groups()?;
+        self.groups.share(start, placed)
     }
 
     /// Puts the chunks after the groups that are done into groups. `Err`: out of memory.

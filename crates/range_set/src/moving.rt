@@ -1,4 +1,4 @@
-ghost use Rattle.std.specs.Prelude.{IfOk, List, [], false, length, ℕ, ◌*◌, ◌++◌, ◌+◌, ◌<◌, ◌^◌, ◌||◌, ◌≡◌, ◌≤◌, filter_map, map};
+ghost use Rattle.std.specs.Prelude.{IfOk, List, [], false, length, true, ℕ, ◌*◌, ◌++◌, ◌+◌, ◌<◌, ◌^◌, ◌||◌, ◌≡◌, ◌≤◌, filter_map, map};
 ghost use Rattle.std.specs.List.{list_any};
 ghost use Rattle.change_desc.specs.declared.changed_range.ChangedRange.{ChangedRange};
 ghost use Rattle.change_desc.specs.Meeting.{BeginAfter, EndsAtOrAfter};
@@ -8,11 +8,11 @@ ghost use Rattle.range_set.specs.declared.ranged.Ranged.{Ranged};
 ghost use Rattle.range_set.specs.Mapping.{EndWithin, map_ranges, moved, most_mapped};
 ghost use Rattle.range_set.specs.Order.{first_fault};
 ghost use Rattle.range_set.specs.PrivateMoving.{AreMoved, AreWithin, IsClearWalk};
-ghost use Rattle.range_set.specs.PrivateChunks.{AreGroups, AreGroupsOf, Ascend, IsChunk, content, flat, grow, shift, spread};
+ghost use Rattle.range_set.specs.PrivateChunks.{AreGroups, AreGroupsOf, Ascend, IsChunk, IsGroup, content, flat, group_content, grow, shift, spread, stretch};
 
-use crate::chunk::{MAX_SHARED_LEN, Placed};
+use crate::chunk::{Chunk, MAX_SHARED_LEN, Placed};
 use crate::clear_walk::ClearWalk;
-use crate::group::Group;
+use crate::group::PlacedGroup;
 use crate::group_cursor::GroupCursor;
 use crate::group_list::GroupList;
 use crate::mapped_builder::MappedBuilder;
@@ -50,9 +50,9 @@ pub(crate) fn mapped_groups<T: RangeValue, L: Ledger>(
 /// The groups of a set after changes, and how many ranges they have, where the replaced ranges and an index of the changes are
 /// given. A group whose hull meets no Replace, and in which no empty range has an end side less than its start side, is shared,
 /// unless it becomes one with chunks before it, and whole pages of such groups before the first Replace and after a shared group are
-/// shared as pages; of the others the same holds of each chunk, and a chunk of one range may be shared with another length. The ranges
-/// of the other chunks, and such a one, are mapped each by itself, which raises `mapped` by one. The ranges between two that are shared are sorted by themselves, since
-/// what is shared parts those before it from those after it. `Err`: out of memory.
+/// shared as pages; of the others the same holds of each chunk, and a chunk or a group of one range may be shared with another length.
+/// The ranges of the other chunks, and such a one, are mapped each by itself, which raises `mapped` by one. The ranges between two that
+/// are shared are sorted by themselves, since what is shared parts those before it from those after it. `Err`: out of memory.
 fn map_all<'a, T: RangeValue, L: Ledger>(
     alloc: Global,
     groups: GroupCursor<'_, T>,
@@ -79,41 +79,57 @@ fn map_all<'a, T: RangeValue, L: Ledger>(
     // What lies before the first replaced range stays in place, and is shared here: the loop makes the page anew of each group that it
     // takes.
     let mut rest = builder.groups.share_carried(groups, 0, 0, changed)?;
-    while let Some((base, group, others)) = rest.split_first() {
+    while let Some((base, placed, others)) = rest.split_first() {
         left = ranges_from(left, base);
         rest = others;
-        if is_opened(base, group, left, &builder) {
-            builder.reserve(group.chunks.len(), chunks_met(&rest, left))?;
-            let mut chunks = group.chunks.as_slice();
-            while let Some((inner, more)) = chunks.split_first() {
-                let start = inner.start + base;
-                left = ranges_from(left, start);
-                chunks = more;
-                if is_affected(start, inner, left) {
-                    if let Some(alone) = inner.moved_alone(start, left, &mut walk, index)? {
-                        mapped.tick();
-                        builder.put_chunk(alone)?;
+        if is_opened(base, placed, left, &builder) {
+            if placed.grown == 0 {
+                builder.reserve(placed.group.chunks.len(), chunks_met(&rest, left))?;
+                let mut chunks = placed.group.chunks.as_slice();
+                while let Some((inner, more)) = chunks.split_first() {
+                    let start = inner.start + base;
+                    left = ranges_from(left, start);
+                    chunks = more;
+                    if is_affected(start, inner, left) {
+                        if let Some(alone) = inner.moved_alone(start, left, &mut walk, index)? {
+                            mapped.tick();
+                            builder.put_chunk(alone)?;
+                        } else {
+                            map_each(
+                                start,
+                                inner.grown,
+                                &inner.chunk,
+                                left,
+                                &mut walk,
+                                index,
+                                ranges_after(&builder.run, base, more, left),
+                                &mut builder.run,
+                                mapped,
+                            )?;
+                        }
                     } else {
-                        map_each(
-                            start,
-                            inner,
-                            left,
-                            &mut walk,
-                            index,
-                            ranges_after(&builder.run, base, more, left),
-                            &mut builder.run,
-                            mapped,
-                        )?;
+                        let to = walk.place_after(start, left);
+                        builder.share_chunk(to, inner)?;
+                        chunks = builder.chunks.share_carried(more, base, start, to, left)?;
                     }
-                } else {
-                    let to = walk.place_after(start, left);
-                    builder.share_chunk(to, inner)?;
-                    chunks = builder.chunks.share_carried(more, base, start, to, left)?;
                 }
+            } else if let Some(long) = placed.moved_alone(base, left, &mut walk, index)? {
+                mapped.tick();
+                builder.put_group(long)?;
+            } else {
+                map_only(
+                    base,
+                    placed,
+                    left,
+                    &mut walk,
+                    index,
+                    &mut builder.run,
+                    mapped,
+                )?;
             }
         } else {
             let to = walk.place_after(base, left);
-            builder.share_group(to, group)?;
+            builder.share_group(to, placed)?;
             rest = builder.groups.share_carried(rest, base, to, left)?;
         }
     }
@@ -121,34 +137,36 @@ fn map_all<'a, T: RangeValue, L: Ledger>(
 }
 
 /// Whether the chunks of a group are looked at one by one: whether changes affect it, where the ranges that they replace before it are
-/// left out, or it becomes one with those before it.
+/// left out, or it becomes one with those before it. A group of one long range does so with none.
 fn is_opened<T: RangeValue>(
     start: u32,
-    group: &Rc<Group<T>>,
+    placed: &PlacedGroup<T>,
     changed: &[ChangedRange],
     builder: &MappedBuilder<T>,
 ) -> bool
-    requires fits { start + group.now.value.reach < 2 ^ 32 }
+    requires fits { start + (group_content placed.now).reach < 2 ^ 32 }
     requires order { BeginAfter 0 changed.now }
     requires first { EndsAtOrAfter start changed.now }
-    ensures { result ≡ false → (group.now.value.is_turned || list_any (meets start (start + group.now.value.reach)) changed.now) ≡ false }
+    ensures apart { result ≡ false → ((group_content placed.now).is_turned || list_any (meets start (start + (group_content placed.now).reach)) changed.now) ≡ false }
+    ensures affected { result ≡ true → 0 < placed.now.grown → ((group_content placed.now).is_turned || list_any (meets start (start + (group_content placed.now).reach)) changed.now) ≡ true }
 {
-    is_group_affected(start, group, changed) || builder.joins(group.chunks.len())
+    is_group_affected(start, placed, changed)
+        || (placed.grown == 0 && builder.joins(placed.group.chunks.len()))
 }
 
 /// Whether a change meets the hull of a group, where those before the group are left out, or an empty range of it has an end side
 /// less than its start side.
 fn is_group_affected<T: RangeValue>(
     start: u32,
-    group: &Rc<Group<T>>,
+    placed: &PlacedGroup<T>,
     changed: &[ChangedRange],
 ) -> bool
-    requires fits { start + group.now.value.reach < 2 ^ 32 }
+    requires fits { start + (group_content placed.now).reach < 2 ^ 32 }
     requires order { BeginAfter 0 changed.now }
     requires first { EndsAtOrAfter start changed.now }
-    ensures { result ≡ (group.now.value.is_turned || list_any (meets start (start + group.now.value.reach)) changed.now) }
+    ensures { result ≡ ((group_content placed.now).is_turned || list_any (meets start (start + (group_content placed.now).reach)) changed.now) }
 {
-    group.is_turned || first_meets(changed, start, start + group.reach)
+    placed.group.is_turned || first_meets(changed, start, start + placed.reach())
 }
 
 /// Whether changes affect a chunk: whether its hull meets a replaced range, of which those before the
@@ -166,8 +184,16 @@ fn is_affected<T: RangeValue>(start: u32, placed: &Placed<T>, changed: &[Changed
 /// much room to make.
 fn chunks_met<T: RangeValue>(groups: &GroupCursor<'_, T>, changed: &[ChangedRange]) -> usize {
     match (groups.split_first(), changed.first()) {
-        (Some((start, group, _)), Some(first)) if is_met(start, group.reach, first) => {
-            group.chunks.len()
+        (Some((start, placed, _)), Some(first)) => {
+            if is_met(
+                start,
+                placed.group.reach.saturating_add(placed.grown),
+                first,
+            ) {
+                placed.group.chunks.len()
+            } else {
+                0
+            }
         }
         _ => 0,
     }
@@ -211,12 +237,55 @@ fn ranges_met<T>(base: u32, chunks: &[Placed<T>], changed: &[ChangedRange]) -> u
     len
 }
 
+/// Puts the ranges of a group of one chunk at the place `start` that the changes of a walk keep, moved, after a run of others. The
+/// ranges that the changes replace are given from the first on that may meet the group. `Err`: out of memory.
+fn map_only<'a, T: RangeValue, L: Ledger>(
+    start: u32,
+    placed: &PlacedGroup<T>,
+    changed: &'a [ChangedRange],
+    walk: &mut ClearWalk<'a>,
+    index: &PositionIndex,
+    run: &mut Vec<Ranged<T>>,
+    mapped: &mut Steps<L>,
+) -> Result<(), AllocError>
+    requires walk { IsClearWalk walk.old }
+    requires index { index.now ≡ walk.old.walker.desc }
+    requires order { BeginAfter 0 changed.now }
+    requires same { (a b : ℕ) → start ≤ a → list_any (meets a b) changed.now ≡ list_any (meets a b) (replaced walk.old.walker.desc) }
+    requires room { new_size counted walk.old.walker.desc < 2 ^ 32 }
+    requires group { IsGroup T.rules start (group_content placed.now) }
+    requires one { length (group_content placed.now).chunks ≡ 1 }
+    requires inside { EndWithin (old_size walk.old.walker.desc) (map (shift start) (flat (group_content placed.now).chunks)) }
+    requires ascending { Ascend walk.old.walker.reached (map (shift start) (flat (group_content placed.now).chunks)) }
+    ensures run { IfOk result (λ _. run.new.items ≡ run.old.items ++ filter_map (moved T.rules walk.old.walker.desc) (map (shift start) (flat (group_content placed.now).chunks))) }
+    ensures clear { IfOk result (λ _. IsClearWalk walk.new) }
+    ensures desc { IfOk result (λ _. walk.new.walker.desc ≡ walk.old.walker.desc) }
+    ensures walk { IfOk result (λ _. (later : _) → Ascend walk.old.walker.reached (map (shift start) (flat (group_content placed.now).chunks) ++ later) → Ascend walk.new.walker.reached later) }
+    ensures cost { mapped.new ≤ mapped.old + 128 }
+{
+    let [only] = placed.group.chunks.as_slice() else {
+        unreachable!()
+    };
+    map_each(
+        only.start + start,
+        only.grown + placed.grown,
+        &only.chunk,
+        changed,
+        walk,
+        index,
+        0,
+        run,
+        mapped,
+    )
+}
+
 /// Puts the ranges of a chunk at the place `start` that the changes of a walk keep, moved, after a run of others, and makes room for
-/// so many more. The ranges that the changes replace are given from the first on that may meet the chunk. `Err`: out of memory.
+/// `more`. Each ends later than the chunk says, by `grown`. The ranges that the changes replace are given from the first on that may meet the chunk. `Err`: out of memory.
 #[inline(never)]
 fn map_each<'a, T: RangeValue, L: Ledger>(
     start: u32,
-    placed: &Placed<T>,
+    grown: u32,
+    chunk: &Rc<Chunk<T>>,
     changed: &'a [ChangedRange],
     walk: &mut ClearWalk<'a>,
     index: &PositionIndex,
@@ -229,25 +298,25 @@ fn map_each<'a, T: RangeValue, L: Ledger>(
     requires order { BeginAfter 0 changed.now }
     requires same { (a b : ℕ) → start ≤ a → list_any (meets a b) changed.now ≡ list_any (meets a b) (replaced walk.old.walker.desc) }
     requires room { new_size counted walk.old.walker.desc < 2 ^ 32 }
-    requires chunk { IsChunk T.rules start (content placed.now) }
-    requires inside { EndWithin (old_size walk.old.walker.desc) (map (shift start) (content placed.now).ranges) }
-    requires ascending { Ascend walk.old.walker.reached (map (shift start) (content placed.now).ranges) }
-    ensures run { IfOk result (λ _. run.new.items ≡ run.old.items ++ filter_map (moved T.rules walk.old.walker.desc) (map (shift start) (content placed.now).ranges)) }
+    requires chunk { IsChunk T.rules start (stretch grown chunk.now.value) }
+    requires inside { EndWithin (old_size walk.old.walker.desc) (map (shift start) (stretch grown chunk.now.value).ranges) }
+    requires ascending { Ascend walk.old.walker.reached (map (shift start) (stretch grown chunk.now.value).ranges) }
+    ensures run { IfOk result (λ _. run.new.items ≡ run.old.items ++ filter_map (moved T.rules walk.old.walker.desc) (map (shift start) (stretch grown chunk.now.value).ranges)) }
     ensures clear { IfOk result (λ _. IsClearWalk walk.new) }
     ensures desc { IfOk result (λ _. walk.new.walker.desc ≡ walk.old.walker.desc) }
-    ensures walk { IfOk result (λ _. (later : _) → Ascend walk.old.walker.reached (map (shift start) (content placed.now).ranges ++ later) → Ascend walk.new.walker.reached later) }
-    ensures cost { mapped.new ≤ mapped.old + length (content placed.now).ranges }
+    ensures walk { IfOk result (λ _. (later : _) → Ascend walk.old.walker.reached (map (shift start) (stretch grown chunk.now.value).ranges ++ later) → Ascend walk.new.walker.reached later) }
+    ensures cost { mapped.new ≤ mapped.old + length (stretch grown chunk.now.value).ranges }
 {
     let alloc = *run.allocator();
-    let len = placed.chunk.ranges.len();
+    let len = chunk.ranges.len();
     reserve(run, len, len.saturating_add(more))?;
     let mut left = changed;
-    let mut rest = placed.chunk.ranges.as_slice();
+    let mut rest = chunk.ranges.as_slice();
     while let Some((first, others)) = rest.split_first() {
         mapped.tick();
         let range = RangeRef {
             from: first.from + start,
-            to: first.to + placed.grown + start,
+            to: first.to + grown + start,
             value: &first.value,
         };
         left = ranges_from(left, range.from);
@@ -255,7 +324,7 @@ fn map_each<'a, T: RangeValue, L: Ledger>(
             Some(moved) => run.push(moved)?,
             None => {}
         }
-        rest = move_clear(alloc, start, placed.grown, others, walk, run, mapped)?;
+        rest = move_clear(alloc, start, grown, others, walk, run, mapped)?;
     }
     Ok(())
 }

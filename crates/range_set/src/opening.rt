@@ -1,13 +1,12 @@
 ghost use Rattle.std.specs.Prelude.{IfOk, map, ◌≡◌, ◌++◌};
-ghost use Rattle.range_set.specs.PrivateChunks.{AreChunks, Ascend, IsGroup, flat, move, shift, spread};
+ghost use Rattle.range_set.specs.PrivateChunks.{AreChunks, Ascend, IsGroup, flat, group_content, lengthen, move, shift, spread};
 ghost use Rattle.range_set.specs.PrivateUpdates.{AreOpened};
 
 use crate::chunk::Placed;
-use crate::group::Group;
+use crate::group::PlacedGroup;
 use crate::group_cursor::GroupCursor;
 use crate::range_value::RangeValue;
 use std::alloc::{AllocError, Global};
-use std::rc::Rc;
 
 /// The chunks of groups at their places, shared. `Err`: out of memory.
 pub(crate) fn opened<T: RangeValue>(
@@ -19,8 +18,8 @@ pub(crate) fn opened<T: RangeValue>(
 {
     let mut chunks = Vec::new(alloc);
     let mut rest = groups;
-    while let Some((start, group, others)) = rest.split_first() {
-        open(start, group, &mut chunks)?;
+    while let Some((start, placed, others)) = rest.split_first() {
+        open(start, placed, &mut chunks)?;
         rest = others;
     }
     Ok(chunks)
@@ -38,11 +37,11 @@ pub(crate) fn opened_by<'a, T: RangeValue>(
 {
     let mut chunks = Vec::new(alloc);
     let mut rest = groups;
-    while let Some((start, group, others)) = rest.split_first() {
+    while let Some((start, placed, others)) = rest.split_first() {
         if place < start && !chunks.is_empty() {
             return Ok((chunks, rest));
         }
-        open(start, group, &mut chunks)?;
+        open(start, placed, &mut chunks)?;
         rest = others;
     }
     Ok((chunks, rest))
@@ -52,32 +51,33 @@ pub(crate) fn opened_by<'a, T: RangeValue>(
 #[inline(always)]
 fn open<T: RangeValue>(
     base: u32,
-    group: &Rc<Group<T>>,
+    placed: &PlacedGroup<T>,
     chunks: &mut Vec<Placed<T>>,
 ) -> Result<(), AllocError>
-    requires group { IsGroup T.rules base group.now.value }
+    requires group { IsGroup T.rules base (group_content placed.now) }
     requires chunks { AreChunks T.rules chunks.old.items }
-    ensures ranges { IfOk result (λ _. flat chunks.new.items ≡ flat chunks.old.items ++ map (shift base) (flat group.now.value.chunks.items)) }
+    ensures ranges { IfOk result (λ _. flat chunks.new.items ≡ flat chunks.old.items ++ map (shift base) (flat (group_content placed.now).chunks)) }
     ensures chunks { IfOk result (λ _. AreChunks T.rules chunks.new.items) }
 {
-    chunks.reserve(group.chunks.len())?;
-    share_each(base, group.chunks.as_slice(), chunks)
+    chunks.reserve(placed.group.chunks.len())?;
+    share_each(base, placed.grown, placed.group.chunks.as_slice(), chunks)
 }
 
-/// Puts chunks that count from the place `base` after others, shared. `Err`: out of memory.
+/// Puts chunks that count from the place `base`, and whose ranges end later by `grown`, after others, shared. `Err`: out of memory.
 #[inline(always)]
 pub(crate) fn share_each<T: RangeValue>(
     base: u32,
+    grown: u32,
     chunks: &[Placed<T>],
     made: &mut Vec<Placed<T>>,
 ) -> Result<(), AllocError>
-    requires chunks { AreChunks T.rules (map (move base) chunks.now) }
+    requires chunks { AreChunks T.rules (map (move base) (map (lengthen grown) chunks.now)) }
     requires made { AreChunks T.rules made.old.items }
     ensures chunks { IfOk result (λ _. AreChunks T.rules made.new.items) }
-    ensures ranges { IfOk result (λ _. flat made.new.items ≡ flat made.old.items ++ map (shift base) (flat chunks.now)) }
+    ensures ranges { IfOk result (λ _. flat made.new.items ≡ flat made.old.items ++ map (shift base) (flat (map (lengthen grown) chunks.now))) }
 {
     for placed in chunks {
-        made.push(placed.at(base + placed.start)?)?;
+        made.push(placed.lengthened(base + placed.start, grown)?)?;
     }
     Ok(())
 }

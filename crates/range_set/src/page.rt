@@ -68,7 +68,7 @@ impl<T: RangeValue> Page<T> {
         for placed in groups.iter_mut() {
             let from = placed.start - start;
             count += placed.group.count;
-            reach = reach.max(from + placed.group.reach);
+            reach = reach.max(from + placed.reach());
             is_turned = is_turned || placed.group.is_turned;
             has_point = has_point || placed.group.has_point;
             placed.start = from;

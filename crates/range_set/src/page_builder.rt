@@ -1,5 +1,5 @@
 ghost use Rattle.std.specs.Prelude.{IfOk, [], ◌++◌, ◌+◌, ◌∷◌, ◌≡◌, ◌≤◌, ◌<◌, ◌^◌, length, map};
-ghost use Rattle.range_set.specs.PrivateChunks.{IsGroup, flat, spread};
+ghost use Rattle.range_set.specs.PrivateChunks.{IsGroup, flat, group_content, spread};
 ghost use Rattle.range_set.specs.PrivatePages.{AreGrowing, ArePages, IsPage, further, laid};
 
 use crate::group::PlacedGroup;
@@ -59,9 +59,9 @@ impl<T: RangeValue> PageBuilder<T> {
 
     /// Puts a group after the others. `Err`: out of memory.
     pub(crate) fn push(&mut self, placed: PlacedGroup<T>) -> Result<(), AllocError>
-        requires group { IsGroup T.rules placed.start placed.group.value }
-        requires some { 1 ≤ length (flat placed.group.value.chunks.items) }
-        requires room { length (flat (spread self.old)) + length (flat placed.group.value.chunks.items) < 2 ^ 64 }
+        requires group { IsGroup T.rules placed.start (group_content placed) }
+        requires some { 1 ≤ length (flat (group_content placed).chunks) }
+        requires room { length (flat (spread self.old)) + length (flat (group_content placed).chunks) < 2 ^ 64 }
         ensures { IfOk result (λ _. self.new ≡ self.old ++ placed ∷ []) }
     {
         // Groups come in order, so none begins before the growing page: this is asked so that no contract needs to say it.
@@ -80,9 +80,9 @@ impl<T: RangeValue> PageBuilder<T> {
     /// Does what `push` does, and is short where no page begins and the list of the growing one has room: for loops over many groups.
     /// `Err`: out of memory.
     pub(crate) fn push_quick(&mut self, placed: PlacedGroup<T>) -> Result<(), AllocError>
-        requires group { IsGroup T.rules placed.start placed.group.value }
-        requires some { 1 ≤ length (flat placed.group.value.chunks.items) }
-        requires room { length (flat (spread self.old)) + length (flat placed.group.value.chunks.items) < 2 ^ 64 }
+        requires group { IsGroup T.rules placed.start (group_content placed) }
+        requires some { 1 ≤ length (flat (group_content placed).chunks) }
+        requires room { length (flat (spread self.old)) + length (flat (group_content placed).chunks) < 2 ^ 64 }
         ensures { IfOk result (λ _. self.new ≡ self.old ++ placed ∷ []) }
     {
         let len = self.growing.len();
@@ -134,9 +134,9 @@ fn grow<T: RangeValue>(
     placed: PlacedGroup<T>,
 ) -> Result<(), AllocError>
     requires growing { AreGrowing T.rules start growing.old.items }
-    requires group { IsGroup T.rules placed.start placed.group.value }
-    requires some { 1 ≤ length (flat placed.group.value.chunks.items) }
-    requires room { length (flat (spread growing.old.items)) + length (flat placed.group.value.chunks.items) < 2 ^ 64 }
+    requires group { IsGroup T.rules placed.start (group_content placed) }
+    requires some { 1 ≤ length (flat (group_content placed).chunks) }
+    requires room { length (flat (spread growing.old.items)) + length (flat (group_content placed).chunks) < 2 ^ 64 }
     requires after { start ≤ placed.start }
     requires first { growing.old.items ≡ [] → placed.start ≡ start }
     ensures growing { AreGrowing T.rules start growing.new.items }

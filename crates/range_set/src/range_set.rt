@@ -4,7 +4,7 @@ ghost use Rattle.change_desc.specs.Sections.{counted, new_size, old_size};
 ghost use Rattle.range_set.specs.Order.{first_fault};
 ghost use Rattle.range_set.specs.Mapping.{is_turned, map_ranges, most_mapped, EndWithin};
 ghost use Rattle.range_set.specs.Points.{points_of};
-ghost use Rattle.range_set.specs.PrivateChunks.{AreChunks, AreGroupsOf, flat, greatest_end, shift, spread};
+ghost use Rattle.range_set.specs.PrivateChunks.{AreChunks, AreGroupsOf, flat, greatest_end, lengthen, shift, spread};
 ghost use Rattle.range_set.specs.PrivatePages.{ArePages, laid};
 ghost use Rattle.range_set.specs.Seen.{seen};
 ghost use Rattle.range_set.specs.Updating.{AnswersAs, updated, overlaps};
@@ -216,9 +216,10 @@ impl<T: RangeValue> RangeSet<T> {
     /// What `map` gives. A chunk whose hull meets no Replace, and in which no empty range has an end side less than its start
     /// side, is only moved, and shared; so is a group for which this holds, as a whole, unless it and the chunks of opened groups
     /// before it fill at most three quarters of one. Pages of such groups are shared as pages, unless a page becomes one with groups
-    /// before it. Each range of the other chunks raises `mapped` by one, and its
-    /// value is copied, unless it is the only one of its chunk, no Replace meets its start, and it is longer than 256 characters after
-    /// the changes: then its chunk is shared. `Err`: out of memory.
+    /// before it. Each range of the other chunks raises `mapped` by one, and its value is copied, unless it is the only one of its chunk,
+    /// no Replace meets its start, and it is longer than 256 characters after the changes: then its chunk is shared. One that is longer
+    /// than 4,096 characters before them is the only one of its group, which is shared if it is so after them too; else its value is
+    /// copied. `Err`: out of memory.
     pub fn map_steps<L: Ledger>(
         &self,
         changes: &Desc,
@@ -322,21 +323,25 @@ fn last_of<T: RangeValue>(pages: &[PlacedPage<T>]) -> Option<RangeRef<'_, T>>
 {
     let placed = pages.last()?;
     let inner = placed.page.groups.last()?;
-    last_in(inner.group.chunks.as_slice(), placed.start + inner.start)
+    last_in(
+        inner.group.chunks.as_slice(),
+        placed.start + inner.start,
+        inner.grown,
+    )
 }
 
-/// The last range of some chunks, which count from the place `base`.
-fn last_in<T: RangeValue>(chunks: &[Placed<T>], base: u32) -> Option<RangeRef<'_, T>>
-    requires chunks { AreChunks T.rules chunks.now }
-    requires fits { base + greatest_end (flat chunks.now) < 2 ^ 32 }
-    ensures { option_map seen result ≡ slice_get (map (shift base) (flat chunks.now)) (length (flat chunks.now) - 1) }
+/// The last range of some chunks, which count from the place `base`, and whose ranges end later by `grown`.
+fn last_in<T: RangeValue>(chunks: &[Placed<T>], base: u32, grown: u32) -> Option<RangeRef<'_, T>>
+    requires chunks { AreChunks T.rules (map (lengthen grown) chunks.now) }
+    requires fits { base + greatest_end (flat (map (lengthen grown) chunks.now)) < 2 ^ 32 }
+    ensures { option_map seen result ≡ slice_get (map (shift base) (flat (map (lengthen grown) chunks.now))) (length (flat (map (lengthen grown) chunks.now)) - 1) }
 {
     let placed = chunks.last()?;
     let range = placed.chunk.ranges.last()?;
     let start = base + placed.start;
     Some(RangeRef {
         from: range.from + start,
-        to: range.to + placed.grown + start,
+        to: range.to + (placed.grown + grown) + start,
         value: &range.value,
     })
 }

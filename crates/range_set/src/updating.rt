@@ -69,10 +69,10 @@ fn with_all<T: RangeValue>(
     let (before, rest) = parted_under(chunks, first.from);
     let (around, after) = parted_past(rest, last.from);
     let mut made = Vec::with_capacity(alloc, chunks.len().saturating_add(1))?;
-    share_each(0, before, &mut made)?;
+    share_each(0, 0, before, &mut made)?;
     let mut updated = updated_chunks(alloc, around, add, &|_range: &RangeRef<'_, T>| true)?;
     made.append(&mut updated)?;
-    share_each(0, after, &mut made)?;
+    share_each(0, 0, after, &mut made)?;
     Ok(made)
 }
 

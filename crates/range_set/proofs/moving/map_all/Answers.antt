@@ -1,4 +1,5 @@
 mod Inner
+mod Long
 use Rattle.std.proofs.Common.{List, [], ◌∷◌, ◌≡◌, ℕ, ◌+◌, ◌++◌, map, length, true, ap, refl, subst, sym, ◌∙◌, arith}
 use Rattle.std.proofs.lemmas.List.{append-nil, length-append}
 use Rattle.std.proofs.lemmas.Result.{IfOk-weaker}
@@ -14,20 +15,21 @@ use Rattle.change_desc.proofs.RangesMet.{replaced-begin}
 use Rattle.stable_order.specs.StableSort.{stable_sort}
 use Rattle.range_set.specs.Order.{before}
 use Rattle.range_set.specs.Mapping.{map_ranges, moved}
-use Rattle.range_set.specs.PrivateChunks.{FitCarried, AreGroups, Ascend, carry, flat, move, shift, spread}
+use Rattle.range_set.specs.PrivateChunks.{AreGroups, Ascend, FitCarried, carry, flat, group_content, move, put_at, shift, spread}
 use Rattle.range_set.specs.PrivateBuilders.{built, grouped, put_down}
 use Rattle.range_set.specs.declared.group.Group.{Group}
 use Rattle.range_set.specs.declared.group.PlacedGroup.{PlacedGroup}
 use Rattle.range_set.proofs.Clear.{IsClear, Sections, clear_place, map_pos-clear}
 use Rattle.range_set.proofs.Cost.{allowance, allowed}
 use Rattle.range_set.proofs.Each.{within}
-use Rattle.range_set.proofs.Groups.{are_spread, group_placed, groups_right}
+use Rattle.range_set.proofs.Groups.{are_spread, group_placed, groups_right, unlengthened}
 use Rattle.range_set.proofs.RangeOrder.{rises-no_fault}
 use Rattle.range_set.proofs.Under.{IsUnder, rises_ascend, under_end, under_end_order}
 use Rattle.range_set.proofs.Walked.{IsWalked, run_forward, walked_init, walked_less}
 use Rattle.range_set.proofs.WalkedGroups.{allowance_group, allowance_passed, carried_fit, clear_group, starts_at, still_fit, walked_carried, walked_group, walked_open, walked_still}
 use Rattle.range_set.proofs.moving.map_all.Goals as goal
 use Rattle.range_set.proofs.moving.map_all.Answers.Inner as inner
+use Rattle.range_set.proofs.moving.map_all.Answers.Long as long
 
 pub share_carried-requires-clause-ascend : goal.share_carried-requires-clause-ascend
 share_carried-requires-clause-ascend g c =
@@ -100,12 +102,12 @@ loop-inner-init g c =
     let rules = g.T.RangeValue.rules in
     let d = c.args.changes.now in
     let gs = c.args.groups in
-    let p : PlacedGroup g.row.T.Denot = record { start = c.in-Some.base; group = c.in-Some.group.now } in
+    let p = put_at c.in-Some.base c.in-Some.placed.now in
     let others = c.in-Some.others in
     let kept = c.loop-base.invariant in
     let groups = subst (AreGroups rules) c.in-Some.ensures.some.is kept.groups in
     let walked = subst (λ hs. IsWalked rules d (flat (spread gs)) (spread hs) (put_down c.loop-base.builder) c.loop-base.builder.run.items c.loop-base.walk.walker.reached c.loop-base.left.now) c.in-Some.ensures.some.is kept.walked in
-    let chunks = c.as_slice-chunks.ensures.value ∙ ap (λ (x : Group g.row.T.Denot). x.chunks.items) c.deref-then-is_opened.ensures in
+    let chunks = c.as_slice-chunks.ensures.value ∙ (ap (λ (x : Group g.row.T.Denot). x.chunks.items) c.deref-then-placed-eq0.ensures ∙ sym (unlengthened p.grown p.group.value.chunks.items c.if-placed-eq0.true)) in
     record {
       builder = c.reserve.ensures.builder;
       walked = rw (chunks, c.reserve.ensures.ranges, ap (λ v. v.items) c.reserve.ensures.run) (walked_open rules d (flat (spread gs)) p others (put_down c.loop-base.builder) c.loop-base.builder.run.items c.loop-base.walk.walker.reached c.loop-base.left.now c.ranges_from-left.result.now
@@ -122,14 +124,14 @@ place_after-to-requires-else-is_opened-clause-inside g c =
     let d = c.args.changes.now in
     let gs = c.args.groups in
     let whole = flat (spread gs) in
-    let p : PlacedGroup g.row.T.Denot = record { start = c.in-Some.base; group = c.in-Some.group.now } in
+    let p = put_at c.in-Some.base c.in-Some.placed.now in
     let others = c.in-Some.others in
     let done = put_down c.loop-base.builder in
     let run = c.loop-base.builder.run.items in
     let kept = c.loop-base.invariant in
     let groups = subst (AreGroups rules) c.in-Some.ensures.some.is kept.groups in
     let walked = subst (λ hs. IsWalked rules d (flat (spread gs)) (spread hs) (put_down c.loop-base.builder) c.loop-base.builder.run.items c.loop-base.walk.walker.reached c.loop-base.left.now) c.in-Some.ensures.some.is kept.walked in
-    let clear = clear_group rules d whole p others done run c.loop-base.walk.walker.reached c.loop-base.left.now c.ranges_from-left.result.now groups c.ranges_from-left.ensures.same walked (c.is_opened.ensures c.if-is_opened.false) in
+    let clear = clear_group rules d whole p others done run c.loop-base.walk.walker.reached c.loop-base.left.now c.ranges_from-left.result.now groups c.ranges_from-left.ensures.same walked (c.is_opened.ensures.apart c.if-is_opened.false) in
     let size = ap old_size kept.desc in
     let inside = clear.hull.inside in
     omega (arith, size, inside)
@@ -140,14 +142,14 @@ place_after-to-requires-else-is_opened-clause-ascending g c =
     let d = c.args.changes.now in
     let gs = c.args.groups in
     let whole = flat (spread gs) in
-    let p : PlacedGroup g.row.T.Denot = record { start = c.in-Some.base; group = c.in-Some.group.now } in
+    let p = put_at c.in-Some.base c.in-Some.placed.now in
     let others = c.in-Some.others in
     let done = put_down c.loop-base.builder in
     let run = c.loop-base.builder.run.items in
     let kept = c.loop-base.invariant in
     let groups = subst (AreGroups rules) c.in-Some.ensures.some.is kept.groups in
     let walked = subst (λ hs. IsWalked rules d (flat (spread gs)) (spread hs) (put_down c.loop-base.builder) c.loop-base.builder.run.items c.loop-base.walk.walker.reached c.loop-base.left.now) c.in-Some.ensures.some.is kept.walked in
-    let clear = clear_group rules d whole p others done run c.loop-base.walk.walker.reached c.loop-base.left.now c.ranges_from-left.result.now groups c.ranges_from-left.ensures.same walked (c.is_opened.ensures c.if-is_opened.false) in
+    let clear = clear_group rules d whole p others done run c.loop-base.walk.walker.reached c.loop-base.left.now c.ranges_from-left.result.now groups c.ranges_from-left.ensures.same walked (c.is_opened.ensures.apart c.if-is_opened.false) in
     clear.ascend
 
 pub place_after-to-requires-else-is_opened-clause-clear : goal.place_after-to-requires-else-is_opened-clause-clear
@@ -156,14 +158,14 @@ place_after-to-requires-else-is_opened-clause-clear g c =
     let d = c.args.changes.now in
     let gs = c.args.groups in
     let whole = flat (spread gs) in
-    let p : PlacedGroup g.row.T.Denot = record { start = c.in-Some.base; group = c.in-Some.group.now } in
+    let p = put_at c.in-Some.base c.in-Some.placed.now in
     let others = c.in-Some.others in
     let done = put_down c.loop-base.builder in
     let run = c.loop-base.builder.run.items in
     let kept = c.loop-base.invariant in
     let groups = subst (AreGroups rules) c.in-Some.ensures.some.is kept.groups in
     let walked = subst (λ hs. IsWalked rules d (flat (spread gs)) (spread hs) (put_down c.loop-base.builder) c.loop-base.builder.run.items c.loop-base.walk.walker.reached c.loop-base.left.now) c.in-Some.ensures.some.is kept.walked in
-    let clear = clear_group rules d whole p others done run c.loop-base.walk.walker.reached c.loop-base.left.now c.ranges_from-left.result.now groups c.ranges_from-left.ensures.same walked (c.is_opened.ensures c.if-is_opened.false) in
+    let clear = clear_group rules d whole p others done run c.loop-base.walk.walker.reached c.loop-base.left.now c.ranges_from-left.result.now groups c.ranges_from-left.ensures.same walked (c.is_opened.ensures.apart c.if-is_opened.false) in
     subst (λ (x : Sections). IsClear p.start p.start x) (sym kept.desc) clear.hull.clear
 
 pub place_after-to-requires-else-is_opened-clause-same : goal.place_after-to-requires-else-is_opened-clause-same
@@ -171,7 +173,7 @@ place_after-to-requires-else-is_opened-clause-same g c = λ a b m.
     let rules = g.T.RangeValue.rules in
     let d = c.args.changes.now in
     let gs = c.args.groups in
-    let p : PlacedGroup g.row.T.Denot = record { start = c.in-Some.base; group = c.in-Some.group.now } in
+    let p = put_at c.in-Some.base c.in-Some.placed.now in
     let others = c.in-Some.others in
     let kept = c.loop-base.invariant in
     let groups = subst (AreGroups rules) c.in-Some.ensures.some.is kept.groups in
@@ -185,14 +187,14 @@ share_group-requires-clause-order g c =
     let d = c.args.changes.now in
     let gs = c.args.groups in
     let whole = flat (spread gs) in
-    let p : PlacedGroup g.row.T.Denot = record { start = c.in-Some.base; group = c.in-Some.group.now } in
+    let p = put_at c.in-Some.base c.in-Some.placed.now in
     let others = c.in-Some.others in
     let done = put_down c.loop-base.builder in
     let run = c.loop-base.builder.run.items in
     let kept = c.loop-base.invariant in
     let groups = subst (AreGroups rules) c.in-Some.ensures.some.is kept.groups in
     let walked = subst (λ hs. IsWalked rules d (flat (spread gs)) (spread hs) (put_down c.loop-base.builder) c.loop-base.builder.run.items c.loop-base.walk.walker.reached c.loop-base.left.now) c.in-Some.ensures.some.is kept.walked in
-    let clear = clear_group rules d whole p others done run c.loop-base.walk.walker.reached c.loop-base.left.now c.ranges_from-left.result.now groups c.ranges_from-left.ensures.same walked (c.is_opened.ensures c.if-is_opened.false) in
+    let clear = clear_group rules d whole p others done run c.loop-base.walk.walker.reached c.loop-base.left.now c.ranges_from-left.result.now groups c.ranges_from-left.ensures.same walked (c.is_opened.ensures.apart c.if-is_opened.false) in
     clear.order
 
 pub share_group-requires-clause-forward : goal.share_group-requires-clause-forward
@@ -206,20 +208,20 @@ share_group-requires-clause-group g c =
     let d = c.args.changes.now in
     let gs = c.args.groups in
     let whole = flat (spread gs) in
-    let p : PlacedGroup g.row.T.Denot = record { start = c.in-Some.base; group = c.in-Some.group.now } in
+    let p = put_at c.in-Some.base c.in-Some.placed.now in
     let others = c.in-Some.others in
     let done = put_down c.loop-base.builder in
     let run = c.loop-base.builder.run.items in
     let kept = c.loop-base.invariant in
     let groups = subst (AreGroups rules) c.in-Some.ensures.some.is kept.groups in
     let walked = subst (λ hs. IsWalked rules d (flat (spread gs)) (spread hs) (put_down c.loop-base.builder) c.loop-base.builder.run.items c.loop-base.walk.walker.reached c.loop-base.left.now) c.in-Some.ensures.some.is kept.walked in
-    let clear = clear_group rules d whole p others done run c.loop-base.walk.walker.reached c.loop-base.left.now c.ranges_from-left.result.now groups c.ranges_from-left.ensures.same walked (c.is_opened.ensures c.if-is_opened.false) in
+    let clear = clear_group rules d whole p others done run c.loop-base.walk.walker.reached c.loop-base.left.now c.ranges_from-left.result.now groups c.ranges_from-left.ensures.same walked (c.is_opened.ensures.apart c.if-is_opened.false) in
     let start : c.place_after-to-else-is_opened.result ≡ clear_place d p.start =
     c.place_after-to-else-is_opened.ensures.value ∙ (ap (λ (x : Sections). place_after x p.start true) kept.desc ∙ ap (λ o. unwrap_or o 0) (map_pos-clear d p.start true Simple clear.hull.inside clear.hull.clear)) in
     let fits = clear.hull.fits in
     let bound = c.new_len-new_len.ensures in
     let size = c.new_len-new_len.type_inv in
-    group_placed rules p.start c.place_after-to-else-is_opened.result p.group.value groups.0.0 (omega (arith, start, fits, bound, size))
+    group_placed rules p.start c.place_after-to-else-is_opened.result (group_content p) groups.0.0 (omega (arith, start, fits, bound, size))
 
 pub share_group-requires-clause-room : goal.share_group-requires-clause-room
 share_group-requires-clause-room g c =
@@ -227,14 +229,14 @@ share_group-requires-clause-room g c =
     let d = c.args.changes.now in
     let gs = c.args.groups in
     let whole = flat (spread gs) in
-    let p : PlacedGroup g.row.T.Denot = record { start = c.in-Some.base; group = c.in-Some.group.now } in
+    let p = put_at c.in-Some.base c.in-Some.placed.now in
     let others = c.in-Some.others in
     let done = put_down c.loop-base.builder in
     let run = c.loop-base.builder.run.items in
     let kept = c.loop-base.invariant in
     let groups = subst (AreGroups rules) c.in-Some.ensures.some.is kept.groups in
     let walked = subst (λ hs. IsWalked rules d (flat (spread gs)) (spread hs) (put_down c.loop-base.builder) c.loop-base.builder.run.items c.loop-base.walk.walker.reached c.loop-base.left.now) c.in-Some.ensures.some.is kept.walked in
-    let clear = clear_group rules d whole p others done run c.loop-base.walk.walker.reached c.loop-base.left.now c.ranges_from-left.result.now groups c.ranges_from-left.ensures.same walked (c.is_opened.ensures c.if-is_opened.false) in
+    let clear = clear_group rules d whole p others done run c.loop-base.walk.walker.reached c.loop-base.left.now c.ranges_from-left.result.now groups c.ranges_from-left.ensures.same walked (c.is_opened.ensures.apart c.if-is_opened.false) in
     let a = clear.room in
     let b = c.requires.room in
     omega (arith, a, b)
@@ -253,7 +255,7 @@ share_carried-requires-else-is_opened-clause-ascend g c =
     let d = c.args.changes.now in
     let gs = c.args.groups in
     let whole = flat (spread gs) in
-    let p : PlacedGroup g.row.T.Denot = record { start = c.in-Some.base; group = c.in-Some.group.now } in
+    let p = put_at c.in-Some.base c.in-Some.placed.now in
     let others = c.in-Some.others in
     let done = put_down c.loop-base.builder in
     let run = c.loop-base.builder.run.items in
@@ -264,11 +266,11 @@ share_carried-requires-else-is_opened-clause-ascend g c =
     let met = c.ranges_from-left.ensures.same in
     let groups = subst (AreGroups rules) c.in-Some.ensures.some.is kept.groups in
     let walked = subst (λ hs. IsWalked rules d whole (spread hs) done run reached reps) c.in-Some.ensures.some.is kept.walked in
-    let clear = clear_group rules d whole p others done run reached reps after groups met walked (c.is_opened.ensures c.if-is_opened.false) in
+    let clear = clear_group rules d whole p others done run reached reps after groups met walked (c.is_opened.ensures.apart c.if-is_opened.false) in
     let start : c.place_after-to-else-is_opened.result ≡ clear_place d p.start =
     c.place_after-to-else-is_opened.ensures.value ∙ (ap (λ (x : Sections). place_after x p.start true) kept.desc ∙ ap (λ o. unwrap_or o 0) (map_pos-clear d p.start true Simple clear.hull.inside clear.hull.clear)) in
     let put = put_down c.share_group.new.self in
-    let more = c.in_ok-share_group.ensures.ranges ∙ ap (λ n. done ++ stable_sort (before rules) run ++ map (shift n) (flat p.group.value.chunks.items)) start in
+    let more = c.in_ok-share_group.ensures.ranges ∙ ap (λ n. done ++ stable_sort (before rules) run ++ map (shift n) (flat (group_content p).chunks)) start in
     let next = walked_group rules d whole p others done run put reached reps after groups met walked clear more in
     next.ascend
 
@@ -278,7 +280,7 @@ share_carried-requires-else-is_opened-clause-fits g c =
     let d = c.args.changes.now in
     let gs = c.args.groups in
     let whole = flat (spread gs) in
-    let p : PlacedGroup g.row.T.Denot = record { start = c.in-Some.base; group = c.in-Some.group.now } in
+    let p = put_at c.in-Some.base c.in-Some.placed.now in
     let others = c.in-Some.others in
     let done = put_down c.loop-base.builder in
     let run = c.loop-base.builder.run.items in
@@ -289,11 +291,11 @@ share_carried-requires-else-is_opened-clause-fits g c =
     let met = c.ranges_from-left.ensures.same in
     let groups = subst (AreGroups rules) c.in-Some.ensures.some.is kept.groups in
     let walked = subst (λ hs. IsWalked rules d whole (spread hs) done run reached reps) c.in-Some.ensures.some.is kept.walked in
-    let clear = clear_group rules d whole p others done run reached reps after groups met walked (c.is_opened.ensures c.if-is_opened.false) in
+    let clear = clear_group rules d whole p others done run reached reps after groups met walked (c.is_opened.ensures.apart c.if-is_opened.false) in
     let start : c.place_after-to-else-is_opened.result ≡ clear_place d p.start =
     c.place_after-to-else-is_opened.ensures.value ∙ (ap (λ (x : Sections). place_after x p.start true) kept.desc ∙ ap (λ o. unwrap_or o 0) (map_pos-clear d p.start true Simple clear.hull.inside clear.hull.clear)) in
     let put = put_down c.share_group.new.self in
-    let more = c.in_ok-share_group.ensures.ranges ∙ ap (λ n. done ++ stable_sort (before rules) run ++ map (shift n) (flat p.group.value.chunks.items)) start in
+    let more = c.in_ok-share_group.ensures.ranges ∙ ap (λ n. done ++ stable_sort (before rules) run ++ map (shift n) (flat (group_content p).chunks)) start in
     let next = walked_group rules d whole p others done run put reached reps after groups met walked clear more in
     let same : (b : ℕ) → list_any (meets p.start b) after ≡ list_any (meets p.start b) (replaced d) = λ b. met p.start b (omega arith) ∙ walked.same p.start b (starts_at rules d p others p.start groups.0.0 groups.0.1 (omega arith)) in
     let bound = c.new_len-new_len.ensures in
@@ -306,7 +308,7 @@ share_carried-requires-else-is_opened-clause-room g c =
     let d = c.args.changes.now in
     let gs = c.args.groups in
     let whole = flat (spread gs) in
-    let p : PlacedGroup g.row.T.Denot = record { start = c.in-Some.base; group = c.in-Some.group.now } in
+    let p = put_at c.in-Some.base c.in-Some.placed.now in
     let others = c.in-Some.others in
     let done = put_down c.loop-base.builder in
     let run = c.loop-base.builder.run.items in
@@ -317,11 +319,11 @@ share_carried-requires-else-is_opened-clause-room g c =
     let met = c.ranges_from-left.ensures.same in
     let groups = subst (AreGroups rules) c.in-Some.ensures.some.is kept.groups in
     let walked = subst (λ hs. IsWalked rules d whole (spread hs) done run reached reps) c.in-Some.ensures.some.is kept.walked in
-    let clear = clear_group rules d whole p others done run reached reps after groups met walked (c.is_opened.ensures c.if-is_opened.false) in
+    let clear = clear_group rules d whole p others done run reached reps after groups met walked (c.is_opened.ensures.apart c.if-is_opened.false) in
     let start : c.place_after-to-else-is_opened.result ≡ clear_place d p.start =
     c.place_after-to-else-is_opened.ensures.value ∙ (ap (λ (x : Sections). place_after x p.start true) kept.desc ∙ ap (λ o. unwrap_or o 0) (map_pos-clear d p.start true Simple clear.hull.inside clear.hull.clear)) in
     let put = put_down c.share_group.new.self in
-    let more = c.in_ok-share_group.ensures.ranges ∙ ap (λ n. done ++ stable_sort (before rules) run ++ map (shift n) (flat p.group.value.chunks.items)) start in
+    let more = c.in_ok-share_group.ensures.ranges ∙ ap (λ n. done ++ stable_sort (before rules) run ++ map (shift n) (flat (group_content p).chunks)) start in
     let next = walked_group rules d whole p others done run put reached reps after groups met walked clear more in
     let n = length-append (flat (grouped c.share_group.new.self.groups)) (built c.share_group.new.self.chunks) in
     let a = next.under.room in
@@ -342,7 +344,7 @@ loop-base-preserved g c =
     let d = c.args.changes.now in
     let gs = c.args.groups in
     let whole = flat (spread gs) in
-    let p : PlacedGroup g.row.T.Denot = record { start = c.in-Some.base; group = c.in-Some.group.now } in
+    let p = put_at c.in-Some.base c.in-Some.placed.now in
     let others = c.in-Some.others in
     let done = put_down c.loop-base.builder in
     let run = c.loop-base.builder.run.items in
@@ -353,11 +355,11 @@ loop-base-preserved g c =
     let met = c.ranges_from-left.ensures.same in
     let groups = subst (AreGroups rules) c.in-Some.ensures.some.is kept.groups in
     let walked = subst (λ hs. IsWalked rules d whole (spread hs) done run reached reps) c.in-Some.ensures.some.is kept.walked in
-    let clear = clear_group rules d whole p others done run reached reps after groups met walked (c.is_opened.ensures c.if-is_opened.false) in
+    let clear = clear_group rules d whole p others done run reached reps after groups met walked (c.is_opened.ensures.apart c.if-is_opened.false) in
     let start : c.place_after-to-else-is_opened.result ≡ clear_place d p.start =
     c.place_after-to-else-is_opened.ensures.value ∙ (ap (λ (x : Sections). place_after x p.start true) kept.desc ∙ ap (λ o. unwrap_or o 0) (map_pos-clear d p.start true Simple clear.hull.inside clear.hull.clear)) in
     let put = put_down c.share_group.new.self in
-    let more = c.in_ok-share_group.ensures.ranges ∙ ap (λ n. done ++ stable_sort (before rules) run ++ map (shift n) (flat p.group.value.chunks.items)) start in
+    let more = c.in_ok-share_group.ensures.ranges ∙ ap (λ n. done ++ stable_sort (before rules) run ++ map (shift n) (flat (group_content p).chunks)) start in
     let next = walked_group rules d whole p others done run put reached reps after groups met walked clear more in
     let same : (b : ℕ) → list_any (meets p.start b) after ≡ list_any (meets p.start b) (replaced d) = λ b. met p.start b (omega arith) ∙ walked.same p.start b (starts_at rules d p others p.start groups.0.0 groups.0.1 (omega arith)) in
     let shared = c.in_ok-rest-2.ensures.shared in
@@ -507,3 +509,46 @@ share_carried-requires-else-is_affected-clause-fits g c = inner.share_carried-re
 
 pub returns-in_err-chunks-clause-cost : goal.returns-in_err-chunks-clause-cost
 returns-in_err-chunks-clause-cost g c = inner.returns-in_err-chunks-clause-cost g c
+
+-- those of a group of one long range
+pub moved_alone-requires-else-placed-eq0-clause-same : goal.moved_alone-requires-else-placed-eq0-clause-same
+moved_alone-requires-else-placed-eq0-clause-same g c = long.moved_alone-requires-else-placed-eq0-clause-same g c
+
+pub moved_alone-requires-else-placed-eq0-clause-inside : goal.moved_alone-requires-else-placed-eq0-clause-inside
+moved_alone-requires-else-placed-eq0-clause-inside g c = long.moved_alone-requires-else-placed-eq0-clause-inside g c
+
+pub moved_alone-requires-else-placed-eq0-clause-ascending : goal.moved_alone-requires-else-placed-eq0-clause-ascending
+moved_alone-requires-else-placed-eq0-clause-ascending g c = long.moved_alone-requires-else-placed-eq0-clause-ascending g c
+
+pub returns-in_err-long-clause-cost : goal.returns-in_err-long-clause-cost
+returns-in_err-long-clause-cost g c = long.returns-in_err-long-clause-cost g c
+
+pub put_group-requires-clause-order : goal.put_group-requires-clause-order
+put_group-requires-clause-order g c = long.put_group-requires-clause-order g c
+
+pub put_group-requires-clause-forward : goal.put_group-requires-clause-forward
+put_group-requires-clause-forward g c = long.put_group-requires-clause-forward g c
+
+pub put_group-requires-clause-room : goal.put_group-requires-clause-room
+put_group-requires-clause-room g c = long.put_group-requires-clause-room g c
+
+pub loop-base-preserved-in-Continue-branch-12 : goal.loop-base-preserved-in-Continue-branch-12
+loop-base-preserved-in-Continue-branch-12 g c = long.loop-base-preserved-in-Continue-branch-12 g c
+
+pub returns-in_err-put_group-clause-cost : goal.returns-in_err-put_group-clause-cost
+returns-in_err-put_group-clause-cost g c = long.returns-in_err-put_group-clause-cost g c
+
+pub map_only-requires-clause-same : goal.map_only-requires-clause-same
+map_only-requires-clause-same g c = long.map_only-requires-clause-same g c
+
+pub map_only-requires-clause-inside : goal.map_only-requires-clause-inside
+map_only-requires-clause-inside g c = long.map_only-requires-clause-inside g c
+
+pub map_only-requires-clause-ascending : goal.map_only-requires-clause-ascending
+map_only-requires-clause-ascending g c = long.map_only-requires-clause-ascending g c
+
+pub loop-base-preserved-in-Continue-branch-13 : goal.loop-base-preserved-in-Continue-branch-13
+loop-base-preserved-in-Continue-branch-13 g c = long.loop-base-preserved-in-Continue-branch-13 g c
+
+pub returns-in_err-map_only-clause-cost : goal.returns-in_err-map_only-clause-cost
+returns-in_err-map_only-clause-cost g c = long.returns-in_err-map_only-clause-cost g c

@@ -5,7 +5,7 @@ use Rattle.change_desc.specs.Sections.{old_size}
 use Rattle.range_set.specs.declared.chunk.Chunk.{Chunk}
 use Rattle.range_set.specs.declared.ranged.Ranged.{Ranged}
 use Rattle.range_set.specs.Mapping.{moved}
-use Rattle.range_set.specs.PrivateChunks.{Ascend, content, grow, shift}
+use Rattle.range_set.specs.PrivateChunks.{Ascend, grow, shift, stretch}
 use Rattle.range_set.specs.PrivateMoving.{AreMoved, AreWithin}
 use Rattle.range_set.proofs.Chunks.{ascend-less}
 use Rattle.range_set.proofs.Clear.{Sections}
@@ -19,15 +19,15 @@ loop-first-init g c =
     let rules = g.T.RangeValue.rules in
     let d = c.args.walk.now.walker.desc in
     let start = c.args.start in
-    let by = c.args.placed.now.grown in
-    let items = (content c.args.placed.now).ranges in
+    let by = c.args.grown in
+    let items = (stretch c.args.grown c.args.chunk.now.value).ranges in
     let run = c.args.run.now.items in
     let count = c.args.mapped.now in
     let is = ap (map (grow by)) (c.as_slice-rest.ensures.value ∙ ap (λ (ch : Chunk g.row.T.Denot). ch.ranges.items) c.deref-2.ensures) in
     record {
       moved = subst (λ (rs : List (Ranged g.row.T.Denot)). AreMoved rules d start items rs run c.reserve.new.list.items count count) (sym is)
           (subst (λ (rs : List (Ranged g.row.T.Denot)). AreMoved rules d start items items run rs count count) (sym c.reserve.ensures) (moved_none rules d start items run count));
-      within = subst (AreWithin (old_size d) start) (sym is) (chunk_within rules (old_size d) start (content c.args.placed.now) c.requires.chunk c.requires.inside);
+      within = subst (AreWithin (old_size d) start) (sym is) (chunk_within rules (old_size d) start (stretch c.args.grown c.args.chunk.now.value) c.requires.chunk c.requires.inside);
       desc = refl;
       walk = λ later h. subst (λ (rs : List (Ranged g.row.T.Denot)). Ascend c.args.walk.now.walker.reached (map (shift start) rs ++ later)) (sym is) h;
       clear = c.requires.walk;
@@ -38,20 +38,20 @@ loop-first-init g c =
 pub moved_among-requires-clause-ascending : goal.moved_among-requires-clause-ascending
 moved_among-requires-clause-ascending g c =
     let start = c.args.start in
-    let items = (content c.args.placed.now).ranges in
+    let items = (stretch c.args.grown c.args.chunk.now.value).ranges in
     let first = c.args.walk.now.walker.reached in
     let all = c.loop-first.invariant.walk [] (subst (Ascend first) (sym (append-nil (map (shift start) items))) c.requires.ascending) in
-    (subst (λ (rs : List (Ranged g.row.T.Denot)). Ascend c.loop-first.walk.walker.reached (map (shift start) rs ++ [])) (ap (map (grow c.args.placed.now.grown)) c.in-Some.ensures.cases.0) all).0
+    (subst (λ (rs : List (Ranged g.row.T.Denot)). Ascend c.loop-first.walk.walker.reached (map (shift start) rs ++ [])) (ap (map (grow c.args.grown)) c.in-Some.ensures.cases.0) all).0
 
 pub loop-first-preserved : goal.loop-first-preserved
 loop-first-preserved g c =
     let rules = g.T.RangeValue.rules in
     let d = c.args.walk.now.walker.desc in
     let start = c.args.start in
-    let items = (content c.args.placed.now).ranges in
+    let items = (stretch c.args.grown c.args.chunk.now.value).ranges in
     let first = c.args.walk.now.walker.reached in
     let before = c.loop-first.invariant in
-    let by = c.args.placed.now.grown in
+    let by = c.args.grown in
     let r = grow by c.in-Some.first.now in
     let others = map (grow by) c.in-Some.others.now in
     let rest = map (grow by) c.in_ok-rest.rest.now in

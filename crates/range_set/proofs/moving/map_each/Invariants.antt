@@ -4,15 +4,15 @@ use Rattle.change_desc.specs.Meeting.{BeginAfter}
 use Rattle.change_desc.specs.Ranges.{meets, replaced}
 use Rattle.change_desc.specs.Sections.{old_size}
 use Rattle.range_set.specs.declared.ranged.Ranged.{Ranged}
-use Rattle.range_set.specs.PrivateChunks.{Ascend, content, grow, shift}
+use Rattle.range_set.specs.PrivateChunks.{Ascend, grow, shift, stretch}
 use Rattle.range_set.specs.PrivateMoving.{AreMoved, AreWithin, IsClearWalk}
 use Rattle.range_set.proofs.Each.{FirstBy}
 use Rattle.range_set.proofs.moving.map_each.Given as goal
 
 abbrev pub invariant-loop-first : goal.invariant-loop-first
 invariant-loop-first g l =
-    let items = (content l.placed).ranges in
-    let rest = map (grow l.placed.grown) l.rest in
+    let items = (stretch l.grown l.chunk.value).ranges in
+    let rest = map (grow l.grown) l.rest in
     record {
       moved : AreMoved g.T.RangeValue.rules l.initial.walk.walker.desc l.start items rest l.fn.run.items l.run.items l.initial.mapped l.mapped;
       within : AreWithin (old_size l.initial.walk.walker.desc) l.start rest;

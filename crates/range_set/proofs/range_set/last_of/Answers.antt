@@ -1,6 +1,6 @@
 use Rattle.std.proofs.Common.{◌≡◌, ◌-◌, ◌+◌, List, None, Some, length, map, ap, subst, sym, ◌∙◌, arith}
 use Rattle.std.specs.Prelude.{slice_get}
-use Rattle.range_set.specs.PrivateChunks.{AreChunks, flat, greatest_end, shift}
+use Rattle.range_set.specs.PrivateChunks.{AreChunks, flat, greatest_end, lengthen, shift}
 use Rattle.range_set.specs.declared.chunk.Placed.{Placed}
 use Rattle.range_set.specs.declared.group.Group.{Group}
 use Rattle.range_set.specs.declared.group.PlacedGroup.{PlacedGroup}
@@ -34,8 +34,8 @@ last_in-requires g c =
     let here = last_group rules c.args.pages.now p q c.requires (sym c.in_ok-placed.ensures.value) at in
     let inner = c.as_slice.ensures.value ∙ ap (λ (x : Group g.row.T.Denot). x.chunks.items) c.deref-3.ensures in
     record {
-      chunks = subst (AreChunks rules) (sym inner) here.0;
-      fits = let a = ap (λ (xs : List (Placed g.row.T.Denot)). greatest_end (flat xs)) inner in let b = here.1 in omega (arith, a, b);
+      chunks = subst (λ (xs : List (Placed g.row.T.Denot)). AreChunks rules (map (lengthen q.grown) xs)) (sym inner) here.0;
+      fits = let a = ap (λ (xs : List (Placed g.row.T.Denot)). greatest_end (flat (map (lengthen q.grown) xs))) inner in let b = here.1 in omega (arith, a, b);
     }
 
 pub returns : goal.returns
@@ -46,4 +46,4 @@ returns g c =
     let at = subst (λ (xs : List (PlacedGroup g.row.T.Denot)). slice_get xs (length xs - 1) ≡ Some q) same (sym c.in_ok-inner.ensures.value) in
     let inner = c.as_slice.ensures.value ∙ ap (λ (x : Group g.row.T.Denot). x.chunks.items) c.deref-3.ensures in
     last_paged g.T.RangeValue.rules c.args.pages.now p q _ c.requires (sym c.in_ok-placed.ensures.value) at
-    (c.last_in.ensures ∙ ap (λ (xs : List (Placed g.row.T.Denot)). slice_get (map (shift (p.start + q.start)) (flat xs)) (length (flat xs) - 1)) inner)
+    (c.last_in.ensures ∙ ap (λ (xs : List (Placed g.row.T.Denot)). slice_get (map (shift (p.start + q.start)) (flat (map (lengthen q.grown) xs))) (length (flat (map (lengthen q.grown) xs)) - 1)) inner)

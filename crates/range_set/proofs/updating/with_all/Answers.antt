@@ -1,8 +1,8 @@
-use Rattle.std.proofs.Common.{of_calls, ◌≡◌, ◌-◌, ◌++◌, ◌∙◌, List, Some, true, ap, length, subst, sym}
+use Rattle.std.proofs.Common.{of_calls, ◌≡◌, ◌-◌, ◌++◌, ◌∙◌, List, Some, true, ap, length, map, subst, sym}
 use Rattle.std.specs.Prelude.{slice_get}
-use Rattle.range_set.specs.PrivateChunks.{AreChunks, flat}
+use Rattle.range_set.specs.PrivateChunks.{AreChunks, flat, lengthen}
 use Rattle.range_set.specs.declared.ranged.Ranged.{Ranged}
-use Rattle.range_set.proofs.Groups.{AreChunks-append, flat-unmoved, moved_none}
+use Rattle.range_set.proofs.Groups.{AreChunks-append, flat-unmoved, lengthened_none, moved_none}
 use Rattle.range_set.proofs.PartedChunks.{add_between, are_parted, joined_ranges, rest_chunks}
 use Rattle.range_set.proofs.RangeOrder.{rises-no_fault}
 use Rattle.range_set.proofs.Under.{rises_ascend}
@@ -22,7 +22,7 @@ parted_past-requires-clause-ascend g c =
     (rest_chunks g.T.RangeValue.rules c.args.chunks.now c.parted_under.result.0.now c.parted_under.result.1.now c.parted_under.ensures.parts c.requires.chunks c.requires.order).1
 
 pub share_each-requires-clause-chunks : goal.share_each-requires-clause-chunks
-share_each-requires-clause-chunks g c = subst (AreChunks g.T.RangeValue.rules) (sym (moved_none c.parted_under.result.0.now)) (are_parted g.T.RangeValue.rules c.args.chunks.now c.parted_under.result.0.now c.parted_under.result.1.now c.parted_past.result.0.now c.parted_past.result.1.now
+share_each-requires-clause-chunks g c = subst (AreChunks g.T.RangeValue.rules) (sym (moved_none (map (lengthen 0) c.parted_under.result.0.now) ∙ lengthened_none c.parted_under.result.0.now)) (are_parted g.T.RangeValue.rules c.args.chunks.now c.parted_under.result.0.now c.parted_under.result.1.now c.parted_past.result.0.now c.parted_past.result.1.now
     c.parted_under.ensures.parts c.parted_past.ensures.parts c.requires.chunks c.requires.order).first
 
 pub updated_chunks-requires-clause-chunks : goal.updated_chunks-requires-clause-chunks
@@ -34,7 +34,7 @@ updated_chunks-requires-clause-order g c = (are_parted g.T.RangeValue.rules c.ar
     c.parted_under.ensures.parts c.parted_past.ensures.parts c.requires.chunks c.requires.order).order
 
 pub share_each-requires-2-clause-chunks : goal.share_each-requires-2-clause-chunks
-share_each-requires-2-clause-chunks g c = subst (AreChunks g.T.RangeValue.rules) (sym (moved_none c.parted_past.result.1.now)) (are_parted g.T.RangeValue.rules c.args.chunks.now c.parted_under.result.0.now c.parted_under.result.1.now c.parted_past.result.0.now c.parted_past.result.1.now
+share_each-requires-2-clause-chunks g c = subst (AreChunks g.T.RangeValue.rules) (sym (moved_none (map (lengthen 0) c.parted_past.result.1.now) ∙ lengthened_none c.parted_past.result.1.now)) (are_parted g.T.RangeValue.rules c.args.chunks.now c.parted_under.result.0.now c.parted_under.result.1.now c.parted_past.result.0.now c.parted_past.result.1.now
     c.parted_under.ensures.parts c.parted_past.ensures.parts c.requires.chunks c.requires.order).third
 
 pub share_each-requires-2-clause-made : goal.share_each-requires-2-clause-made
@@ -52,8 +52,8 @@ returns-clause-order g c =
     let some = c.in-Some-Some in
     let parts = are_parted rules c.args.chunks.now xs c.parted_under.result.1.now ys zs c.parted_under.ensures.parts c.parted_past.ensures.parts c.requires.chunks c.requires.order in
     let all = joined_ranges rules c.in_ok-made.made.items xs c.share_each.new.made.items c.in_ok-updated.updated.items c.append.new.self.items zs c.share_each-2.new.made.items
-    c.in_ok-made.ensures.items (c.in_ok-share_each.ensures.ranges ∙ ap (λ rs. flat c.in_ok-made.made.items ++ rs) (flat-unmoved xs)) c.in_ok-append.ensures.items
-    (c.in_ok-share_each-2.ensures.ranges ∙ ap (λ rs. flat c.append.new.self.items ++ rs) (flat-unmoved zs)) in
+    c.in_ok-made.ensures.items (c.in_ok-share_each.ensures.ranges ∙ ap (λ rs. flat c.in_ok-made.made.items ++ rs) (flat-unmoved (map (lengthen 0) xs) ∙ ap flat (lengthened_none xs))) c.in_ok-append.ensures.items
+    (c.in_ok-share_each-2.ensures.ranges ∙ ap (λ rs. flat c.append.new.self.items ++ rs) (flat-unmoved (map (lengthen 0) zs) ∙ ap flat (lengthened_none zs))) in
     (add_between rules c.args.chunks.now xs ys zs c.in_ok-updated.updated.items c.share_each-2.new.made.items add some.first.now some.last.now parts c.requires.added
     (subst (λ (rs : List (Ranged g.row.T.Denot)). slice_get rs 0 ≡ Some some.first.now) c.deref.ensures.value (sym some.ensures.value))
     (subst (λ (rs : List (Ranged g.row.T.Denot)). slice_get rs (length rs - 1) ≡ Some some.last.now) c.deref-2.ensures.value (sym some.ensures'.value))
@@ -69,8 +69,8 @@ returns-clause-ranges g c =
     let some = c.in-Some-Some in
     let parts = are_parted rules c.args.chunks.now xs c.parted_under.result.1.now ys zs c.parted_under.ensures.parts c.parted_past.ensures.parts c.requires.chunks c.requires.order in
     let all = joined_ranges rules c.in_ok-made.made.items xs c.share_each.new.made.items c.in_ok-updated.updated.items c.append.new.self.items zs c.share_each-2.new.made.items
-    c.in_ok-made.ensures.items (c.in_ok-share_each.ensures.ranges ∙ ap (λ rs. flat c.in_ok-made.made.items ++ rs) (flat-unmoved xs)) c.in_ok-append.ensures.items
-    (c.in_ok-share_each-2.ensures.ranges ∙ ap (λ rs. flat c.append.new.self.items ++ rs) (flat-unmoved zs)) in
+    c.in_ok-made.ensures.items (c.in_ok-share_each.ensures.ranges ∙ ap (λ rs. flat c.in_ok-made.made.items ++ rs) (flat-unmoved (map (lengthen 0) xs) ∙ ap flat (lengthened_none xs))) c.in_ok-append.ensures.items
+    (c.in_ok-share_each-2.ensures.ranges ∙ ap (λ rs. flat c.append.new.self.items ++ rs) (flat-unmoved (map (lengthen 0) zs) ∙ ap flat (lengthened_none zs))) in
     (add_between rules c.args.chunks.now xs ys zs c.in_ok-updated.updated.items c.share_each-2.new.made.items add some.first.now some.last.now parts c.requires.added
     (subst (λ (rs : List (Ranged g.row.T.Denot)). slice_get rs 0 ≡ Some some.first.now) c.deref.ensures.value (sym some.ensures.value))
     (subst (λ (rs : List (Ranged g.row.T.Denot)). slice_get rs (length rs - 1) ≡ Some some.last.now) c.deref-2.ensures.value (sym some.ensures'.value))

@@ -1,13 +1,13 @@
 use Rattle.std.proofs.Common.{◌++◌, ◌+◌, map, length}
-use Rattle.range_set.specs.PrivateChunks.{AreChunks, ArePassed, move, spread}
+use Rattle.range_set.specs.PrivateChunks.{AreChunks, ArePassed, lengthen, move, spread}
 use Rattle.range_set.proofs.chunk_iter.ChunkIter.pass_chunks.Given as goal
 
 abbrev pub invariant-loop-first : goal.invariant-loop-first
 invariant-loop-first g l = record {
-  passed : ArePassed l.place (map (move l.initial.self-inside.base) l.initial.self-inside.chunks.now ++ spread l.initial.self-inside.groups)
-      (map (move l.self-inside.base) l.self-inside.chunks.now ++ spread l.self-inside.groups);
-  left : AreChunks g.T.RangeValue.rules (map (move l.self-inside.base) l.self-inside.chunks.now);
+  passed : ArePassed l.place (map (move l.initial.self-inside.base) (map (lengthen l.initial.self-inside.grown) l.initial.self-inside.chunks.now) ++ spread l.initial.self-inside.groups)
+      (map (move l.self-inside.base) (map (lengthen l.self-inside.grown) l.self-inside.chunks.now) ++ spread l.self-inside.groups);
+  left : AreChunks g.T.RangeValue.rules (map (move l.self-inside.base) (map (lengthen l.self-inside.grown) l.self-inside.chunks.now));
 }
 
 abbrev pub decreases-loop-first : goal.decreases-loop-first
-decreases-loop-first g l = length (map (move l.self-inside.base) l.self-inside.chunks.now ++ spread l.self-inside.groups) + length l.self-inside.groups
+decreases-loop-first g l = length (map (move l.self-inside.base) (map (lengthen l.self-inside.grown) l.self-inside.chunks.now) ++ spread l.self-inside.groups) + length l.self-inside.groups

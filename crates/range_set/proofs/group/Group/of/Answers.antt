@@ -1,4 +1,4 @@
-use Rattle.std.proofs.Common.{◌≡◌, ◌+◌, ◌-◌, ◌≤◌, ◌<◌, ◌||◌, max, List, length, get_or, map, take, drop, ap, sym, subst, ◌∙◌, arith}
+use Rattle.std.proofs.Common.{◌≡◌, ◌+◌, ◌-◌, ◌≤◌, ◌<◌, ◌||◌, max, List, length, get_or, map, take, drop, refl, ap, sym, subst, ◌∙◌, arith}
 use Rattle.std.proofs.lemmas.List.{length-append, length-map, take_all, take_at, take-append-drop}
 use Rattle.std.specs.List.{list_any}
 use Rattle.range_set.specs.Mapping.{is_turned}
@@ -115,7 +115,7 @@ returns-clause-group g c =
     let is = written-all (counted_chunk rules c.args.start) c.loop-placed.placed-items olds i at.items last in
     let m : length c.loop-placed.placed-items ≡ c.args.chunks.len = let k = c.args.chunks.ok.0 in let l = c.loop-placed.auto.placed-items in omega (arith, k, l, n) in
     let back = take_at c.loop-placed.placed-items (drop (length c.loop-placed.placed-items) olds) c.args.chunks.len m in
-    whole_group rules c.args.start _ olds (back ∙ is) c.requires.few c.requires.chunks c.requires.first (at.count ∙ ap (λ ps. length (flat ps)) all)
+    whole_group rules c.args.start _ olds refl (back ∙ is) c.requires.few c.requires.chunks c.requires.first (at.count ∙ ap (λ ps. length (flat ps)) all)
     (at.reach ∙ ap (λ ps. greatest_end (flat (map (counted_chunk rules c.args.start) ps))) all)
     (at.turned ∙ ap (λ ps. list_any (is_turned rules) (flat ps)) all) (at.points ∙ ap (λ ps. list_any (stands rules) (flat ps)) all) at.fits
 

@@ -10,17 +10,17 @@ pub put_all-requires : goal.put_all-requires
 put_all-requires g t c κs within =
     let first = c.split_off.new.self in
     let rest = c.in_ok-rest.rest in
-    let whole = ap (λ ps. ps ++ rest.items) c.in_ok-rest.ensures.items ∙ (ap (λ ps. take c.part_len-part.result c.args.chunks.items ++ ps) c.in_ok-rest.ensures.tail ∙ take-append-drop c.part_len-part.result c.args.chunks.items) in
+    let whole = ap (λ ps. ps ++ rest.items) c.in_ok-rest.ensures.items ∙ (ap (λ ps. take c.group_len-part.result c.args.chunks.items ++ ps) c.in_ok-rest.ensures.tail ∙ take-append-drop c.group_len-part.result c.args.chunks.items) in
     let cut = are_cut g.T.RangeValue.rules (grouped c.args.self.now) c.args.chunks.items first.items rest.items whole c.requires.chunks c.requires.room c.requires.order in
-    (omega (arith, c.decreases, c.in_ok-rest.ensures.len, c.if-part-len.true, c.len-2.ensures), (within, (c.requires.builder, (cut.first, (cut.first_room, cut.first_order)))))
+    (omega (arith, c.decreases, c.in_ok-rest.ensures.len, c.if-part-len.true, c.len.ensures), (within, (c.requires.builder, (cut.first, (cut.first_room, cut.first_order)))))
 
 pub put_all-requires-then-part-len : goal.put_all-requires-then-part-len
 put_all-requires-then-part-len g t c κs within =
     let first = c.split_off.new.self in
     let rest = c.in_ok-rest.rest in
-    let whole = ap (λ ps. ps ++ rest.items) c.in_ok-rest.ensures.items ∙ (ap (λ ps. take c.part_len-part.result c.args.chunks.items ++ ps) c.in_ok-rest.ensures.tail ∙ take-append-drop c.part_len-part.result c.args.chunks.items) in
+    let whole = ap (λ ps. ps ++ rest.items) c.in_ok-rest.ensures.items ∙ (ap (λ ps. take c.group_len-part.result c.args.chunks.items ++ ps) c.in_ok-rest.ensures.tail ∙ take-append-drop c.group_len-part.result c.args.chunks.items) in
     let cut = are_cut g.T.RangeValue.rules (grouped c.args.self.now) c.args.chunks.items first.items rest.items whole c.requires.chunks c.requires.room c.requires.order in
-    let some = c.part_len-part.ensures.some (omega (arith, c.if-part-len.true, c.len-2.ensures, c.len.ensures)) in
+    let some = c.group_len-part.ensures.some (omega (arith, ap length c.deref.ensures.value, c.if-part-len.true, c.len.ensures, c.args.chunks.ok.0)) in
     let put = sym c.in_ok-put_all.ensures.ranges in (
       omega (arith, c.decreases, c.in_ok-rest.ensures.tail_len, some),
       (

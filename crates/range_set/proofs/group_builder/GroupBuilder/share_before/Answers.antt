@@ -1,9 +1,8 @@
 use Rattle.std.proofs.Common.{◌+◌, ◌<◌, ◌^◌, [], ◌∷◌, ◌++◌, length, map, ap, sym, subst, ◌∙◌, arith}
 use Rattle.std.proofs.lemmas.List.{append-nil, length-append}
-use Rattle.range_set.specs.PrivateChunks.{Ascend, flat, move, shift, spread}
+use Rattle.range_set.specs.PrivateChunks.{Ascend, flat, group_content, move, put_at, shift, spread}
 use Rattle.range_set.specs.PrivateBuilders.{grouped}
 use Rattle.range_set.specs.PrivatePages.{further}
-use Rattle.range_set.specs.declared.group.PlacedGroup.{PlacedGroup}
 use Rattle.range_set.proofs.CarriedPages.{page_room}
 use Rattle.range_set.proofs.Chunks.{ascend-rest, flat-append, length_shifted}
 use Rattle.range_set.proofs.Groups.{flat-spread, flat-spread_append, length_moved}
@@ -43,19 +42,19 @@ loop-placed-preserved-then-begins_before g c =
 
 pub share-requires-clause-room : goal.share-requires-clause-room
 share-requires-clause-room g c =
-    let p : PlacedGroup g.row.T.Denot = record { start = c.in-Some-split_first.start; group = c.in-Some-split_first.group.now } in
+    let p = put_at c.in-Some-split_first.start c.in-Some-split_first.placed.now in
     let others = c.in-Some-split_first.others in
     let room = subst (λ gs. length (flat (grouped c.loop-placed.self)) + length (flat (spread gs)) < 2 ^ 64) c.in-Some-split_first.ensures.some.is c.loop-placed.invariant.room in
-    let n = ap length (flat-spread p others) ∙ length-append (map (shift p.start) (flat p.group.value.chunks.items)) (flat (spread others)) in
-    let m = length_shifted g.T.RangeValue.rules p.start (flat p.group.value.chunks.items) in
+    let n = ap length (flat-spread p others) ∙ length-append (map (shift p.start) (flat (group_content p).chunks)) (flat (spread others)) in
+    let m = length_shifted g.T.RangeValue.rules p.start (flat (group_content p).chunks) in
     omega (arith, room, n, m)
 
 pub loop-placed-preserved : goal.loop-placed-preserved
 loop-placed-preserved g c =
     let rules = g.T.RangeValue.rules in
     let place = c.args.place in
-    let p : PlacedGroup g.row.T.Denot = record { start = c.in-Some-split_first.start; group = c.in-Some-split_first.group.now } in
-    let chunks = p.group.value.chunks.items in
+    let p = put_at c.in-Some-split_first.start c.in-Some-split_first.placed.now in
+    let chunks = (group_content p).chunks in
     let others = c.in-Some-split_first.others in
     let here = grouped c.loop-placed.self in
     let at = c.loop-placed.invariant in

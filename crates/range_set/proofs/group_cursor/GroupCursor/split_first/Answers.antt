@@ -29,4 +29,4 @@ returns-in_ok-first-in-None-clause-some g c =
     let first = c.in_ok-first-in-None in
     let items = ap (λ (x : Page g.row.T.Denot). x.groups.items) (sym c.deref.ensures) ∙ (sym c.as_slice.ensures.value ∙ first.ensures.cases.0) in
     let next = first_of_page g.T.RangeValue.rules at.base at.groups.now at.pages.now p c.in_ok-placed-in-None.others.now first.first.now first.groups.now c.in-None.ensures.cases c.in_ok-placed-in-None.ensures.cases.0 items c.self.invariant in
-    subst (λ gs. PlacesFirst g.T.RangeValue.rules gs (p.start + first.first.now.start) first.first.now.group (map (further p.start) first.groups.now ++ laid c.in_ok-placed-in-None.others.now)) c.self.view_is next.0
+    subst (λ gs. PlacesFirst g.T.RangeValue.rules gs (p.start + first.first.now.start) first.first.now (map (further p.start) first.groups.now ++ laid c.in_ok-placed-in-None.others.now)) c.self.view_is next.0

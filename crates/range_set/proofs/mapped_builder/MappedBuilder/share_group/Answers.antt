@@ -4,7 +4,7 @@ use Rattle.std.proofs.lemmas.Result.{IfOk-weaker}
 use Rattle.stable_order.specs.StableSort.{stable_sort}
 use Rattle.stable_order.proofs.StableSort.{length-stable_sort}
 use Rattle.range_set.specs.Order.{before}
-use Rattle.range_set.specs.PrivateChunks.{Ascend, flat, move, shift}
+use Rattle.range_set.specs.PrivateChunks.{Ascend, flat, group_content, move, shift}
 use Rattle.range_set.specs.PrivateBuilders.{built, grouped, put_down}
 use Rattle.range_set.proofs.Chunks.{ascend-rest, flat-append}
 use Rattle.range_set.proofs.Groups.{flat-moved}
@@ -45,7 +45,7 @@ returns-clause-ranges g c =
     let old = c.args.self.now in
     let done = flat (grouped old.groups) in
     let run = stable_sort (before g.T.RangeValue.rules) old.run.items in
-    let chunks = c.args.group.now.value.chunks.items in
+    let chunks = (group_content c.args.placed.now).chunks in
     let more = map (shift c.args.start) (flat chunks) in
     let sorted = ap (λ rs. done ++ rs) c.in_ok-put_sorted.ensures.ranges ∙ sym (append_assoc done (built old.chunks) run) in
     let ended = c.in_ok-end_groups.ensures.ranges ∙ sorted in

@@ -74,9 +74,9 @@ put_chunk-requires-clause-order g c =
     let kept = c.loop-inner.invariant in
     let here = subst (λ qs. IsWalked rules d whole (map (move base) qs ++ later) done run reached reps) c.in-Some-split_first.ensures.cases.0 kept.walked in
     let met = c.ranges_from-left-in-Some-split_first.ensures.same in
-    let told : IfSome (Some c.in-Some-2.alone) (IsMovedAlone rules c.loop-inner.walk.walker.desc (p.start + base) (content p)) =
-    subst (λ o. IfSome o (IsMovedAlone rules c.loop-inner.walk.walker.desc (p.start + base) (content p))) c.in-Some-2.is c.in_ok-alone.ensures.moved in
-    let alone = subst (λ (s : Sections). IsMovedAlone rules s (p.start + base) (content p) c.in-Some-2.alone) kept.desc told in
+    let told : IfSome (Some c.in-Some-2.alone) (λ new. IsMovedAlone rules c.loop-inner.walk.walker.desc (p.start + base) (content p) new.start (content new)) =
+    subst (λ o. IfSome o (λ new. IsMovedAlone rules c.loop-inner.walk.walker.desc (p.start + base) (content p) new.start (content new))) c.in-Some-2.is c.in_ok-alone.ensures.moved in
+    let alone = subst (λ (s : Sections). IsMovedAlone rules s (p.start + base) (content p) c.in-Some-2.alone.start (content c.in-Some-2.alone)) kept.desc told in
     alone_order rules d whole (move base p) c.in-Some-2.alone rest done run reached reps here alone
 
 pub put_chunk-requires-clause-forward : goal.put_chunk-requires-clause-forward
@@ -136,9 +136,9 @@ loop-inner-preserved-in-Continue-branch-6 g c =
     let spent = kept.cost in
     let share = ap (λ x. cond x 128 0 + allowance rules d rest) (sym affected ∙ c.if-is_affected.true) in
     let at = ap (λ qs. allowance rules d (map (move base) qs ++ later)) c.in-Some-split_first.ensures.cases.0 in
-    let told : IfSome (Some c.in-Some-2.alone) (IsMovedAlone rules c.loop-inner.walk.walker.desc (p.start + base) (content p)) =
-    subst (λ o. IfSome o (IsMovedAlone rules c.loop-inner.walk.walker.desc (p.start + base) (content p))) c.in-Some-2.is c.in_ok-alone.ensures.moved in
-    let alone = subst (λ (s : Sections). IsMovedAlone rules s (p.start + base) (content p) c.in-Some-2.alone) kept.desc told in
+    let told : IfSome (Some c.in-Some-2.alone) (λ new. IsMovedAlone rules c.loop-inner.walk.walker.desc (p.start + base) (content p) new.start (content new)) =
+    subst (λ o. IfSome o (λ new. IsMovedAlone rules c.loop-inner.walk.walker.desc (p.start + base) (content p) new.start (content new))) c.in-Some-2.is c.in_ok-alone.ensures.moved in
+    let alone = subst (λ (s : Sections). IsMovedAlone rules s (p.start + base) (content p) c.in-Some-2.alone.start (content c.in-Some-2.alone)) kept.desc told in
     let each = c.tick.ensures in
     let next = walked_alone rules d whole (move base p) c.in-Some-2.alone rest done run (put_down c.put_chunk.new.self) reached reps after here met alone c.in_ok-put_chunk.ensures.ranges in
     record {

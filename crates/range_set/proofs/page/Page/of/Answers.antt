@@ -3,7 +3,7 @@ use Rattle.std.proofs.lemmas.List.{length-append, take_all, take_at, take-append
 use Rattle.std.specs.List.{list_any}
 use Rattle.range_set.specs.Mapping.{is_turned}
 use Rattle.range_set.specs.Points.{stands}
-use Rattle.range_set.specs.PrivateChunks.{flat, greatest_end, spread}
+use Rattle.range_set.specs.PrivateChunks.{flat, greatest_end, group_content, spread}
 use Rattle.range_set.specs.PrivatePages.{further}
 use Rattle.range_set.specs.declared.group.Group.{Group}
 use Rattle.range_set.proofs.Chunks.{or_first, or_second}
@@ -32,7 +32,7 @@ overflow_add-count g c =
     let x = c.placed-item.result in
     let lt : i < length olds = subst (λ (ps : List _). i < length ps) c.deref_mut-placed-items.ensures.value c.loop-placed-test.true in
     let is = item_at (counted_group rules c.args.start) c.loop-placed.placed-items olds i x c.loop-placed.invariant.items lt in
-    let len = ap (λ (x : Group g.row.T.Denot). x.count) c.deref.ensures ∙ (ap (λ p. p.group.value.count) is ∙ (group_item rules olds i x lt c.requires.groups).0.count) in
+    let len = ap (λ (x : Group g.row.T.Denot). x.count) c.deref.ensures ∙ (ap (λ p. (group_content p).count) is ∙ (group_item rules olds i x lt c.requires.groups).0.count) in
     let more = count_more rules olds i x lt in
     let parts = ap (λ ps. length (flat (spread ps))) (sym (take-append-drop (i + 1) olds))
     ∙ (ap length (flat-spread_append (take (i + 1) olds) (drop (i + 1) olds)) ∙ length-append (flat (spread (take (i + 1) olds))) (flat (spread (drop (i + 1) olds)))) in
@@ -49,9 +49,20 @@ overflow_add-from g c =
     let lt : i < length olds = subst (λ (ps : List _). i < length ps) c.deref_mut-placed-items.ensures.value c.loop-placed-test.true in
     let is = item_at (counted_group rules c.args.start) c.loop-placed.placed-items olds i x c.loop-placed.invariant.items lt in
     let from = ap (λ p. p.start) is in
-    let reach = ap (λ (x : Group g.row.T.Denot). x.reach) c.deref-in-loop-placed.ensures ∙ ap (λ p. p.group.value.reach) is in
+    let reach = c.reach.ensures ∙ ap (λ p. (group_content p).reach) is in
     let fits = (group_item rules olds i x lt c.requires.groups).0.fits in
     omega (arith, from, reach, fits)
+
+pub reach-requires : goal.reach-requires
+reach-requires g c =
+    let rules = g.T.RangeValue.rules in
+    let olds = c.args.groups.items in
+    let i = c.loop-placed.placed-index in
+    let x = c.placed-item.result in
+    let lt : i < length olds = subst (λ (ps : List _). i < length ps) c.deref_mut-placed-items.ensures.value c.loop-placed-test.true in
+    let reach = ap (λ p. (group_content p).reach) (item_at (counted_group rules c.args.start) c.loop-placed.placed-items olds i x c.loop-placed.invariant.items lt) in
+    let fits = (group_item rules olds i x lt c.requires.groups).0.fits in
+    omega (arith, reach, fits)
 
 pub loop-placed-preserved : goal.loop-placed-preserved
 loop-placed-preserved g c =
@@ -64,18 +75,18 @@ loop-placed-preserved g c =
     let lt : i < length olds = subst (λ (ps : List _). i < length ps) c.deref_mut-placed-items.ensures.value c.loop-placed-test.true in
     let is = item_at (counted_group rules start) c.loop-placed.placed-items olds i x at.items lt in
     let group = group_item rules olds i x lt c.requires.groups in
-    let len = ap (λ (x : Group g.row.T.Denot). x.count) c.deref.ensures ∙ (ap (λ p. p.group.value.count) is ∙ group.0.count) in
+    let len = ap (λ (x : Group g.row.T.Denot). x.count) c.deref.ensures ∙ (ap (λ p. (group_content p).count) is ∙ group.0.count) in
     let more = count_more rules olds i x lt in
     let from = ap (λ p. p.start) is in
-    let reach = ap (λ (x : Group g.row.T.Denot). x.reach) c.deref-in-loop-placed.ensures ∙ ap (λ p. p.group.value.reach) is in
-    let most : c.max-reach.result ≡ max c.loop-placed.reach ((get_or c.loop-placed.placed-items i x).start - start + c.deref-in-loop-placed.result.now.reach) = c.max-reach.ensures in
-    let turned : c.if-is_turned.is_turned ≡ (c.loop-placed.is_turned || (get_or olds i x).group.value.is_turned) = elim c.if-is_turned.branch [
+    let reach = c.reach.ensures ∙ ap (λ p. (group_content p).reach) is in
+    let most : c.max-reach.result ≡ max c.loop-placed.reach ((get_or c.loop-placed.placed-items i x).start - start + c.reach.result) = c.max-reach.ensures in
+    let turned : c.if-is_turned.is_turned ≡ (c.loop-placed.is_turned || (group_content (get_or olds i x)).is_turned) = elim c.if-is_turned.branch [
       | then-is_turned w ↦ or_first _ _ _ w.is_turned-is w.if-is_turned.true
-      | else-is_turned w ↦ or_second _ _ _ (w.is_turned-is ∙ (ap (λ (x : Group g.row.T.Denot). x.is_turned) w.deref-else-is_turned.ensures ∙ ap (λ p. p.group.value.is_turned) is)) w.if-is_turned.false
+      | else-is_turned w ↦ or_second _ _ _ (w.is_turned-is ∙ (ap (λ (x : Group g.row.T.Denot). x.is_turned) w.deref-else-is_turned.ensures ∙ ap (λ p. (group_content p).is_turned) is)) w.if-is_turned.false
     ] in
-    let points : c.if-has_point.has_point ≡ (c.loop-placed.has_point || (get_or olds i x).group.value.has_point) = elim c.if-has_point.branch [
+    let points : c.if-has_point.has_point ≡ (c.loop-placed.has_point || (group_content (get_or olds i x)).has_point) = elim c.if-has_point.branch [
       | then-has_point w ↦ or_first _ _ _ w.has_point-is w.if-has_point.true
-      | else-has_point w ↦ or_second _ _ _ (w.has_point-is ∙ (ap (λ (x : Group g.row.T.Denot). x.has_point) w.deref-else-has_point.ensures ∙ ap (λ p. p.group.value.has_point) is)) w.if-has_point.false
+      | else-has_point w ↦ or_second _ _ _ (w.has_point-is ∙ (ap (λ (x : Group g.row.T.Denot). x.has_point) w.deref-else-has_point.ensures ∙ ap (λ p. (group_content p).has_point) is)) w.if-has_point.false
     ] in
     record {
       items = written (counted_group rules start) c.loop-placed.placed-items olds i x at.items lt;
@@ -86,8 +97,8 @@ loop-placed-preserved g c =
           let l = c.requires.after i x lt in
           let m = group.0.fits in
           omega (arith, most, from, reach, k, l, m);
-      turned = turned ∙ (ap (λ b. b || (get_or olds i x).group.value.is_turned) at.turned ∙ sym (turned_more rules olds i x lt group.0));
-      points = points ∙ (ap (λ b. b || (get_or olds i x).group.value.has_point) at.points ∙ sym (points_more rules olds i x lt group.0));
+      turned = turned ∙ (ap (λ b. b || (group_content (get_or olds i x)).is_turned) at.turned ∙ sym (turned_more rules olds i x lt group.0));
+      points = points ∙ (ap (λ b. b || (group_content (get_or olds i x)).has_point) at.points ∙ sym (points_more rules olds i x lt group.0));
     }
 
 pub returns-clause-page : goal.returns-clause-page

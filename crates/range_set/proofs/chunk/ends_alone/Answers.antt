@@ -1,4 +1,4 @@
-use Rattle.std.proofs.Common.{◌≡◌, ◌+◌, ◌-◌, ◌^◌, true, false, ◌≤◌, ◌<◌, [], ◌∷◌, map, Some, ap, subst, sym, ◌∙◌, arith, SFits, w32}
+use Rattle.std.proofs.Common.{◌≡◌, ◌+◌, ◌^◌, true, false, ◌≤◌, ◌<◌, [], ◌∷◌, map, Some, ap, subst, sym, ◌∙◌, arith, SFits, w32}
 use Rattle.std.proofs.lemmas.Int.{to_z-of_z}
 use Rattle.std.specs.Prelude.{unwrap_or}
 use Rattle.std.specs.List.{list_any}
@@ -7,24 +7,22 @@ use Rattle.change_desc.specs.Ranges.{meets, replaced}
 use Rattle.change_desc.specs.Sections.{counted, new_size, old_size}
 use Rattle.change_desc.specs.Walker.{Walk}
 use Rattle.change_desc.specs.declared.map_mode.MapMode.TheVariants.{Simple}
-use Rattle.range_set.specs.Mapping.{moved, place_of}
-use Rattle.range_set.specs.PrivateChunks.{IsChunk, first_start, grow, shift, stretch}
-use Rattle.range_set.specs.declared.chunk.Chunk.{Chunk}
-use Rattle.range_set.specs.declared.ranged.Ranged.{Ranged}
+use Rattle.range_set.specs.Mapping.{place_of}
+use Rattle.range_set.specs.PrivateChunks.{first_start, grow, shift}
 use Rattle.range_set.proofs.Alone.{bare, goes_alone, is_bare, one_item}
 use Rattle.range_set.proofs.Clear.{Sections, map_pos-clear}
 use Rattle.range_set.proofs.Each.{Within, within}
-use Rattle.range_set.proofs.chunk.Placed.moved_alone.Goals as goal
+use Rattle.range_set.proofs.chunk.ends_alone.Goals as goal
 
 pub map_pos-requires-clause-inside : goal.map_pos-requires-clause-inside
 map_pos-requires-clause-inside g c =
     let rules = g.T.RangeValue.rules in
     let d = c.args.walk.now.walker.desc in
     let start = c.args.start in
-    let by = c.args.self.now.grown in
-    let ch = c.args.self.now.chunk.value in
+    let by = c.args.grown in
+    let ch = c.args.chunk.now in
     let only = c.only-item.result in
-    let raw = c.as_slice.ensures.value ∙ ap (λ (x : Chunk g.row.T.Denot). x.ranges.items) c.deref.ensures in
+    let raw = c.as_slice.ensures.value in
     let least = c.in-len1.len_at_least in
     let most = c.in-len1.len_below in
     let items : ch.ranges.items ≡ only ∷ [] = sym raw ∙ one_item c.as_slice.result.now only (omega (arith, least)) (omega (arith, most)) c.only-item.is in
@@ -41,10 +39,10 @@ place_after-from-requires-clause-inside g c =
     let rules = g.T.RangeValue.rules in
     let d = c.args.walk.now.walker.desc in
     let start = c.args.start in
-    let by = c.args.self.now.grown in
-    let ch = c.args.self.now.chunk.value in
+    let by = c.args.grown in
+    let ch = c.args.chunk.now in
     let only = c.only-item.result in
-    let raw = c.as_slice.ensures.value ∙ ap (λ (x : Chunk g.row.T.Denot). x.ranges.items) c.deref.ensures in
+    let raw = c.as_slice.ensures.value in
     let least = c.in-len1.len_at_least in
     let most = c.in-len1.len_below in
     let items : ch.ranges.items ≡ only ∷ [] = sym raw ∙ one_item c.as_slice.result.now only (omega (arith, least)) (omega (arith, most)) c.only-item.is in
@@ -60,10 +58,10 @@ returns-clause-moved g c =
     let rules = g.T.RangeValue.rules in
     let d = c.args.walk.now.walker.desc in
     let start = c.args.start in
-    let by = c.args.self.now.grown in
-    let ch = c.args.self.now.chunk.value in
+    let by = c.args.grown in
+    let ch = c.args.chunk.now in
     let only = c.only-item.result in
-    let raw = c.as_slice.ensures.value ∙ ap (λ (x : Chunk g.row.T.Denot). x.ranges.items) c.deref.ensures in
+    let raw = c.as_slice.ensures.value in
     let least = c.in-len1.len_at_least in
     let most = c.in-len1.len_below in
     let items : ch.ranges.items ≡ only ∷ [] = sym raw ∙ one_item c.as_slice.result.now only (omega (arith, least)) (omega (arith, most)) c.only-item.is in
@@ -85,17 +83,16 @@ returns-clause-moved g c =
     let end : place_of d (start + by) (rules.end_side v) Simple ≡ Some t =
     ap (λ (s : Sections). place_of s (start + by) (rules.end_side v) Simple) (sym desc)
     ∙ (ap (λ e. place_of c.walk_from.result.desc (start + by) e Simple) (sym c.end_side-side.ensures) ∙ (sym told ∙ c.in-Some.is)) in
-    let some : 0 < by = let k = c.if-self-eq0.false in omega (arith, k) in
+    let some : 0 < by = let k = c.if-grown-eq0.false in omega (arith, k) in
     let less : f < t = let k = c.if-saturating_sub-le-MAX_SHARED_LEN.false in let n = c.saturating_sub.ensures in omega (arith, k, n) in
     let fits : t < 2 ^ 32 = let k = c.in-Some.ensures.inside in let n = ap (new_size counted) desc in let m = c.requires.room in omega (arith, k, n, m) in
     let alone = goes_alone rules d start f t by ch v is c.requires.chunk some begin end less fits in
-    let value = c.in_ok-chunk.ensures.cases in
     record {
       range = grow by (bare rules v);
       one = alone.one;
       clear = subst (λ n. list_any (meets n n) (replaced d) ≡ false) (let e : start ≡ 0 + start = omega arith in e) clear;
       image = record { from = f; to = t; value = v };
       moves = alone.moves;
-      images = subst (λ (x : Chunk g.row.T.Denot). map (shift f) (stretch (t - f) x).ranges ≡ (let q : Ranged g.row.T.Denot = record { from = f; to = t; value = v } in q ∷ [])) (sym value) alone.images;
-      chunk = subst (λ (x : Chunk g.row.T.Denot). IsChunk rules f (stretch (t - f) x)) (sym value) alone.chunk;
+      images = alone.images;
+      chunk = alone.chunk;
     }
