@@ -30,6 +30,7 @@ fn rule_number(item: &Plain) -> Option<u32>
 }
 
 /// The numbers of rules among items.
+#[inline(always)]
 fn numbers_of(alloc: Global, items: &[Plain]) -> Result<Vec<u32>, AllocError>
     ensures { IfOk result (λ numbers. numbers.items ≡ filter_map rule_number (map datum_of items.now)) }
 {

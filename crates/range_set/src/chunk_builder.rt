@@ -83,6 +83,7 @@ impl<T: RangeValue> ChunkBuilder<T> {
     }
 
     /// Puts a chunk after the ranges, at a place of its own, and shares it. `Err`: out of memory.
+    #[inline(always)]
     pub(crate) fn share(&mut self, start: u32, placed: &Placed<T>) -> Result<(), AllocError>
         requires builder { IsBuilder T.rules self.old }
         requires chunk { IsChunk T.rules start (content placed.now) }

@@ -104,6 +104,7 @@ impl<T: RangeValue> PageBuilder<T> {
     }
 
     /// Puts the groups of a page after the others, at a place of its own, and shares it. `Err`: out of memory.
+    #[inline(always)]
     pub(crate) fn share(&mut self, start: u32, page: &Rc<Page<T>>) -> Result<(), AllocError>
         requires page { IsPage T.rules start page.now.value }
         requires some { 1 ≤ length (flat (spread page.now.value.groups.items)) }
@@ -148,7 +149,7 @@ fn grow<T: RangeValue>(
 
 /// Makes a page of the groups that grow at the place `start`, if there are any, and begins a list without groups. `Err`: out of
 /// memory.
-#[inline(never)]
+#[inline(always)]
 fn seal<T: RangeValue>(
     done: &mut Vec<PlacedPage<T>>,
     start: u32,
@@ -164,6 +165,25 @@ fn seal<T: RangeValue>(
     if growing.is_empty() {
         return Ok(());
     }
+    seal_some(done, start, growing)
+}
+
+/// Makes a page of the groups that grow at the place `start`, of which there are some, and begins a list without groups. `Err`: out
+/// of memory.
+#[inline(never)]
+fn seal_some<T: RangeValue>(
+    done: &mut Vec<PlacedPage<T>>,
+    start: u32,
+    growing: &mut Vec<PlacedGroup<T>>,
+) -> Result<(), AllocError>
+    requires pages { ArePages T.rules done.old.items }
+    requires growing { AreGrowing T.rules start growing.old.items }
+    requires some { 1 ≤ length growing.old.items }
+    ensures pages { ArePages T.rules done.new.items }
+    ensures groups { IfOk result (λ _. laid done.new.items ≡ laid done.old.items ++ growing.old.items) }
+    ensures growing { AreGrowing T.rules start growing.new.items }
+    ensures empty { IfOk result (λ _. growing.new.items ≡ []) }
+{
     let alloc = *done.allocator();
     let mut groups = mem::replace(growing, Vec::new(alloc));
     trim(&mut groups);

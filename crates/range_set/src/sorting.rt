@@ -13,6 +13,7 @@ use std::alloc::AllocError;
 use std::mem;
 
 /// Sorts a run of ranges and puts them after those of a builder; none is left. `Err`: out of memory.
+#[inline(always)]
 pub(crate) fn put_sorted<T: RangeValue>(
     run: &mut Vec<Ranged<T>>,
     builder: &mut ChunkBuilder<T>,
@@ -31,6 +32,7 @@ pub(crate) fn put_sorted<T: RangeValue>(
 }
 
 /// Sorts a run that isn't empty and puts its ranges after those of a builder; none is left. `Err`: out of memory.
+#[inline(never)]
 fn put_run<T: RangeValue>(
     run: &mut Vec<Ranged<T>>,
     builder: &mut ChunkBuilder<T>,

@@ -1,15 +1,10 @@
-use Rattle.std.proofs.Common.{ℕ, ◌≡◌, ◌++◌, ◌≤◌, List, false, length, map, sym, ap, subst, ◌∙◌, arith}
-use Rattle.std.proofs.lemmas.Bool.Decides.{nat_tests}
-use Rattle.std.specs.Prelude.{◌==◌}
+use Rattle.std.proofs.Common.{◌++◌, ◌≤◌, List, length, map, sym, ap, subst, ◌∙◌, arith}
 use Rattle.range_set.specs.PrivateChunks.{flat, spread}
 use Rattle.range_set.specs.PrivatePages.{IsPage, further, laid}
 use Rattle.range_set.specs.declared.group.PlacedGroup.{PlacedGroup}
 use Rattle.range_set.specs.declared.page.Page.{Page}
 use Rattle.range_set.proofs.Pages.{ArePages-push, laid-push, length_further, spread_some}
-use Rattle.range_set.proofs.page_builder.seal.Goals as goal
-
-nonempty : (n len : ℕ) → (len == 0) ≡ false → len ≡ n → 1 ≤ n
-nonempty n len h e = grind (arith, nat_tests)
+use Rattle.range_set.proofs.page_builder.seal_some.Goals as goal
 
 pub returns-clause-pages : goal.returns-clause-pages
 returns-clause-pages g c =
@@ -18,7 +13,7 @@ returns-clause-pages g c =
     let page = c.of.result in
     let items = c.of.ensures.groups ∙ (c.trim.ensures ∙ ap (λ x. x.items) c.replace-groups.ensures.value) in
     let is = sym c.in_ok-new.ensures.ok in
-    let some = spread_some rules growing.items c.requires.growing.groups (nonempty _ _ (sym c.is_empty.ensures ∙ c.if-is_empty.false) growing.ok.0) in
+    let some = spread_some rules growing.items c.requires.growing.groups c.requires.some in
     let a = length_further rules c.args.start page.groups.items in
     let b = ap (λ gs. length (flat (spread gs))) items in
     rw c.in_ok-push.ensures.items (ArePages-push rules c.args.done.now.items _ c.requires.pages
