@@ -1,14 +1,11 @@
 -- A place between groups of pages, and the groups after it.
 use Rattle.std.proofs.Common.{◌≡◌, ℕ, ◌+◌, ◌<◌, ◌≤◌, false, List, [], ◌∷◌, ◌++◌, length, map, refl, sym, ◌∙◌, ap, subst, arith, append_assoc}
 use Rattle.std.proofs.lemmas.List.{length-append}
-use Rattle.std.specs.declared.alloc.Global.{Global}
-use Rattle.std.specs.declared.rc.Rc.{Rc}
 use Rattle.range_set.specs.Rules.{RangeRules}
 use Rattle.range_set.specs.Points.{points_of}
 use Rattle.range_set.specs.PrivateChunks.{AreGroups, ArePassed, IsGroup, flat, group_content, move, shift, spread}
 use Rattle.range_set.specs.PrivatePages.{AreLast, ArePages, AreGroupsLeft, PlacesFirst, PlacesGroups, PlacesPage, further, laid}
 use Rattle.range_set.specs.declared.chunk.Placed.{Placed}
-use Rattle.range_set.specs.declared.group.Group.{Group}
 use Rattle.range_set.specs.declared.group.PlacedGroup.{PlacedGroup}
 use Rattle.range_set.specs.declared.page.PlacedPage.{PlacedPage}
 use Rattle.range_set.proofs.Chunks.{end_by_greatest}

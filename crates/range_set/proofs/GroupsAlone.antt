@@ -1,5 +1,5 @@
 -- The only chunk of a group, whose range is moved by another length of the group and not by another group.
-use Rattle.std.proofs.Common.{◌≡◌, ℕ, true, ◌||◌, ◌+◌, ◌-◌, ◌<◌, ◌≤◌, ◌^◌, List, [], ◌∷◌, ◌++◌, length, map, refl, sym, ap, subst, ◌∙◌, arith}
+use Rattle.std.proofs.Common.{◌≡◌, ℕ, true, ◌||◌, ◌+◌, ◌<◌, ◌≤◌, List, [], ◌∷◌, length, map, refl, sym, ap, subst, ◌∙◌, arith}
 use Rattle.std.proofs.lemmas.List.{append-nil, length-map}
 use Rattle.std.specs.List.{list_any}
 use Rattle.change_desc.specs.Ranges.{meets}

@@ -1,13 +1,10 @@
 -- Groups that are opened one after another, and the groups after them.
 use Rattle.std.proofs.Common.{◌≡◌, ℕ, ◌<◌, List, [], ◌∷◌, ◌++◌, map, sym, ◌∙◌, ap, subst, append_assoc}
-use Rattle.std.specs.declared.alloc.Global.{Global}
-use Rattle.std.specs.declared.rc.Rc.{Rc}
 use Rattle.range_set.specs.Rules.{RangeRules}
 use Rattle.range_set.specs.PrivateChunks.{AreChunks, Ascend, flat, group_content, put_at, shift, spread}
 use Rattle.range_set.specs.PrivatePages.{PlacesFirst}
 use Rattle.range_set.specs.PrivateUpdates.{AreOpened, BeginPast}
 use Rattle.range_set.specs.declared.chunk.Placed.{Placed}
-use Rattle.range_set.specs.declared.group.Group.{Group}
 use Rattle.range_set.specs.declared.group.PlacedGroup.{PlacedGroup}
 use Rattle.range_set.proofs.Adding.{past_hull}
 use Rattle.range_set.proofs.Chunks.{ascend-rest}

@@ -9,11 +9,8 @@ use Rattle.range_set.specs.Points.{points_of, stands}
 use Rattle.range_set.specs.PrivateChunks.{ArePassed, Ascend, EndBy, IsChunk, content, flat, group_content, put_at, shift, spread}
 use Rattle.range_set.specs.PrivatePages.{PlacesFirst}
 use Rattle.range_set.specs.Updating.{overlaps}
-use Rattle.std.specs.declared.alloc.Global.{Global}
-use Rattle.std.specs.declared.rc.Rc.{Rc}
 use Rattle.range_set.specs.declared.ranged.Ranged.{Ranged}
 use Rattle.range_set.specs.declared.chunk.Placed.{Placed}
-use Rattle.range_set.specs.declared.group.Group.{Group}
 use Rattle.range_set.specs.declared.group.PlacedGroup.{PlacedGroup}
 use Rattle.range_set.proofs.Chunks.{ascend-rest, end_by_greatest}
 use Rattle.range_set.proofs.Groups.{flat-spread, group_ends}

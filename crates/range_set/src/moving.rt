@@ -280,7 +280,8 @@ fn map_only<'a, T: RangeValue, L: Ledger>(
 }
 
 /// Puts the ranges of a chunk at the place `start` that the changes of a walk keep, moved, after a run of others, and makes room for
-/// `more`. Each ends later than the chunk says, by `grown`. The ranges that the changes replace are given from the first on that may meet the chunk. `Err`: out of memory.
+/// `more`. Each ends later than the chunk says, by `grown`. The ranges that the changes replace are given from the first on that may
+/// meet the chunk. `Err`: out of memory.
 #[inline(never)]
 fn map_each<'a, T: RangeValue, L: Ledger>(
     start: u32,

@@ -19,9 +19,9 @@ use Rattle.facet_slots.proofs.Walking.{drafted-more, drafted-calls, drafted-valu
 use Rattle.facet_slots.proofs.WithoutInputs.{stay-still}
 use Rattle.facet_slots.proofs.walk.kept_after.Goals as goal
 
-pub begun_draft-requires-clause-still : goal.begun_draft-requires-clause-still
-begun_draft-requires-clause-still g c =
-    λ t is. stay-still g.M.Meanings.rules (setup_of c.args.old_setup.now) (setup_of c.args.setup.now) (scene_in c.args.old.now) c.args.old.now.shelf c.requires.kept (c.requires.follows.continued t is)
+pub begun_draft-requires : goal.begun_draft-requires
+begun_draft-requires g c =
+    record { still = λ t is. stay-still g.M.Meanings.rules (setup_of c.args.old_setup.now) (setup_of c.args.setup.now) (scene_in c.args.old.now) c.args.old.now.shelf c.requires.kept (c.requires.follows.continued t is) }
 
 pub advance-requires-clause-scene : goal.advance-requires-clause-scene
 advance-requires-clause-scene g c = subst IsScene (c.requires.scene ∙ sym c.loop-place.invariant.drafted.scene_is) c.requires.is_scene

@@ -1,5 +1,5 @@
 -- What a group of one long range asks.
-use Rattle.std.proofs.Common.{List, [], ◌∷◌, ◌≡◌, ℕ, cond, ◌+◌, ◌<◌, ◌++◌, map, filter_map, length, true, Some, ap, subst, sym, ◌∙◌, arith}
+use Rattle.std.proofs.Common.{List, [], cond, ◌+◌, ◌<◌, ◌++◌, map, filter_map, length, Some, ap, subst, sym, ◌∙◌, arith}
 use Rattle.std.proofs.lemmas.List.{length-append}
 use Rattle.std.specs.Prelude.{IfSome}
 use Rattle.std.specs.List.{list_any}
