@@ -48,7 +48,8 @@ fn value_without_inputs<'a>(old: &'a Kept, setup: &Setup, facet: u32) -> Option<
     }
 }
 
-/// The places of the facets, from what is kept of the state before: those last that have no inputs now and had none before.
+/// The places of the facets, from what is kept of the state before: those last that have no inputs now and had none before. No
+/// contract says which last: it only decides what states share.
 fn places(alloc: Global, old: &Kept, setup: &Setup) -> Result<Places, AllocError>
     ensures count { IfOk result (λ p. length p.list.items ≡ length (setup_of setup.now).defs.facets) }
     ensures placed { IfOk result (λ p. ArePlaced p.slot_count p.list.items) }

@@ -32,7 +32,8 @@ pub(crate) const MAX_SHARED_LEN: u32 = 256;
 /// 32. The range of a chunk of one has no length here: its length stands beside the place of the chunk or of its group.
 #[derive(Drop)]
 pub(crate) struct Chunk<T> {
-    /// Their greatest end as they stand here: the hull of the chunk runs from its place to its place, this and what `Placed` adds.
+    /// Their greatest end as they stand here: the hull of the chunk runs from its place to its place, this and what
+    /// `Placed` and `PlacedGroup` add.
     pub(crate) reach: u32,
     /// Whether one of them, at its full length, is empty with an end side less than its start side.
     pub(crate) is_turned: bool,

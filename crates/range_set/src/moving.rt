@@ -137,7 +137,7 @@ fn map_all<'a, T: RangeValue, L: Ledger>(
 }
 
 /// Whether the chunks of a group are looked at one by one: whether changes affect it, where the ranges that they replace before it are
-/// left out, or it becomes one with those before it. A group of one long range does so with none.
+/// left out, or it becomes one with those before it. A group of one long range does so with none, and stays apart.
 fn is_opened<T: RangeValue>(
     start: u32,
     placed: &PlacedGroup<T>,
@@ -206,7 +206,8 @@ fn is_met(start: u32, reach: u32, changed: &ChangedRange) -> bool {
 }
 
 /// How many ranges are likely to come to a run after those of a chunk, where it has no room yet: those of the chunks after it that the
-/// first of some replaced ranges meets, up to a long range, which may end the run. No contract speaks of this: it only says how much room to make, once for all of them.
+/// first of some replaced ranges meets, up to a long range, which may end the run. No contract speaks of this: it only says how much
+/// room to make, once for all of them.
 fn ranges_after<T>(
     run: &Vec<Ranged<T>>,
     base: u32,
@@ -280,7 +281,7 @@ fn map_only<'a, T: RangeValue, L: Ledger>(
 }
 
 /// Puts the ranges of a chunk at the place `start` that the changes of a walk keep, moved, after a run of others, and makes room for
-/// `more`. Each ends later than the chunk says, by `grown`. The ranges that the changes replace are given from the first on that may
+/// `more` further ones. Each ends later than the chunk says, by `grown`. The ranges that the changes replace are given from the first on that may
 /// meet the chunk. `Err`: out of memory.
 #[inline(never)]
 fn map_each<'a, T: RangeValue, L: Ledger>(

@@ -25,8 +25,8 @@ pub(crate) fn opened<T: RangeValue>(
     Ok(chunks)
 }
 
-/// The chunks of the first group and of those after it that don't begin after a place, shared, and the place before the other groups.
-/// `Err`: out of memory.
+/// The chunks of the first group and of those after it that don't begin after a place, shared, and the place before the other groups:
+/// of one more group, where the last of them is that of a long range, which what is added can't join. `Err`: out of memory.
 pub(crate) fn opened_by<'a, T: RangeValue>(
     alloc: Global,
     groups: GroupCursor<'a, T>,
@@ -37,10 +37,13 @@ pub(crate) fn opened_by<'a, T: RangeValue>(
 {
     let mut chunks = Vec::new(alloc);
     let mut rest = groups;
+    let mut is_alone = false;
     while let Some((start, placed, others)) = rest.split_first() {
-        if place < start && !chunks.is_empty() {
+        let is_joined = is_alone && placed.grown == 0;
+        if place < start && !chunks.is_empty() && !is_joined {
             return Ok((chunks, rest));
         }
+        is_alone = placed.grown != 0;
         open(start, placed, &mut chunks)?;
         rest = others;
     }

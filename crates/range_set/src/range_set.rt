@@ -218,8 +218,8 @@ impl<T: RangeValue> RangeSet<T> {
     /// before it fill at most three quarters of one. Pages of such groups are shared as pages, unless a page becomes one with groups
     /// before it. Each range of the other chunks raises `mapped` by one, and its value is copied, unless it is the only one of its chunk,
     /// no Replace meets its start, and it is longer than 256 characters after the changes: then its chunk is shared. One that is longer
-    /// than 4,096 characters before them is the only one of its group, which is shared if it is so after them too; else its value is
-    /// copied. `Err`: out of memory.
+    /// than 4,096 characters before them is the only one of its group, which is shared if no Replace meets its start and it is so after
+    /// them too; else its value is copied. `Err`: out of memory.
     pub fn map_steps<L: Ledger>(
         &self,
         changes: &Desc,

@@ -1,8 +1,8 @@
 use Rattle.range_set.proofs.Opened.{open_next, open_until}
 use Rattle.range_set.proofs.opening.opened_by.Goals as goal
 
-pub returns-then-not-is_empty : goal.returns-then-not-is_empty
-returns-then-not-is_empty g c =
+pub returns-then-not-is_joined : goal.returns-then-not-is_joined
+returns-then-not-is_joined g c =
     let next = c.in-Some in
     let at = c.loop-start in
     record {
