@@ -145,3 +145,53 @@ fn a_range_is_added_to_one_of_a_group_of_its_own(rt: HostRuntime) -> Result<(), 
     }
     Ok(())
 }
+
+#[test]
+fn a_range_of_4_096_characters_has_no_group_of_its_own(rt: HostRuntime) -> Result<(), Fail> {
+    let change = (20, 3_700, 0);
+    let short = [(10, 4_106, 1, 0)];
+    let long = [(10, 4_107, 1, 0)];
+    assert!(rt; come_to(rt.alloc(), &short, change, &[(10, 406, 1)])? == Some(true));
+    assert!(rt; come_to(rt.alloc(), &long, change, &[(10, 407, 1)])? == None);
+    Ok(())
+}
+
+#[test]
+fn a_range_that_comes_to_be_short_stands_before_another(rt: HostRuntime) -> Result<(), Fail> {
+    let rows = [(10, 5_010, 1, 1), (6_000, 6_010, 2, 0)];
+    let want = [(10, 110, 1), (1_100, 1_110, 2)];
+    assert!(rt; come_to(rt.alloc(), &rows, (20, 4_900, 0), &want)? == Some(true));
+    Ok(())
+}
+
+/// Whether forty spans over 4,096 characters, more than one group or page is cut to, take up three characters within all of them.
+fn forty_grow(alloc: Global) -> Result<Option<bool>, Fail> {
+    let mut rows = Vec::new(alloc);
+    let mut want = Vec::new(alloc);
+    for number in 1..41 {
+        rows.push((number, number + 5_000, number, 0))?;
+        want.push((number, number + 5_003, number))?;
+    }
+    come_to(alloc, &rows, (100, 0, 3), &want)
+}
+
+#[test]
+fn forty_ranges_over_4_096_characters_grow_without_a_copy(rt: HostRuntime) -> Result<(), Fail> {
+    assert!(rt; forty_grow(rt.alloc())? == Some(true));
+    Ok(())
+}
+
+/// A span over 4,096 characters before a short one, with two ranges added one by one right after its start.
+fn with_two_added(alloc: Global) -> Result<RangeSet<Numbered>, Fail> {
+    let set = spans(alloc, 5, &[(10, 5_010, 1, 0), (6_000, 6_010, 3, 9)])?;
+    let once = set.with_added(ranges_of(alloc, &[(20, 21, 0, 0, 2)])?)?;
+    Ok(once.with_added(ranges_of(alloc, &[(15, 16, 0, 0, 4)])?)?)
+}
+
+#[test]
+fn ranges_are_added_right_after_the_start_of_a_long_one(rt: HostRuntime) -> Result<(), Fail> {
+    let set = with_two_added(rt.alloc())?;
+    let want = [(10, 5_010, 1), (15, 16, 4), (20, 21, 2), (6_000, 6_010, 3)];
+    assert!(rt; shows(&set, &want));
+    Ok(())
+}

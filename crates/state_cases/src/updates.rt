@@ -168,6 +168,54 @@ const SLOTS: &[(&str, Case<'static>, &[Has<'static>])] = &[
         &[Has::Facet(LIST, Want::Ints(&[2, 1]))],
     ),
     (
+        "a facet whose inputs leave keeps that of none through updates",
+        Case {
+            base: &[OUTER_SLOT],
+            document: "",
+            ranges: &[(0, 0)],
+            updates: &[
+                &[Sent::Told(&[On::Reconfigure(OUTER, NOTHING)])],
+                &[Sent::Typed(&[(0, 0, "x")])],
+                &[Sent::Typed(&[(0, 0, "y")])],
+            ],
+        },
+        &[Has::Facet(LIST, Want::Ints(&[])), Has::Length(2)],
+    ),
+    (
+        "inputs that come back after such updates",
+        Case {
+            base: &[OUTER_SLOT],
+            document: "",
+            ranges: &[(0, 0)],
+            updates: &[
+                &[Sent::Told(&[On::Reconfigure(OUTER, NOTHING)])],
+                &[Sent::Typed(&[(0, 0, "x")])],
+                &[Sent::Typed(&[(0, 0, "y")])],
+                &[Sent::Told(&[On::Reconfigure(OUTER, INNER_SLOT)])],
+                &[Sent::Typed(&[(0, 0, "z")])],
+            ],
+        },
+        &[Has::Facet(LIST, Want::Ints(&[1])), Has::Length(3)],
+    ),
+    (
+        "an input that comes after updates without it",
+        Case {
+            base: &[],
+            document: "",
+            ranges: &[(0, 0)],
+            updates: &[
+                &[Sent::Typed(&[(0, 0, "x")])],
+                &[Sent::Typed(&[(0, 0, "y")])],
+                &[Sent::Told(&[On::Append(LENGTH_INPUT)])],
+                &[Sent::Typed(&[(0, 0, "z")])],
+            ],
+        },
+        &[
+            Has::Facet(LENGTH, Want::Int(3)),
+            Has::Facet(SUM, Want::Int(0)),
+        ],
+    ),
+    (
         "one half of a circle",
         Case {
             base: &[],
