@@ -1,5 +1,5 @@
 // What rules are shown.
-ghost use Rattle.std.specs.Prelude.{◌≡◌, IfOk, map, cond, Some, None, [], option_map};
+ghost use Rattle.std.specs.Prelude.{◌≡◌, IfOk, map, cond, Some, None, option_map};
 ghost use Rattle.facet_slots.specs.Scenes.{IsScene, reads_document, reads_selection, shown as shown_of, vertices_of};
 ghost use Rattle.facet_slots.specs.Keeping.{held};
 ghost use Rattle.facet_slots.specs.Found.{scene_of};
@@ -86,15 +86,8 @@ fn selection_read(scene: &Scene, reads: &[Dependency]) -> Result<Option<Selectio
     }
 }
 
-/// What a rule reads that declares nothing.
-fn nothing_shown(alloc: Global) -> Deps
-    ensures { result ≡ record { document = None; selection = None; values = [] } }
-{
-    Deps::new(None, None, SmallVec::new(alloc))
-}
-
-/// What a rule that declares some dependencies reads.
-fn some_shown(
+/// What a rule that declares these dependencies reads. Texts and values are shared, the selection is copied. `Err`: out of memory.
+pub fn shown(
     alloc: Global,
     scene: &Scene,
     reads: &[Dependency],
@@ -108,22 +101,4 @@ fn some_shown(
     let selection = selection_read(scene, reads)?;
     let values = values_read(alloc, reads, shelf)?;
     Ok(Deps::new(document, selection, values))
-}
-
-/// What a rule that declares these dependencies reads. Texts and values are shared, the selection is copied. `Err`: out of memory.
-#[inline(always)]
-pub fn shown(
-    alloc: Global,
-    scene: &Scene,
-    reads: &[Dependency],
-    shelf: &Shelf,
-) -> Result<Deps, AllocError>
-    requires { IsScene (scene_of scene.now) }
-    ensures { IfOk result (λ deps. deps ≡ shown_of (scene_of scene.now) (held shelf.now.facets shelf.now.fields) reads.now) }
-{
-    // Most fields declare nothing.
-    match reads {
-        [] => Ok(nothing_shown(alloc)),
-        [_, ..] => some_shown(alloc, scene, reads, shelf),
-    }
 }
