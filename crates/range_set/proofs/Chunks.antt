@@ -1,5 +1,5 @@
 -- Chunks and builders of them, seen as lists of ranges.
-use Rattle.std.proofs.Common.{◌≡◌, ℕ, zero, suc, ◌+◌, ◌-◌, ◌^◌, ◌<◌, ◌≤◌, max, Bool, true, false, ◌&&◌, ◌||◌, List, [], ◌∷◌, ◌++◌, length, get_or, drop, map, refl, sym, ◌∙◌, ap, subst, arith, add-one, append_assoc}
+use Rattle.std.proofs.Common.{◌≡◌, ℕ, zero, suc, ◌+◌, ◌-◌, ◌^◌, ◌<◌, ◌≤◌, max, true, false, ◌&&◌, List, [], ◌∷◌, ◌++◌, length, get_or, drop, map, refl, sym, ◌∙◌, ap, subst, arith, add-one, append_assoc}
 use Rattle.std.proofs.lemmas.List.{append-nil}
 use Rattle.std.proofs.lemmas.Bool.Decides.{nat_tests}
 use Rattle.std.specs.Prelude.{nat_lt, ◌==◌, int_lt}
@@ -21,15 +21,6 @@ shift_forward a b by h = grind (arith, nat_tests)
 
 same-shifted : (a b by : ℕ) → (a + by == b + by) ≡ (a == b)
 same-shifted a b by = grind (arith, nat_tests)
-
--- a test that holds, and one that doesn't
-pub or_first : (x s t : Bool) → x ≡ s → s ≡ true → x ≡ (s || t)
-or_first x true t e h = e
-or_first x false t e h = cc
-
-pub or_second : (x s t : Bool) → x ≡ t → s ≡ false → x ≡ (s || t)
-or_second x true t e h = cc
-or_second x false t e h = e
 
 pub none_left : (len : ℕ) → (len == 0) ≡ true → len ≡ 0
 none_left len h = grind (arith, nat_tests)

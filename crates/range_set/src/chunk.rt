@@ -164,8 +164,8 @@ impl<T: RangeValue> Chunk<T> {
         let mut is_turned = false;
         let mut has_point = false;
         for range in ranges.iter_mut() {
-            is_turned = is_turned || range.is_turned();
-            has_point = has_point || range.value.is_point();
+            is_turned |= range.is_turned();
+            has_point |= range.value.is_point();
             range.from -= start;
             range.to -= start;
             reach = reach.max(range.to);

@@ -4,7 +4,7 @@ ghost use Rattle.change_desc.specs.Meeting.{BeginAfter, EndsAtOrAfter};
 ghost use Rattle.range_set.specs.PrivateChunks.{FitCarriedChunks, AreChunks, AreChunksShared, Ascend, IsChunk, content, flat, move, shift};
 ghost use Rattle.range_set.specs.PrivateBuilders.{IsBuilder, built};
 
-use crate::chunk::{FEW_RANGES, MAX_RANGES, Placed, is_long};
+use crate::chunk::{FEW_RANGES, MAX_RANGES, MAX_SHARED_LEN, Placed, is_long};
 use crate::parts::{part_len, trim};
 use crate::range_value::RangeValue;
 use crate::ranged::Ranged;
@@ -35,19 +35,24 @@ impl<T: RangeValue> ChunkBuilder<T> {
         self.done.is_empty()
     }
 
-    /// Cuts ranges that come in order into chunks, and puts these after the others. `Err`: out of memory.
-    pub(crate) fn put_all(&mut self, mut ranges: Vec<Ranged<T>>) -> Result<(), AllocError>
+    /// Cuts ranges that come in order into chunks, and puts these after the others. None of them is longer than `longest`, in characters.
+    /// No contract speaks of that: it only decides where chunks are cut. `Err`: out of memory.
+    pub(crate) fn put_all(
+        &mut self,
+        mut ranges: Vec<Ranged<T>>,
+        longest: u32,
+    ) -> Result<(), AllocError>
         requires builder { IsBuilder T.rules self.old }
         requires order { Ascend 0 (built self.old ++ ranges.items) }
         requires forward { AllForward ranges.items }
         ensures builder { IfOk result (λ _. IsBuilder T.rules self.new) }
         ensures ranges { IfOk result (λ _. built self.new ≡ built self.old ++ ranges.items) }
     {
-        let part = chunk_len(&ranges);
+        let part = chunk_len(&ranges, longest);
         if part < ranges.len() {
             let rest = ranges.split_off(part)?;
-            self.put_all(ranges)?;
-            return self.put_all(rest);
+            self.put_all(ranges, longest)?;
+            return self.put_all(rest, longest);
         }
         self.put_chunk(ranges)
     }
@@ -142,14 +147,15 @@ impl<T: RangeValue> ChunkBuilder<T> {
 
 /// How many of some ranges come into the first part where they are cut: all, where they make one chunk. They do where they are one
 /// range, or at most `MAX_RANGES` of which none is longer than `MAX_SHARED_LEN`. Where at most `MAX_RANGES` and `FEW_RANGES` are left,
-/// those before the first longer one do, or it alone where it stands first; else as many as `part_len` says.
-fn chunk_len<T>(ranges: &[Ranged<T>]) -> usize
+/// those before the first longer one do, or it alone where it stands first; else as many as `part_len` says. None is longer than
+/// `longest`, so a longer one is looked for where that is more than `MAX_SHARED_LEN` alone.
+fn chunk_len<T>(ranges: &[Ranged<T>], longest: u32) -> usize
     ensures some { 1 ≤ length ranges.now → 1 ≤ result }
     ensures within { result ≤ length ranges.now }
     ensures few { result ≡ length ranges.now → length ranges.now ≤ 128 }
 {
     let len = ranges.len();
-    if len <= MAX_RANGES + FEW_RANGES {
+    if longest > MAX_SHARED_LEN && len <= MAX_RANGES + FEW_RANGES {
         let short = short_len(ranges);
         if short < len {
             return short.max(1);

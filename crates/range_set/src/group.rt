@@ -184,8 +184,8 @@ impl<T: RangeValue> Group<T> {
             let from = placed.start - start;
             count += placed.chunk.ranges.len();
             reach = reach.max(from + placed.reach());
-            is_turned = is_turned || placed.chunk.is_turned;
-            has_point = has_point || placed.chunk.has_point;
+            is_turned |= placed.chunk.is_turned;
+            has_point |= placed.chunk.has_point;
             placed.start = from;
         }
         Group {

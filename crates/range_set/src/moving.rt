@@ -76,8 +76,7 @@ fn map_all<'a, T: RangeValue, L: Ledger>(
     let mut left = changed;
     let mut walk = ClearWalk::new(changes);
     let mut builder = MappedBuilder::for_pages(alloc, groups.pages_left(), groups.groups_next())?;
-    // What lies before the first replaced range stays in place, and is shared here: the loop makes the page anew of each group that it
-    // takes.
+    // Groups before the first that a change affects stay in place: they are shared here, as pages where they can be.
     let mut rest = builder.groups.share_carried(groups, 0, 0, changed)?;
     while let Some((base, placed, others)) = rest.split_first() {
         left = ranges_from(left, base);

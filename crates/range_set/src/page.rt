@@ -69,8 +69,8 @@ impl<T: RangeValue> Page<T> {
             let from = placed.start - start;
             count += placed.group.count;
             reach = reach.max(from + placed.reach());
-            is_turned = is_turned || placed.group.is_turned;
-            has_point = has_point || placed.group.has_point;
+            is_turned |= placed.group.is_turned;
+            has_point |= placed.group.has_point;
             placed.start = from;
         }
         Page {

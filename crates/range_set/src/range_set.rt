@@ -23,7 +23,7 @@ use crate::points::Points;
 use crate::range_error::RangeError;
 use crate::range_ref::RangeRef;
 use crate::range_value::RangeValue;
-use crate::ranged::{Ranged, fault_in};
+use crate::ranged::{Findings, Ranged, fault_in, look_through};
 use crate::updating::{added_groups, updated_chunks};
 use change_desc::Desc;
 use std::alloc::{AllocError, Global};
@@ -69,8 +69,9 @@ impl<T: RangeValue> RangeSet<T> {
         ensures in_order { IfOk result (λ s. first_fault T.rules ranges.items ≡ None) }
         ensures refused { IfErr result (λ e. e ≢ RangeError.NoMemory → first_fault T.rules ranges.items ≡ Some e) }
     {
-        match fault_in(ranges.as_slice()) {
-            None => Ok(set_of(ranges)?),
+        let Findings { fault, longest } = look_through(ranges.as_slice());
+        match fault {
+            None => Ok(set_of(ranges, longest)?),
             Some(fault) => Err(fault),
         }
     }
@@ -259,8 +260,9 @@ fn map_uncounted<T: RangeValue, L: Ledger>(
     set.map_steps(changes, &mut mapped)
 }
 
-/// The set of ranges that stand in order. `Err`: out of memory.
-fn set_of<T: RangeValue>(ranges: Vec<Ranged<T>>) -> Result<RangeSet<T>, AllocError>
+/// The set of ranges that stand in order, of which none is longer than `longest`, in characters. No contract speaks of that: it only
+/// decides where chunks are cut. `Err`: out of memory.
+fn set_of<T: RangeValue>(ranges: Vec<Ranged<T>>, longest: u32) -> Result<RangeSet<T>, AllocError>
     requires { first_fault T.rules ranges.items ≡ None }
     ensures { IfOk result (λ s. s ≡ ranges.items) }
 {
@@ -268,7 +270,7 @@ fn set_of<T: RangeValue>(ranges: Vec<Ranged<T>>) -> Result<RangeSet<T>, AllocErr
     let _len = ranges.len();
     let alloc = *ranges.allocator();
     let mut builder = ChunkBuilder::new(alloc);
-    builder.put_all(ranges)?;
+    builder.put_all(ranges, longest)?;
     let (groups, len) = in_groups(alloc, builder.finish())?;
     Ok(RangeSet { groups, len })
 }

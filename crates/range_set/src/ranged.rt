@@ -66,15 +66,39 @@ impl<T: RangeValue> Ranged<T> {
 pub(crate) fn fault_in<T: RangeValue>(ranges: &[Ranged<T>]) -> Option<RangeError>
     ensures value { result ≡ first_fault T.rules ranges.now }
 {
+    look_through(ranges).fault
+}
+
+/// What a look through a list of ranges finds.
+#[derive(Drop)]
+pub(crate) struct Findings {
+    /// The first fault.
+    pub(crate) fault: Option<RangeError>,
+    /// The length, in characters, of the longest range before the first fault, or of all where there is none; 0 where there are no
+    /// ranges. No contract speaks of this: it only decides where chunks are cut.
+    pub(crate) longest: u32,
+}
+
+/// Looks through a list of ranges up to its first fault.
+pub(crate) fn look_through<T: RangeValue>(ranges: &[Ranged<T>]) -> Findings
+    ensures fault { result.fault ≡ first_fault T.rules ranges.now }
+{
+    let mut longest = 0;
     let mut last = None;
     for (index, range) in ranges.iter().enumerate() {
         if range.from > range.to {
-            return Some(RangeError::Reversed { index });
+            let fault = Some(RangeError::Reversed { index });
+            return Findings { fault, longest };
         }
         if range.precedes(last) {
-            return Some(RangeError::NotSorted { index });
+            let fault = Some(RangeError::NotSorted { index });
+            return Findings { fault, longest };
         }
+        longest = longest.max(range.to - range.from);
         last = Some(range);
     }
-    None
+    Findings {
+        fault: None,
+        longest,
+    }
 }

@@ -7,7 +7,7 @@ ghost use Rattle.stable_order.specs.StableSort.{stable_sort};
 use crate::chunk_builder::ChunkBuilder;
 use crate::range_error::RangeError;
 use crate::range_value::RangeValue;
-use crate::ranged::{Ranged, fault_in};
+use crate::ranged::{Findings, Ranged, look_through};
 use stable_order::sort_stably;
 use std::alloc::AllocError;
 use std::mem;
@@ -46,32 +46,40 @@ fn put_run<T: RangeValue>(
 {
     let alloc = *run.allocator();
     let mut ranges = mem::replace(run, Vec::new(alloc));
-    sort(&mut ranges)?;
-    builder.put_all(ranges)
+    let longest = sort(&mut ranges)?;
+    builder.put_all(ranges, longest)
 }
 
 /// Sorts ranges stably. Those that are in order, as most runs are, are left as they are, after one look. Where one range stands too
-/// late, as an added one mostly does, it is moved, and a second look tells that they are in order. `Err`: out of memory.
-fn sort<T: RangeValue>(ranges: &mut Vec<Ranged<T>>) -> Result<(), AllocError>
+/// late, as an added one mostly does, it is moved, and a second look tells that they are in order. Answers a length, in characters, that
+/// none of them exceeds: that of the longest, or `u32::MAX` where a look doesn't find them in order. No contract speaks of it: it only
+/// decides where chunks are cut. `Err`: out of memory.
+fn sort<T: RangeValue>(ranges: &mut Vec<Ranged<T>>) -> Result<u32, AllocError>
     ensures { IfOk result (λ _. ranges.new.items ≡ stable_sort (before T.rules) ranges.old.items) }
 {
-    match fault_in(ranges) {
-        None => Ok(()),
-        Some(RangeError::NotSorted { index }) => {
-            move_back(ranges, index);
-            sort_unless_sorted(ranges)
-        }
-        Some(_) => sort_stably(ranges),
+    let Findings { fault, longest } = look_through(ranges);
+    let Some(fault) = fault else {
+        return Ok(longest);
+    };
+    if let RangeError::NotSorted { index } = fault {
+        move_back(ranges, index);
+        return sort_unless_sorted(ranges);
     }
+    sort_stably(ranges)?;
+    Ok(u32::MAX)
 }
 
-/// Sorts ranges stably, unless they are in order. `Err`: out of memory.
-fn sort_unless_sorted<T: RangeValue>(ranges: &mut Vec<Ranged<T>>) -> Result<(), AllocError>
+/// Sorts ranges stably, unless they are in order. Answers what `sort` does. `Err`: out of memory.
+fn sort_unless_sorted<T: RangeValue>(ranges: &mut Vec<Ranged<T>>) -> Result<u32, AllocError>
     ensures { IfOk result (λ _. ranges.new.items ≡ stable_sort (before T.rules) ranges.old.items) }
 {
-    match fault_in(ranges) {
-        None => Ok(()),
-        Some(_) => sort_stably(ranges),
+    let Findings { fault, longest } = look_through(ranges);
+    match fault {
+        None => Ok(longest),
+        Some(_) => {
+            sort_stably(ranges)?;
+            Ok(u32::MAX)
+        }
     }
 }
 

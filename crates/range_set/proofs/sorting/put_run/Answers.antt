@@ -11,7 +11,7 @@ put_all-requires g c =
     let order = before g.T.RangeValue.rules in
     let run = c.args.run.now.items in
     let same = ap (λ v. v.items) c.replace-ranges.ensures.value in
-    let sorted = c.in_ok-sort.ensures ∙ ap (stable_sort order) same in
+    let sorted = c.in_ok-longest.ensures ∙ ap (stable_sort order) same in
     record {
       builder = c.requires.builder;
       order = subst (λ rs. Ascend 0 (built c.args.builder.now ++ rs)) (sym sorted) c.requires.order;

@@ -7,22 +7,18 @@ use Rattle.range_set.proofs.MovedBack.{fault_within}
 use Rattle.range_set.proofs.RangeOrder.{rises-no_fault}
 use Rattle.range_set.proofs.sorting.sort.Goals as goal
 
-pub returns-in-None : goal.returns-in-None
-returns-in-None g c =
+pub returns-in_default : goal.returns-in_default
+returns-in_default g c =
     let rules = g.T.RangeValue.rules in
     let ranges = c.args.ranges.now.items in
-    let none = ap (first_fault rules) (sym c.deref.ensures.value) ∙ (sym c.fault_in.ensures.value ∙ c.in-None.is) in
+    let none = ap (first_fault rules) (sym c.deref.ensures.value) ∙ (sym c.look_through-fault.ensures.fault ∙ c.in_default.is) in
     sym (stable_sort-risen (before rules) (before-order rules) ranges (rises-no_fault rules ranges none))
 
 pub move_back-requires : goal.move_back-requires
 move_back-requires g c =
     let rules = g.T.RangeValue.rules in
     let ranges = c.args.ranges.now.items in
-    let index = c.in-Some-NotSorted.index in
-    let found : c.fault_in.result ≡ Some (fault.NotSorted index) =
-    let a = c.in-Some-NotSorted.is in
-    let b = c.in-Some-NotSorted.field-0-is in
-    let d = c.in-Some-NotSorted.index-is in
-    cc in
-    let within = fault_within rules 0 index _ ranges (ap (first_fault rules) (sym c.deref.ensures.value) ∙ (sym c.fault_in.ensures.value ∙ found)) in
+    let index = c.in-NotSorted.index in
+    let found : c.look_through-fault.result.fault ≡ Some (fault.NotSorted index) = c.in-Some.is ∙ ap Some c.in-NotSorted.is in
+    let within = fault_within rules 0 index _ ranges (ap (first_fault rules) (sym c.deref.ensures.value) ∙ (sym c.look_through-fault.ensures.fault ∙ found)) in
     omega (arith, within)

@@ -9,5 +9,5 @@ pub returns-in-None : goal.returns-in-None
 returns-in-None g c =
     let rules = g.T.RangeValue.rules in
     let ranges = c.args.ranges.now.items in
-    let none = ap (first_fault rules) (sym c.deref.ensures.value) ∙ (sym c.fault_in.ensures.value ∙ c.in-None.is) in
+    let none = ap (first_fault rules) (sym c.deref.ensures.value) ∙ (sym c.look_through-fault.ensures.fault ∙ c.in-None.is) in
     sym (stable_sort-risen (before rules) (before-order rules) ranges (rises-no_fault rules ranges none))

@@ -5,10 +5,9 @@ use Rattle.std.specs.List.{list_any}
 use Rattle.range_set.specs.Mapping.{is_turned}
 use Rattle.range_set.specs.Points.{stands}
 use Rattle.range_set.specs.PrivateChunks.{greatest_end, shift}
-use Rattle.range_set.proofs.Chunks.{counted_from, or_first, or_second}
+use Rattle.range_set.proofs.Chunks.{counted_from}
 use Rattle.range_set.proofs.Whole.{ascend_at, counted_back, forward_at_item, item_at, reach_more, whole_chunk, written, written-all}
 use Rattle.range_set.proofs.chunk.Chunk.of.Goals as goal
-use Rattle.range_set.proofs.chunk.Chunk.of.Goals.{then-is_turned, else-is_turned, then-has_point, else-has_point}
 
 pub overflow_sub-range : goal.overflow_sub-range
 overflow_sub-range g c =
@@ -43,14 +42,6 @@ loop-range-preserved g c =
     let at = c.loop-range.invariant in
     let lt : i < length olds = subst (λ (rs : List _). i < length rs) c.deref_mut-range-items.ensures.value c.loop-range-test.true in
     let is = item_at (counted_from rules start) c.loop-range.range-items olds i x at.items lt in
-    let turned : c.if-is_turned.is_turned ≡ (c.loop-range.is_turned || is_turned rules (get_or c.loop-range.range-items i x)) = elim c.if-is_turned.branch [
-      | then-is_turned w ↦ or_first _ _ _ w.is_turned-is w.if-is_turned.true
-      | else-is_turned w ↦ or_second _ _ _ (w.is_turned-is ∙ w.is_turned-is_turned.ensures) w.if-is_turned.false
-    ] in
-    let points : c.if-has_point.has_point ≡ (c.loop-range.has_point || stands rules (get_or c.loop-range.range-items i x)) = elim c.if-has_point.branch [
-      | then-has_point w ↦ or_first _ _ _ w.has_point-is w.if-has_point.true
-      | else-has_point w ↦ or_second _ _ _ (w.has_point-is ∙ w.is_point-has_point.ensures) w.if-has_point.false
-    ] in
     let most : c.max-reach.result ≡ max c.loop-range.reach ((get_or c.loop-range.range-items i x).to - start) = c.max-reach.ensures in
     record {
       items = written (counted_from rules start) c.loop-range.range-items olds i x at.items lt;
@@ -63,9 +54,9 @@ loop-range-preserved g c =
           let n = forward_at_item olds i x lt c.requires.forward in
           let o = ap (λ r. r.to) c.range-item.is in
           omega (arith, most, k, to, l, n, o);
-      turned = turned ∙ (ap (λ b. b || is_turned rules (get_or c.loop-range.range-items i x)) at.turned
+      turned = ap (λ b. c.loop-range.is_turned || b) c.is_turned-is_turned.ensures ∙ (ap (λ b. b || is_turned rules (get_or c.loop-range.range-items i x)) at.turned
           ∙ (ap (λ r. list_any (is_turned rules) (take i olds) || is_turned rules r) is ∙ sym (list_any_more (is_turned rules) olds i x lt)));
-      points = points ∙ (ap (λ b. b || stands rules (get_or c.loop-range.range-items i x)) at.points
+      points = ap (λ b. c.loop-range.has_point || b) c.is_point-has_point.ensures ∙ (ap (λ b. b || stands rules (get_or c.loop-range.range-items i x)) at.points
           ∙ (ap (λ r. list_any (stands rules) (take i olds) || stands rules r) is ∙ sym (list_any_more (stands rules) olds i x lt)));
     }
 

@@ -5,12 +5,11 @@ use Rattle.range_set.specs.Mapping.{is_turned}
 use Rattle.range_set.specs.Points.{stands}
 use Rattle.range_set.specs.PrivateChunks.{content, flat, greatest_end, grow, move}
 use Rattle.range_set.specs.declared.chunk.Chunk.{Chunk}
-use Rattle.range_set.proofs.Chunks.{flat-append, or_first, or_second}
+use Rattle.range_set.proofs.Chunks.{flat-append}
 use Rattle.range_set.proofs.Groups.{counted_chunk}
 use Rattle.range_set.proofs.Whole.{item_at, written, written-all}
 use Rattle.range_set.proofs.WholeGroups.{chunk_item, chunks_back, count_more, group_reach_more, placed_at, points_more, turned_more, whole_group}
 use Rattle.range_set.proofs.group.Group.of.Goals as goal
-use Rattle.range_set.proofs.group.Group.of.Goals.{then-is_turned, else-is_turned, then-has_point, else-has_point}
 
 pub overflow_sub-from : goal.overflow_sub-from
 overflow_sub-from g c =
@@ -82,14 +81,6 @@ loop-placed-preserved g c =
     let from = ap (λ p. p.start) is in
     let reach = c.reach.ensures ∙ ap (λ p. (content p).reach) is in
     let most : c.max-reach.result ≡ max c.loop-placed.reach ((get_or c.loop-placed.placed-items i x).start - start + c.reach.result) = c.max-reach.ensures in
-    let turned : c.if-is_turned.is_turned ≡ (c.loop-placed.is_turned || (content (get_or olds i x)).is_turned) = elim c.if-is_turned.branch [
-      | then-is_turned w ↦ or_first _ _ _ w.is_turned-is w.if-is_turned.true
-      | else-is_turned w ↦ or_second _ _ _ (w.is_turned-is ∙ (ap (λ (ch : Chunk g.row.T.Denot). ch.is_turned) w.deref-else-is_turned.ensures ∙ ap (λ p. (content p).is_turned) is)) w.if-is_turned.false
-    ] in
-    let points : c.if-has_point.has_point ≡ (c.loop-placed.has_point || (content (get_or olds i x)).has_point) = elim c.if-has_point.branch [
-      | then-has_point w ↦ or_first _ _ _ w.has_point-is w.if-has_point.true
-      | else-has_point w ↦ or_second _ _ _ (w.has_point-is ∙ (ap (λ (ch : Chunk g.row.T.Denot). ch.has_point) w.deref-else-has_point.ensures ∙ ap (λ p. (content p).has_point) is)) w.if-has_point.false
-    ] in
     record {
       items = written (counted_chunk rules start) c.loop-placed.placed-items olds i x at.items lt;
       count = let k = at.count in omega (arith, k, len, more);
@@ -99,8 +90,8 @@ loop-placed-preserved g c =
           let l = placed_at rules start olds i x lt c.requires.chunks c.requires.order in
           let m = chunk.0.fits in
           omega (arith, most, from, reach, k, l, m);
-      turned = turned ∙ (ap (λ b. b || (content (get_or olds i x)).is_turned) at.turned ∙ sym (turned_more rules olds i x lt chunk.0));
-      points = points ∙ (ap (λ b. b || (content (get_or olds i x)).has_point) at.points ∙ sym (points_more rules olds i x lt chunk.0));
+      turned = ap (λ b. c.loop-placed.is_turned || b) (ap (λ (ch : Chunk g.row.T.Denot). ch.is_turned) c.deref-in-loop-placed.ensures ∙ ap (λ p. (content p).is_turned) is) ∙ (ap (λ b. b || (content (get_or olds i x)).is_turned) at.turned ∙ sym (turned_more rules olds i x lt chunk.0));
+      points = ap (λ b. c.loop-placed.has_point || b) (ap (λ (ch : Chunk g.row.T.Denot). ch.has_point) c.deref-in-loop-placed-2.ensures ∙ ap (λ p. (content p).has_point) is) ∙ (ap (λ b. b || (content (get_or olds i x)).has_point) at.points ∙ sym (points_more rules olds i x lt chunk.0));
     }
 
 pub returns-clause-group : goal.returns-clause-group

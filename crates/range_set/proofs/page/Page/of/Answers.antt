@@ -6,12 +6,10 @@ use Rattle.range_set.specs.Points.{stands}
 use Rattle.range_set.specs.PrivateChunks.{flat, greatest_end, group_content, spread}
 use Rattle.range_set.specs.PrivatePages.{further}
 use Rattle.range_set.specs.declared.group.Group.{Group}
-use Rattle.range_set.proofs.Chunks.{or_first, or_second}
 use Rattle.range_set.proofs.Groups.{flat-spread_append}
 use Rattle.range_set.proofs.Whole.{item_at, written, written-all}
 use Rattle.range_set.proofs.WholePages.{count_more, counted_group, group_item, groups_back, page_reach_more, points_more, turned_more, whole_page}
 use Rattle.range_set.proofs.page.Page.of.Goals as goal
-use Rattle.range_set.proofs.page.Page.of.Goals.{then-is_turned, else-is_turned, then-has_point, else-has_point}
 
 pub overflow_sub-from : goal.overflow_sub-from
 overflow_sub-from g c =
@@ -80,14 +78,6 @@ loop-placed-preserved g c =
     let from = ap (λ p. p.start) is in
     let reach = c.reach.ensures ∙ ap (λ p. (group_content p).reach) is in
     let most : c.max-reach.result ≡ max c.loop-placed.reach ((get_or c.loop-placed.placed-items i x).start - start + c.reach.result) = c.max-reach.ensures in
-    let turned : c.if-is_turned.is_turned ≡ (c.loop-placed.is_turned || (group_content (get_or olds i x)).is_turned) = elim c.if-is_turned.branch [
-      | then-is_turned w ↦ or_first _ _ _ w.is_turned-is w.if-is_turned.true
-      | else-is_turned w ↦ or_second _ _ _ (w.is_turned-is ∙ (ap (λ (x : Group g.row.T.Denot). x.is_turned) w.deref-else-is_turned.ensures ∙ ap (λ p. (group_content p).is_turned) is)) w.if-is_turned.false
-    ] in
-    let points : c.if-has_point.has_point ≡ (c.loop-placed.has_point || (group_content (get_or olds i x)).has_point) = elim c.if-has_point.branch [
-      | then-has_point w ↦ or_first _ _ _ w.has_point-is w.if-has_point.true
-      | else-has_point w ↦ or_second _ _ _ (w.has_point-is ∙ (ap (λ (x : Group g.row.T.Denot). x.has_point) w.deref-else-has_point.ensures ∙ ap (λ p. (group_content p).has_point) is)) w.if-has_point.false
-    ] in
     record {
       items = written (counted_group rules start) c.loop-placed.placed-items olds i x at.items lt;
       count = let k = at.count in omega (arith, k, len, more);
@@ -97,8 +87,8 @@ loop-placed-preserved g c =
           let l = c.requires.after i x lt in
           let m = group.0.fits in
           omega (arith, most, from, reach, k, l, m);
-      turned = turned ∙ (ap (λ b. b || (group_content (get_or olds i x)).is_turned) at.turned ∙ sym (turned_more rules olds i x lt group.0));
-      points = points ∙ (ap (λ b. b || (group_content (get_or olds i x)).has_point) at.points ∙ sym (points_more rules olds i x lt group.0));
+      turned = ap (λ b. c.loop-placed.is_turned || b) (ap (λ (x : Group g.row.T.Denot). x.is_turned) c.deref-in-loop-placed.ensures ∙ ap (λ p. (group_content p).is_turned) is) ∙ (ap (λ b. b || (group_content (get_or olds i x)).is_turned) at.turned ∙ sym (turned_more rules olds i x lt group.0));
+      points = ap (λ b. c.loop-placed.has_point || b) (ap (λ (x : Group g.row.T.Denot). x.has_point) c.deref-in-loop-placed-2.ensures ∙ ap (λ p. (group_content p).has_point) is) ∙ (ap (λ b. b || (group_content (get_or olds i x)).has_point) at.points ∙ sym (points_more rules olds i x lt group.0));
     }
 
 pub returns-clause-page : goal.returns-clause-page

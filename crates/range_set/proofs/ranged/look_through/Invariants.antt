@@ -1,6 +1,6 @@
 use Rattle.std.proofs.Common.{◌≡◌, drop, option_copied}
 use Rattle.range_set.specs.Order.{fault_from, first_fault}
-use Rattle.range_set.proofs.ranged.fault_in.Given as goal
+use Rattle.range_set.proofs.ranged.look_through.Given as goal
 
 abbrev pub invariant-loop-index : goal.invariant-loop-index
 invariant-loop-index g l =
