@@ -154,7 +154,11 @@ fn push_still(ranges: &mut Vec<Ranged<Numbered>>, first: u32) -> Result<(), Allo
 }
 
 /// A span of so many characters from 0 with such points from 10 on, or, where it isn't first, after such points from 10 to 100.
-fn span_and_points(alloc: Global, len: u32, is_first: bool) -> Result<RangeSet<Numbered>, Fail> {
+fn span_and_points(
+    alloc: Global,
+    len: u32,
+    is_first: bool,
+) -> Result<Vec<Ranged<Numbered>>, AllocError> {
     let mut ranges = Vec::new(alloc);
     let from = if is_first { 0 } else { 100 };
     if !is_first {
@@ -168,7 +172,7 @@ fn span_and_points(alloc: Global, len: u32, is_first: bool) -> Result<RangeSet<N
     if is_first {
         push_still(&mut ranges, 0)?;
     }
-    Ok(RangeSet::of(ranges)?)
+    Ok(ranges)
 }
 
 /// How many ranges a mapped set has: `None` where it can't be mapped.
@@ -182,23 +186,40 @@ fn mapped_len(set: &RangeSet<Numbered>, changes: &Desc) -> Option<usize> {
     }
 }
 
-/// The same of such a set and an insertion at 200.
-fn mapped_beside_span(alloc: Global, len: u32, is_first: bool) -> Result<Option<usize>, Fail> {
-    let set = span_and_points(alloc, len, is_first)?;
+/// The same of a set and an insertion at 200.
+fn mapped_at_200(alloc: Global, set: &RangeSet<Numbered>) -> Result<Option<usize>, AllocError> {
     let sections = [
         Section::Keep(200),
         Section::Replace(0, 3),
         Section::Keep(800),
     ];
     let changes = described(alloc, &sections)?;
-    Ok(mapped_len(&set, &changes))
+    Ok(mapped_len(set, &changes))
+}
+
+/// The same of the set of such a span and points, which is made of them, or to which they are added.
+fn mapped_beside_span(
+    alloc: Global,
+    len: u32,
+    is_first: bool,
+    is_added: bool,
+) -> Result<Option<usize>, Fail> {
+    let ranges = span_and_points(alloc, len, is_first)?;
+    let set = if is_added {
+        RangeSet::empty(alloc).with_added(ranges)?
+    } else {
+        RangeSet::of(ranges)?
+    };
+    Ok(mapped_at_200(alloc, &set)?)
 }
 
 #[test]
 fn a_long_range_shares_no_chunk(rt: HostRuntime) -> Result<(), Fail> {
     for is_first in [true, false] {
-        assert!(rt; mapped_beside_span(rt.alloc(), 256, is_first)? == None);
-        assert!(rt; mapped_beside_span(rt.alloc(), 257, is_first)? == Some(11));
+        for is_added in [true, false] {
+            assert!(rt; mapped_beside_span(rt.alloc(), 256, is_first, is_added)? == None);
+            assert!(rt; mapped_beside_span(rt.alloc(), 257, is_first, is_added)? == Some(11));
+        }
     }
     Ok(())
 }
