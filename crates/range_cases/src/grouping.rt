@@ -1,5 +1,5 @@
-// Groups of chunks of points that stand ten characters apart, most of which refuse to be copied. A chunk has 32 points, a group here
-// 16 chunks at most: 6,400 points stand in 13 groups, 2,240 in four of 16 chunks and one of 6.
+// Groups of chunks of points that stand ten characters apart, most of which refuse to be copied. A chunk has 20 points, a group here
+// 16 chunks at most: 4,000 points stand in 13 groups, 1,400 in four of 16 chunks and one of 6.
 use crate::numbered::{Copied, Numbered, is_among, mapped};
 use change_desc::Section;
 use range_set::{Iter, RangeSet, Ranged};
@@ -101,20 +101,20 @@ fn stand_after(
 #[test]
 fn chunks_between_two_changes_are_shared(rt: HostRuntime) -> Result<(), Fail> {
     let step = [
-        Section::Keep(165),
+        Section::Keep(105),
         Section::Replace(0, 3),
-        Section::Keep(59_840),
+        Section::Keep(37_400),
         Section::Replace(0, 3),
-        Section::Keep(4_000),
+        Section::Keep(2_500),
     ];
-    let rows = [(1, 16, 0), (17, 6000, 3), (6001, 6400, 6)];
+    let rows = [(1, 10, 0), (11, 3750, 3), (3751, 4000, 6)];
     let steps: [&[Section<u32>]; 1] = [&step];
     for (copied, want) in &[
-        ([(1, 32), (5985, 6016)], Some(true)),
-        ([(2, 32), (5985, 6016)], None),
-        ([(1, 32), (5986, 6016)], None),
+        ([(1, 20), (3741, 3760)], Some(true)),
+        ([(2, 20), (3741, 3760)], None),
+        ([(1, 20), (3742, 3760)], None),
     ] {
-        assert!(rt; stand_after(rt.alloc(), 6400, copied, &steps, &rows)? == *want);
+        assert!(rt; stand_after(rt.alloc(), 4000, copied, &steps, &rows)? == *want);
     }
     Ok(())
 }
@@ -130,80 +130,80 @@ fn changes_far_apart_meet_two_groups(rt: HostRuntime) -> Result<(), Fail> {
     ];
     let steps: [&[Section<u32>]; 1] = [&step];
     let rows = [(1, 1, 0), (2, 19_999, -3), (20_000, 20_000, 0)];
-    let ends = [(1, 32), (19_969, 20_000)];
+    let ends = [(1, 20), (19_981, 20_000)];
     assert!(rt; stand_after(rt.alloc(), 20_000, &ends, &steps, &rows)? == Some(true));
     Ok(())
 }
 
-/// The first group keeps its first chunk, of points 1 to 32, and then an insertion meets this: a run stands before a group of 16 chunks.
+/// The first group keeps its first chunk, of points 1 to 20, and then an insertion meets this: a run stands before a group of 16 chunks.
 #[test]
 fn a_run_is_put_before_a_shared_group(rt: HostRuntime) -> Result<(), Fail> {
     let less = [
-        Section::Keep(325),
-        Section::Replace(4_800, 0),
-        Section::Keep(17_375),
+        Section::Keep(205),
+        Section::Replace(3_000, 0),
+        Section::Keep(10_895),
     ];
     let more = [
-        Section::Keep(165),
+        Section::Keep(105),
         Section::Replace(0, 3),
-        Section::Keep(17_535),
+        Section::Keep(10_995),
     ];
     let steps: [&[Section<u32>]; 2] = [&less, &more];
-    let rows = [(1, 16, 0), (17, 32, 3), (513, 2240, -4_797)];
-    assert!(rt; stand_after(rt.alloc(), 2240, &[(1, 32), (0, 0)], &steps, &rows)? == Some(true));
+    let rows = [(1, 10, 0), (11, 20, 3), (321, 1400, -2_997)];
+    assert!(rt; stand_after(rt.alloc(), 1400, &[(1, 20), (0, 0)], &steps, &rows)? == Some(true));
     Ok(())
 }
 
-/// The fourth group keeps its first chunk, of points 1537 to 1568, which stands before the 6 chunks of the last, and then insertions
-/// meet this chunk and the first of the last group.
+/// The fourth group keeps its first 7 chunks, of points 961 to 1100, too many to become one with the 6 of the last, and then
+/// insertions meet the last of the 7 and the first of the 6.
 #[test]
 fn chunks_of_two_small_groups_are_mapped(rt: HostRuntime) -> Result<(), Fail> {
     let less = [
-        Section::Keep(15_685),
-        Section::Replace(4_800, 0),
-        Section::Keep(2_015),
+        Section::Keep(11_005),
+        Section::Replace(1_800, 0),
+        Section::Keep(1_295),
     ];
     let more = [
-        Section::Keep(15_675),
+        Section::Keep(10_995),
         Section::Replace(0, 3),
         Section::Keep(20),
         Section::Replace(0, 3),
-        Section::Keep(2_005),
+        Section::Keep(1_285),
     ];
     let steps: [&[Section<u32>]; 2] = [&less, &more];
     let rows = [
-        (1, 1567, 0),
-        (1568, 1568, 3),
-        (2049, 2049, -4_797),
-        (2050, 2240, -4_794),
+        (1, 1099, 0),
+        (1100, 1100, 3),
+        (1281, 1281, -1_797),
+        (1282, 1400, -1_794),
     ];
     for (copied, want) in &[
-        ([(1537, 1568), (2049, 2080)], Some(true)),
-        ([(1537, 1568), (2049, 2079)], None),
+        ([(1081, 1100), (1281, 1300)], Some(true)),
+        ([(1081, 1100), (1281, 1299)], None),
     ] {
-        assert!(rt; stand_after(rt.alloc(), 2240, copied, &steps, &rows)? == *want);
+        assert!(rt; stand_after(rt.alloc(), 1400, copied, &steps, &rows)? == *want);
     }
     Ok(())
 }
 
-/// The fourth group keeps its last chunk, of points 2017 to 2048, which an insertion meets at once: a run stands before the 6 chunks of
+/// The fourth group keeps its last chunk, of points 1261 to 1280, which an insertion meets at once: a run stands before the 6 chunks of
 /// the last group.
 #[test]
 fn a_run_is_put_before_a_small_group(rt: HostRuntime) -> Result<(), Fail> {
     let step = [
-        Section::Keep(15_365),
-        Section::Replace(4_800, 0),
+        Section::Keep(9_605),
+        Section::Replace(3_000, 0),
         Section::Keep(10),
         Section::Replace(0, 3),
-        Section::Keep(2_325),
+        Section::Keep(1_485),
     ];
     let steps: [&[Section<u32>]; 1] = [&step];
-    let rows = [(1, 1536, 0), (2017, 2017, -4_800), (2018, 2240, -4_797)];
+    let rows = [(1, 960, 0), (1261, 1261, -3_000), (1262, 1400, -2_997)];
     for (copied, want) in &[
-        ([(2017, 2048), (0, 0)], Some(true)),
-        ([(2017, 2047), (0, 0)], None),
+        ([(1261, 1280), (0, 0)], Some(true)),
+        ([(1261, 1279), (0, 0)], None),
     ] {
-        assert!(rt; stand_after(rt.alloc(), 2240, copied, &steps, &rows)? == *want);
+        assert!(rt; stand_after(rt.alloc(), 1400, copied, &steps, &rows)? == *want);
     }
     Ok(())
 }

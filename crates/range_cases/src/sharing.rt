@@ -119,11 +119,11 @@ fn mapped_in_text(alloc: Global, count: u32, most: u32, at: u32) -> Result<Optio
 fn chunks_that_no_change_meets_are_shared(rt: HostRuntime) -> Result<(), Fail> {
     assert!(rt; mapped_in_text(rt.alloc(), 1000, 0, 15_000)? == Some(true));
     assert!(rt; mapped_in_text(rt.alloc(), 1000, 0, 5)? == Some(true));
-    assert!(rt; mapped_in_text(rt.alloc(), 1000, 32, 165)? == Some(true));
-    assert!(rt; mapped_in_text(rt.alloc(), 1000, 31, 165)? == None);
-    // 64 points stand in two chunks
-    assert!(rt; mapped_in_text(rt.alloc(), 64, 32, 15)? == Some(true));
-    assert!(rt; mapped_in_text(rt.alloc(), 64, 31, 15)? == None);
+    assert!(rt; mapped_in_text(rt.alloc(), 1000, 20, 165)? == Some(true));
+    assert!(rt; mapped_in_text(rt.alloc(), 1000, 19, 165)? == None);
+    // 40 points stand in two chunks
+    assert!(rt; mapped_in_text(rt.alloc(), 40, 20, 15)? == Some(true));
+    assert!(rt; mapped_in_text(rt.alloc(), 40, 19, 15)? == None);
     Ok(())
 }
 
@@ -309,20 +309,20 @@ fn has_more(
 fn chunks_that_an_update_leaves_are_shared(rt: HostRuntime) -> Result<(), Fail> {
     assert!(rt; has_update(rt.alloc(), 1000, 0, 15_000)? == Some((1001, true)));
     assert!(rt; has_update(rt.alloc(), 1000, 0, 5)? == Some((1001, true)));
-    assert!(rt; has_update(rt.alloc(), 1000, 32, 160)? == Some((1000, true)));
-    assert!(rt; has_update(rt.alloc(), 1000, 31, 160)? == None);
-    // 70 points stand in chunks of 32, 19 and 19, none of which is small
-    assert!(rt; has_update(rt.alloc(), 70, 0, 15_000)? == Some((71, true)));
+    assert!(rt; has_update(rt.alloc(), 1000, 20, 160)? == Some((1000, true)));
+    assert!(rt; has_update(rt.alloc(), 1000, 19, 160)? == None);
+    // 44 points stand in chunks of 20, 12 and 12, none of which is small
+    assert!(rt; has_update(rt.alloc(), 44, 0, 15_000)? == Some((45, true)));
     Ok(())
 }
 
 #[test]
 fn chunks_without_an_added_range_are_shared(rt: HostRuntime) -> Result<(), Fail> {
-    // 20,000 points stand in some 40 groups, the first chunk of which has points 1 to 32
+    // 20,000 points stand in some 60 groups, the first chunk of which has points 1 to 20
     assert!(rt; has_more(rt.alloc(), 20_000, 0, 300_000, false)? == Some((20_001, true)));
     assert!(rt; has_more(rt.alloc(), 20_000, 0, 5, false)? == Some((20_001, true)));
-    assert!(rt; has_more(rt.alloc(), 20_000, 32, 165, false)? == Some((20_001, true)));
-    assert!(rt; has_more(rt.alloc(), 20_000, 31, 165, false)? == None);
+    assert!(rt; has_more(rt.alloc(), 20_000, 20, 165, false)? == Some((20_001, true)));
+    assert!(rt; has_more(rt.alloc(), 20_000, 19, 165, false)? == None);
     assert!(rt; has_more(rt.alloc(), 20_000, 0, 300_000, true)? == Some((20_002, true)));
     assert!(rt; has_more(rt.alloc(), 0, 0, 5, false)? == Some((1, true)));
     Ok(())

@@ -15,21 +15,21 @@ use change_desc::{ChangedRange, MapMode, PositionIndex, first_meets};
 use std::alloc::AllocError;
 use std::rc::Rc;
 
-/// The greatest number of ranges of a chunk that is made: a quarter of what the count of mapped ranges allows. A change maps each
+/// The greatest number of ranges of a chunk that is made: less than a sixth of what the count of mapped ranges allows. A change maps each
 /// range of the chunks that it meets, mostly one or two.
-pub(crate) const MAX_RANGES: usize = 32;
+pub(crate) const MAX_RANGES: usize = 20;
 
 /// The greatest number of ranges of a small chunk. No run of more ranges is cut into small chunks, unless one of them is longer than
 /// `MAX_SHARED_LEN`, and an update copies a small one where a run that isn't done stands before it, or an added range follows by
 /// the end of the next chunk.
-pub(crate) const FEW_RANGES: usize = 12;
+pub(crate) const FEW_RANGES: usize = 8;
 
 /// The greatest length, in characters, of a range that shares a chunk with others. A longer one has a chunk of its own: changes far
 /// away meet it, and would map the others with it.
 pub(crate) const MAX_SHARED_LEN: u32 = 256;
 
 /// Ranges in order, whose places count from the start of the first. Contracts allow up to 128 of them; a chunk that is made has at most
-/// 32. The range of a chunk of one has no length here: its length stands beside the place of the chunk or of its group.
+/// 20. The range of a chunk of one has no length here: its length stands beside the place of the chunk or of its group.
 #[derive(Drop)]
 pub(crate) struct Chunk<T> {
     /// Their greatest end as they stand here: the hull of the chunk runs from its place to its place, this and what

@@ -78,15 +78,15 @@ fn map_all<'a, T: RangeValue, L: Ledger>(
     let mut builder = MappedBuilder::for_pages(alloc, groups.pages_left(), groups.groups_next())?;
     // Groups before the first that a change affects stay in place: they are shared here, as pages where they can be.
     let mut rest = builder.groups.share_carried(groups, 0, 0, changed)?;
-    while let Some((base, placed, others)) = rest.split_first() {
-        left = ranges_from(left, base);
+    while let Some((at, placed, others)) = rest.split_first() {
+        left = ranges_from(left, at);
         rest = others;
-        if is_opened(base, placed, left, &builder) {
+        if is_opened(at, placed, left, &builder) {
             if placed.grown == 0 {
                 builder.reserve(placed.group.chunks.len(), chunks_met(&rest, left))?;
                 let mut chunks = placed.group.chunks.as_slice();
                 while let Some((inner, more)) = chunks.split_first() {
-                    let start = inner.start + base;
+                    let start = inner.start + at;
                     left = ranges_from(left, start);
                     chunks = more;
                     if is_affected(start, inner, left) {
@@ -101,7 +101,7 @@ fn map_all<'a, T: RangeValue, L: Ledger>(
                                 left,
                                 &mut walk,
                                 index,
-                                ranges_after(&builder.run, base, more, left),
+                                ranges_after(&builder.run, at, more, left),
                                 &mut builder.run,
                                 mapped,
                             )?;
@@ -109,27 +109,19 @@ fn map_all<'a, T: RangeValue, L: Ledger>(
                     } else {
                         let to = walk.place_after(start, left);
                         builder.share_chunk(to, inner)?;
-                        chunks = builder.chunks.share_carried(more, base, start, to, left)?;
+                        chunks = builder.chunks.share_carried(more, at, start, to, left)?;
                     }
                 }
-            } else if let Some(long) = placed.moved_alone(base, left, &mut walk, index)? {
+            } else if let Some(long) = placed.moved_alone(at, left, &mut walk, index)? {
                 mapped.tick();
                 builder.put_group(long)?;
             } else {
-                map_only(
-                    base,
-                    placed,
-                    left,
-                    &mut walk,
-                    index,
-                    &mut builder.run,
-                    mapped,
-                )?;
+                map_only(at, placed, left, &mut walk, index, &mut builder.run, mapped)?;
             }
         } else {
-            let to = walk.place_after(base, left);
+            let to = walk.place_after(at, left);
             builder.share_group(to, placed)?;
-            rest = builder.groups.share_carried(rest, base, to, left)?;
+            rest = builder.groups.share_carried(rest, at, to, left)?;
         }
     }
     builder.finish()

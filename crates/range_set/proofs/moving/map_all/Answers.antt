@@ -54,8 +54,8 @@ none_first : {X : Type 0} (xs ys : List X) → xs ++ ys ≡ [] → xs ≡ []
 none_first [] ys none = refl
 none_first (x ∷ xs) ys none = cc
 
-pub loop-base-init : goal.loop-base-init
-loop-base-init g c =
+pub loop-at-init : goal.loop-at-init
+loop-at-init g c =
     let rules = g.T.RangeValue.rules in
     let d = c.args.changes.now in
     let gs = c.args.groups in
@@ -94,7 +94,7 @@ returns-in_err-reserve-clause-cost g c =
     let rules = g.T.RangeValue.rules in
     let gs = c.args.groups in
     let top = allowed rules c.args.changes.now 0 (spread gs) (are_spread rules gs c.requires.groups) (rises_ascend rules (flat (spread gs)) (rises-no_fault rules (flat (spread gs)) c.requires.order)) in
-    let spent = c.loop-base.invariant.cost in
+    let spent = c.loop-at.invariant.cost in
     omega (arith, top, spent)
 
 pub loop-inner-init : goal.loop-inner-init
@@ -102,15 +102,15 @@ loop-inner-init g c =
     let rules = g.T.RangeValue.rules in
     let d = c.args.changes.now in
     let gs = c.args.groups in
-    let p = put_at c.in-Some.base c.in-Some.placed.now in
+    let p = put_at c.in-Some.at c.in-Some.placed.now in
     let others = c.in-Some.others in
-    let kept = c.loop-base.invariant in
+    let kept = c.loop-at.invariant in
     let groups = subst (AreGroups rules) c.in-Some.ensures.some.is kept.groups in
-    let walked = subst (λ hs. IsWalked rules d (flat (spread gs)) (spread hs) (put_down c.loop-base.builder) c.loop-base.builder.run.items c.loop-base.walk.walker.reached c.loop-base.left.now) c.in-Some.ensures.some.is kept.walked in
+    let walked = subst (λ hs. IsWalked rules d (flat (spread gs)) (spread hs) (put_down c.loop-at.builder) c.loop-at.builder.run.items c.loop-at.walk.walker.reached c.loop-at.left.now) c.in-Some.ensures.some.is kept.walked in
     let chunks = c.as_slice-chunks.ensures.value ∙ (ap (λ (x : Group g.row.T.Denot). x.chunks.items) c.deref-then-placed-eq0.ensures ∙ sym (unlengthened p.grown p.group.value.chunks.items c.if-placed-eq0.true)) in
     record {
       builder = c.reserve.ensures.builder;
-      walked = rw (chunks, c.reserve.ensures.ranges, ap (λ v. v.items) c.reserve.ensures.run) (walked_open rules d (flat (spread gs)) p others (put_down c.loop-base.builder) c.loop-base.builder.run.items c.loop-base.walk.walker.reached c.loop-base.left.now c.ranges_from-left.result.now
+      walked = rw (chunks, c.reserve.ensures.ranges, ap (λ v. v.items) c.reserve.ensures.run) (walked_open rules d (flat (spread gs)) p others (put_down c.loop-at.builder) c.loop-at.builder.run.items c.loop-at.walk.walker.reached c.loop-at.left.now c.ranges_from-left.result.now
           groups.0.1 c.ranges_from-left.ensures.same walked);
       desc = kept.desc;
       clear = kept.clear;
@@ -124,14 +124,14 @@ place_after-to-requires-else-is_opened-clause-inside g c =
     let d = c.args.changes.now in
     let gs = c.args.groups in
     let whole = flat (spread gs) in
-    let p = put_at c.in-Some.base c.in-Some.placed.now in
+    let p = put_at c.in-Some.at c.in-Some.placed.now in
     let others = c.in-Some.others in
-    let done = put_down c.loop-base.builder in
-    let run = c.loop-base.builder.run.items in
-    let kept = c.loop-base.invariant in
+    let done = put_down c.loop-at.builder in
+    let run = c.loop-at.builder.run.items in
+    let kept = c.loop-at.invariant in
     let groups = subst (AreGroups rules) c.in-Some.ensures.some.is kept.groups in
-    let walked = subst (λ hs. IsWalked rules d (flat (spread gs)) (spread hs) (put_down c.loop-base.builder) c.loop-base.builder.run.items c.loop-base.walk.walker.reached c.loop-base.left.now) c.in-Some.ensures.some.is kept.walked in
-    let clear = clear_group rules d whole p others done run c.loop-base.walk.walker.reached c.loop-base.left.now c.ranges_from-left.result.now groups c.ranges_from-left.ensures.same walked (c.is_opened.ensures.apart c.if-is_opened.false) in
+    let walked = subst (λ hs. IsWalked rules d (flat (spread gs)) (spread hs) (put_down c.loop-at.builder) c.loop-at.builder.run.items c.loop-at.walk.walker.reached c.loop-at.left.now) c.in-Some.ensures.some.is kept.walked in
+    let clear = clear_group rules d whole p others done run c.loop-at.walk.walker.reached c.loop-at.left.now c.ranges_from-left.result.now groups c.ranges_from-left.ensures.same walked (c.is_opened.ensures.apart c.if-is_opened.false) in
     let size = ap old_size kept.desc in
     let inside = clear.hull.inside in
     omega (arith, size, inside)
@@ -142,14 +142,14 @@ place_after-to-requires-else-is_opened-clause-ascending g c =
     let d = c.args.changes.now in
     let gs = c.args.groups in
     let whole = flat (spread gs) in
-    let p = put_at c.in-Some.base c.in-Some.placed.now in
+    let p = put_at c.in-Some.at c.in-Some.placed.now in
     let others = c.in-Some.others in
-    let done = put_down c.loop-base.builder in
-    let run = c.loop-base.builder.run.items in
-    let kept = c.loop-base.invariant in
+    let done = put_down c.loop-at.builder in
+    let run = c.loop-at.builder.run.items in
+    let kept = c.loop-at.invariant in
     let groups = subst (AreGroups rules) c.in-Some.ensures.some.is kept.groups in
-    let walked = subst (λ hs. IsWalked rules d (flat (spread gs)) (spread hs) (put_down c.loop-base.builder) c.loop-base.builder.run.items c.loop-base.walk.walker.reached c.loop-base.left.now) c.in-Some.ensures.some.is kept.walked in
-    let clear = clear_group rules d whole p others done run c.loop-base.walk.walker.reached c.loop-base.left.now c.ranges_from-left.result.now groups c.ranges_from-left.ensures.same walked (c.is_opened.ensures.apart c.if-is_opened.false) in
+    let walked = subst (λ hs. IsWalked rules d (flat (spread gs)) (spread hs) (put_down c.loop-at.builder) c.loop-at.builder.run.items c.loop-at.walk.walker.reached c.loop-at.left.now) c.in-Some.ensures.some.is kept.walked in
+    let clear = clear_group rules d whole p others done run c.loop-at.walk.walker.reached c.loop-at.left.now c.ranges_from-left.result.now groups c.ranges_from-left.ensures.same walked (c.is_opened.ensures.apart c.if-is_opened.false) in
     clear.ascend
 
 pub place_after-to-requires-else-is_opened-clause-clear : goal.place_after-to-requires-else-is_opened-clause-clear
@@ -158,14 +158,14 @@ place_after-to-requires-else-is_opened-clause-clear g c =
     let d = c.args.changes.now in
     let gs = c.args.groups in
     let whole = flat (spread gs) in
-    let p = put_at c.in-Some.base c.in-Some.placed.now in
+    let p = put_at c.in-Some.at c.in-Some.placed.now in
     let others = c.in-Some.others in
-    let done = put_down c.loop-base.builder in
-    let run = c.loop-base.builder.run.items in
-    let kept = c.loop-base.invariant in
+    let done = put_down c.loop-at.builder in
+    let run = c.loop-at.builder.run.items in
+    let kept = c.loop-at.invariant in
     let groups = subst (AreGroups rules) c.in-Some.ensures.some.is kept.groups in
-    let walked = subst (λ hs. IsWalked rules d (flat (spread gs)) (spread hs) (put_down c.loop-base.builder) c.loop-base.builder.run.items c.loop-base.walk.walker.reached c.loop-base.left.now) c.in-Some.ensures.some.is kept.walked in
-    let clear = clear_group rules d whole p others done run c.loop-base.walk.walker.reached c.loop-base.left.now c.ranges_from-left.result.now groups c.ranges_from-left.ensures.same walked (c.is_opened.ensures.apart c.if-is_opened.false) in
+    let walked = subst (λ hs. IsWalked rules d (flat (spread gs)) (spread hs) (put_down c.loop-at.builder) c.loop-at.builder.run.items c.loop-at.walk.walker.reached c.loop-at.left.now) c.in-Some.ensures.some.is kept.walked in
+    let clear = clear_group rules d whole p others done run c.loop-at.walk.walker.reached c.loop-at.left.now c.ranges_from-left.result.now groups c.ranges_from-left.ensures.same walked (c.is_opened.ensures.apart c.if-is_opened.false) in
     subst (λ (x : Sections). IsClear p.start p.start x) (sym kept.desc) clear.hull.clear
 
 pub place_after-to-requires-else-is_opened-clause-same : goal.place_after-to-requires-else-is_opened-clause-same
@@ -173,11 +173,11 @@ place_after-to-requires-else-is_opened-clause-same g c = λ a b m.
     let rules = g.T.RangeValue.rules in
     let d = c.args.changes.now in
     let gs = c.args.groups in
-    let p = put_at c.in-Some.base c.in-Some.placed.now in
+    let p = put_at c.in-Some.at c.in-Some.placed.now in
     let others = c.in-Some.others in
-    let kept = c.loop-base.invariant in
+    let kept = c.loop-at.invariant in
     let groups = subst (AreGroups rules) c.in-Some.ensures.some.is kept.groups in
-    let walked = subst (λ hs. IsWalked rules d (flat (spread gs)) (spread hs) (put_down c.loop-base.builder) c.loop-base.builder.run.items c.loop-base.walk.walker.reached c.loop-base.left.now) c.in-Some.ensures.some.is kept.walked in
+    let walked = subst (λ hs. IsWalked rules d (flat (spread gs)) (spread hs) (put_down c.loop-at.builder) c.loop-at.builder.run.items c.loop-at.walk.walker.reached c.loop-at.left.now) c.in-Some.ensures.some.is kept.walked in
     let begin = groups.0 in
     c.ranges_from-left.ensures.same a b m ∙ (walked.same a b (starts_at rules d p others a begin.0 begin.1 m) ∙ ap (λ (x : Sections). list_any (meets a b) (replaced x)) (sym kept.desc))
 
@@ -187,20 +187,20 @@ share_group-requires-clause-order g c =
     let d = c.args.changes.now in
     let gs = c.args.groups in
     let whole = flat (spread gs) in
-    let p = put_at c.in-Some.base c.in-Some.placed.now in
+    let p = put_at c.in-Some.at c.in-Some.placed.now in
     let others = c.in-Some.others in
-    let done = put_down c.loop-base.builder in
-    let run = c.loop-base.builder.run.items in
-    let kept = c.loop-base.invariant in
+    let done = put_down c.loop-at.builder in
+    let run = c.loop-at.builder.run.items in
+    let kept = c.loop-at.invariant in
     let groups = subst (AreGroups rules) c.in-Some.ensures.some.is kept.groups in
-    let walked = subst (λ hs. IsWalked rules d (flat (spread gs)) (spread hs) (put_down c.loop-base.builder) c.loop-base.builder.run.items c.loop-base.walk.walker.reached c.loop-base.left.now) c.in-Some.ensures.some.is kept.walked in
-    let clear = clear_group rules d whole p others done run c.loop-base.walk.walker.reached c.loop-base.left.now c.ranges_from-left.result.now groups c.ranges_from-left.ensures.same walked (c.is_opened.ensures.apart c.if-is_opened.false) in
+    let walked = subst (λ hs. IsWalked rules d (flat (spread gs)) (spread hs) (put_down c.loop-at.builder) c.loop-at.builder.run.items c.loop-at.walk.walker.reached c.loop-at.left.now) c.in-Some.ensures.some.is kept.walked in
+    let clear = clear_group rules d whole p others done run c.loop-at.walk.walker.reached c.loop-at.left.now c.ranges_from-left.result.now groups c.ranges_from-left.ensures.same walked (c.is_opened.ensures.apart c.if-is_opened.false) in
     clear.order
 
 pub share_group-requires-clause-forward : goal.share_group-requires-clause-forward
 share_group-requires-clause-forward g c =
     let gs = c.args.groups in
-    run_forward g.T.RangeValue.rules c.args.changes.now (flat (spread gs)) (put_down c.loop-base.builder) c.loop-base.builder.run.items (flat (spread c.loop-base.rest)) c.loop-base.invariant.walked.under
+    run_forward g.T.RangeValue.rules c.args.changes.now (flat (spread gs)) (put_down c.loop-at.builder) c.loop-at.builder.run.items (flat (spread c.loop-at.rest)) c.loop-at.invariant.walked.under
 
 pub share_group-requires-clause-group : goal.share_group-requires-clause-group
 share_group-requires-clause-group g c =
@@ -208,14 +208,14 @@ share_group-requires-clause-group g c =
     let d = c.args.changes.now in
     let gs = c.args.groups in
     let whole = flat (spread gs) in
-    let p = put_at c.in-Some.base c.in-Some.placed.now in
+    let p = put_at c.in-Some.at c.in-Some.placed.now in
     let others = c.in-Some.others in
-    let done = put_down c.loop-base.builder in
-    let run = c.loop-base.builder.run.items in
-    let kept = c.loop-base.invariant in
+    let done = put_down c.loop-at.builder in
+    let run = c.loop-at.builder.run.items in
+    let kept = c.loop-at.invariant in
     let groups = subst (AreGroups rules) c.in-Some.ensures.some.is kept.groups in
-    let walked = subst (λ hs. IsWalked rules d (flat (spread gs)) (spread hs) (put_down c.loop-base.builder) c.loop-base.builder.run.items c.loop-base.walk.walker.reached c.loop-base.left.now) c.in-Some.ensures.some.is kept.walked in
-    let clear = clear_group rules d whole p others done run c.loop-base.walk.walker.reached c.loop-base.left.now c.ranges_from-left.result.now groups c.ranges_from-left.ensures.same walked (c.is_opened.ensures.apart c.if-is_opened.false) in
+    let walked = subst (λ hs. IsWalked rules d (flat (spread gs)) (spread hs) (put_down c.loop-at.builder) c.loop-at.builder.run.items c.loop-at.walk.walker.reached c.loop-at.left.now) c.in-Some.ensures.some.is kept.walked in
+    let clear = clear_group rules d whole p others done run c.loop-at.walk.walker.reached c.loop-at.left.now c.ranges_from-left.result.now groups c.ranges_from-left.ensures.same walked (c.is_opened.ensures.apart c.if-is_opened.false) in
     let start : c.place_after-to-else-is_opened.result ≡ clear_place d p.start =
     c.place_after-to-else-is_opened.ensures.value ∙ (ap (λ (x : Sections). place_after x p.start true) kept.desc ∙ ap (λ o. unwrap_or o 0) (map_pos-clear d p.start true Simple clear.hull.inside clear.hull.clear)) in
     let fits = clear.hull.fits in
@@ -229,14 +229,14 @@ share_group-requires-clause-room g c =
     let d = c.args.changes.now in
     let gs = c.args.groups in
     let whole = flat (spread gs) in
-    let p = put_at c.in-Some.base c.in-Some.placed.now in
+    let p = put_at c.in-Some.at c.in-Some.placed.now in
     let others = c.in-Some.others in
-    let done = put_down c.loop-base.builder in
-    let run = c.loop-base.builder.run.items in
-    let kept = c.loop-base.invariant in
+    let done = put_down c.loop-at.builder in
+    let run = c.loop-at.builder.run.items in
+    let kept = c.loop-at.invariant in
     let groups = subst (AreGroups rules) c.in-Some.ensures.some.is kept.groups in
-    let walked = subst (λ hs. IsWalked rules d (flat (spread gs)) (spread hs) (put_down c.loop-base.builder) c.loop-base.builder.run.items c.loop-base.walk.walker.reached c.loop-base.left.now) c.in-Some.ensures.some.is kept.walked in
-    let clear = clear_group rules d whole p others done run c.loop-base.walk.walker.reached c.loop-base.left.now c.ranges_from-left.result.now groups c.ranges_from-left.ensures.same walked (c.is_opened.ensures.apart c.if-is_opened.false) in
+    let walked = subst (λ hs. IsWalked rules d (flat (spread gs)) (spread hs) (put_down c.loop-at.builder) c.loop-at.builder.run.items c.loop-at.walk.walker.reached c.loop-at.left.now) c.in-Some.ensures.some.is kept.walked in
+    let clear = clear_group rules d whole p others done run c.loop-at.walk.walker.reached c.loop-at.left.now c.ranges_from-left.result.now groups c.ranges_from-left.ensures.same walked (c.is_opened.ensures.apart c.if-is_opened.false) in
     let a = clear.room in
     let b = c.requires.room in
     omega (arith, a, b)
@@ -246,7 +246,7 @@ returns-in_err-share_group-clause-cost g c =
     let rules = g.T.RangeValue.rules in
     let gs = c.args.groups in
     let top = allowed rules c.args.changes.now 0 (spread gs) (are_spread rules gs c.requires.groups) (rises_ascend rules (flat (spread gs)) (rises-no_fault rules (flat (spread gs)) c.requires.order)) in
-    let spent = c.loop-base.invariant.cost in
+    let spent = c.loop-at.invariant.cost in
     omega (arith, top, spent)
 
 pub share_carried-requires-else-is_opened-clause-ascend : goal.share_carried-requires-else-is_opened-clause-ascend
@@ -255,14 +255,14 @@ share_carried-requires-else-is_opened-clause-ascend g c =
     let d = c.args.changes.now in
     let gs = c.args.groups in
     let whole = flat (spread gs) in
-    let p = put_at c.in-Some.base c.in-Some.placed.now in
+    let p = put_at c.in-Some.at c.in-Some.placed.now in
     let others = c.in-Some.others in
-    let done = put_down c.loop-base.builder in
-    let run = c.loop-base.builder.run.items in
-    let reached = c.loop-base.walk.walker.reached in
-    let reps = c.loop-base.left.now in
+    let done = put_down c.loop-at.builder in
+    let run = c.loop-at.builder.run.items in
+    let reached = c.loop-at.walk.walker.reached in
+    let reps = c.loop-at.left.now in
     let after = c.ranges_from-left.result.now in
-    let kept = c.loop-base.invariant in
+    let kept = c.loop-at.invariant in
     let met = c.ranges_from-left.ensures.same in
     let groups = subst (AreGroups rules) c.in-Some.ensures.some.is kept.groups in
     let walked = subst (λ hs. IsWalked rules d whole (spread hs) done run reached reps) c.in-Some.ensures.some.is kept.walked in
@@ -280,14 +280,14 @@ share_carried-requires-else-is_opened-clause-fits g c =
     let d = c.args.changes.now in
     let gs = c.args.groups in
     let whole = flat (spread gs) in
-    let p = put_at c.in-Some.base c.in-Some.placed.now in
+    let p = put_at c.in-Some.at c.in-Some.placed.now in
     let others = c.in-Some.others in
-    let done = put_down c.loop-base.builder in
-    let run = c.loop-base.builder.run.items in
-    let reached = c.loop-base.walk.walker.reached in
-    let reps = c.loop-base.left.now in
+    let done = put_down c.loop-at.builder in
+    let run = c.loop-at.builder.run.items in
+    let reached = c.loop-at.walk.walker.reached in
+    let reps = c.loop-at.left.now in
     let after = c.ranges_from-left.result.now in
-    let kept = c.loop-base.invariant in
+    let kept = c.loop-at.invariant in
     let met = c.ranges_from-left.ensures.same in
     let groups = subst (AreGroups rules) c.in-Some.ensures.some.is kept.groups in
     let walked = subst (λ hs. IsWalked rules d whole (spread hs) done run reached reps) c.in-Some.ensures.some.is kept.walked in
@@ -308,14 +308,14 @@ share_carried-requires-else-is_opened-clause-room g c =
     let d = c.args.changes.now in
     let gs = c.args.groups in
     let whole = flat (spread gs) in
-    let p = put_at c.in-Some.base c.in-Some.placed.now in
+    let p = put_at c.in-Some.at c.in-Some.placed.now in
     let others = c.in-Some.others in
-    let done = put_down c.loop-base.builder in
-    let run = c.loop-base.builder.run.items in
-    let reached = c.loop-base.walk.walker.reached in
-    let reps = c.loop-base.left.now in
+    let done = put_down c.loop-at.builder in
+    let run = c.loop-at.builder.run.items in
+    let reached = c.loop-at.walk.walker.reached in
+    let reps = c.loop-at.left.now in
     let after = c.ranges_from-left.result.now in
-    let kept = c.loop-base.invariant in
+    let kept = c.loop-at.invariant in
     let met = c.ranges_from-left.ensures.same in
     let groups = subst (AreGroups rules) c.in-Some.ensures.some.is kept.groups in
     let walked = subst (λ hs. IsWalked rules d whole (spread hs) done run reached reps) c.in-Some.ensures.some.is kept.walked in
@@ -335,23 +335,23 @@ returns-in_err-rest-2-clause-cost g c =
     let rules = g.T.RangeValue.rules in
     let gs = c.args.groups in
     let top = allowed rules c.args.changes.now 0 (spread gs) (are_spread rules gs c.requires.groups) (rises_ascend rules (flat (spread gs)) (rises-no_fault rules (flat (spread gs)) c.requires.order)) in
-    let spent = c.loop-base.invariant.cost in
+    let spent = c.loop-at.invariant.cost in
     omega (arith, top, spent)
 
-pub loop-base-preserved : goal.loop-base-preserved
-loop-base-preserved g c =
+pub loop-at-preserved : goal.loop-at-preserved
+loop-at-preserved g c =
     let rules = g.T.RangeValue.rules in
     let d = c.args.changes.now in
     let gs = c.args.groups in
     let whole = flat (spread gs) in
-    let p = put_at c.in-Some.base c.in-Some.placed.now in
+    let p = put_at c.in-Some.at c.in-Some.placed.now in
     let others = c.in-Some.others in
-    let done = put_down c.loop-base.builder in
-    let run = c.loop-base.builder.run.items in
-    let reached = c.loop-base.walk.walker.reached in
-    let reps = c.loop-base.left.now in
+    let done = put_down c.loop-at.builder in
+    let run = c.loop-at.builder.run.items in
+    let reached = c.loop-at.walk.walker.reached in
+    let reps = c.loop-at.left.now in
     let after = c.ranges_from-left.result.now in
-    let kept = c.loop-base.invariant in
+    let kept = c.loop-at.invariant in
     let met = c.ranges_from-left.ensures.same in
     let groups = subst (AreGroups rules) c.in-Some.ensures.some.is kept.groups in
     let walked = subst (λ hs. IsWalked rules d whole (spread hs) done run reached reps) c.in-Some.ensures.some.is kept.walked in
@@ -399,19 +399,19 @@ pub finish-requires-clause-order : goal.finish-requires-clause-order
 finish-requires-clause-order g c =
     let rules = g.T.RangeValue.rules in
     let gs = c.args.groups in
-    let done = put_down c.loop-base.builder in
-    let run = c.loop-base.builder.run.items in
-    let under = subst (λ hs. IsUnder rules c.args.changes.now (flat (spread gs)) done run (flat (spread hs))) (c.in_default.ensures.none refl) c.loop-base.invariant.walked.under in
+    let done = put_down c.loop-at.builder in
+    let run = c.loop-at.builder.run.items in
+    let under = subst (λ hs. IsUnder rules c.args.changes.now (flat (spread gs)) done run (flat (spread hs))) (c.in_default.ensures.none refl) c.loop-at.invariant.walked.under in
     under_end_order rules c.args.changes.now (flat (spread gs)) done run under
 
 pub finish-requires-clause-forward : goal.finish-requires-clause-forward
 finish-requires-clause-forward g c =
     let gs = c.args.groups in
-    run_forward g.T.RangeValue.rules c.args.changes.now (flat (spread gs)) (put_down c.loop-base.builder) c.loop-base.builder.run.items (flat (spread c.loop-base.rest)) c.loop-base.invariant.walked.under
+    run_forward g.T.RangeValue.rules c.args.changes.now (flat (spread gs)) (put_down c.loop-at.builder) c.loop-at.builder.run.items (flat (spread c.loop-at.rest)) c.loop-at.invariant.walked.under
 
 pub finish-requires-clause-room : goal.finish-requires-clause-room
 finish-requires-clause-room g c =
-    let a = c.loop-base.invariant.walked.under.room in
+    let a = c.loop-at.invariant.walked.under.room in
     let b = c.requires.room in
     omega (arith, a, b)
 
@@ -420,9 +420,9 @@ returns-clause-ranges g c =
     let rules = g.T.RangeValue.rules in
     let d = c.args.changes.now in
     let gs = c.args.groups in
-    let done = put_down c.loop-base.builder in
-    let run = c.loop-base.builder.run.items in
-    let under = subst (λ hs. IsUnder rules d (flat (spread gs)) done run (flat (spread hs))) (c.in_default.ensures.none refl) c.loop-base.invariant.walked.under in
+    let done = put_down c.loop-at.builder in
+    let run = c.loop-at.builder.run.items in
+    let under = subst (λ hs. IsUnder rules d (flat (spread gs)) done run (flat (spread hs))) (c.in_default.ensures.none refl) c.loop-at.invariant.walked.under in
     let sorted = sym (under_end rules d (flat (spread gs)) done run under) in
     IfOk-weaker c.finish.result (λ made. flat (spread made.0) ≡ done ++ stable_sort (before rules) run) (λ made. flat (spread made.0) ≡ map_ranges rules d (flat (spread gs))) (λ made e. e ∙ sorted) c.finish.ensures.ranges
 
@@ -431,7 +431,7 @@ returns-clause-cost g c =
     let rules = g.T.RangeValue.rules in
     let gs = c.args.groups in
     let top = allowed rules c.args.changes.now 0 (spread gs) (are_spread rules gs c.requires.groups) (rises_ascend rules (flat (spread gs)) (rises-no_fault rules (flat (spread gs)) c.requires.order)) in
-    let spent = c.loop-base.invariant.cost in
+    let spent = c.loop-at.invariant.cost in
     omega (arith, top, spent)
 
 -- those of the loop over the chunks of a group
@@ -532,8 +532,8 @@ put_group-requires-clause-forward g c = long.put_group-requires-clause-forward g
 pub put_group-requires-clause-room : goal.put_group-requires-clause-room
 put_group-requires-clause-room g c = long.put_group-requires-clause-room g c
 
-pub loop-base-preserved-in-Continue-branch-12 : goal.loop-base-preserved-in-Continue-branch-12
-loop-base-preserved-in-Continue-branch-12 g c = long.loop-base-preserved-in-Continue-branch-12 g c
+pub loop-at-preserved-in-Continue-branch-12 : goal.loop-at-preserved-in-Continue-branch-12
+loop-at-preserved-in-Continue-branch-12 g c = long.loop-at-preserved-in-Continue-branch-12 g c
 
 pub returns-in_err-put_group-clause-cost : goal.returns-in_err-put_group-clause-cost
 returns-in_err-put_group-clause-cost g c = long.returns-in_err-put_group-clause-cost g c
@@ -547,8 +547,8 @@ map_only-requires-clause-inside g c = long.map_only-requires-clause-inside g c
 pub map_only-requires-clause-ascending : goal.map_only-requires-clause-ascending
 map_only-requires-clause-ascending g c = long.map_only-requires-clause-ascending g c
 
-pub loop-base-preserved-in-Continue-branch-13 : goal.loop-base-preserved-in-Continue-branch-13
-loop-base-preserved-in-Continue-branch-13 g c = long.loop-base-preserved-in-Continue-branch-13 g c
+pub loop-at-preserved-in-Continue-branch-13 : goal.loop-at-preserved-in-Continue-branch-13
+loop-at-preserved-in-Continue-branch-13 g c = long.loop-at-preserved-in-Continue-branch-13 g c
 
 pub returns-in_err-map_only-clause-cost : goal.returns-in_err-map_only-clause-cost
 returns-in_err-map_only-clause-cost g c = long.returns-in_err-map_only-clause-cost g c

@@ -7,8 +7,8 @@ use Rattle.range_set.proofs.Cost.{allowance}
 use Rattle.range_set.proofs.Walked.{IsWalked}
 use Rattle.range_set.proofs.moving.map_all.Given as goal
 
-abbrev pub invariant-loop-base : goal.invariant-loop-base
-invariant-loop-base g l =
+abbrev pub invariant-loop-at : goal.invariant-loop-at
+invariant-loop-at g l =
     let rules = g.T.RangeValue.rules in
     record {
       builder : IsMappedBuilder rules l.builder;
@@ -23,7 +23,7 @@ invariant-loop-base g l =
 abbrev pub invariant-loop-inner : goal.invariant-loop-inner
 invariant-loop-inner g l =
     let rules = g.T.RangeValue.rules in
-    let rest = map (move l.base) l.chunks ++ spread l.rest in
+    let rest = map (move l.at) l.chunks ++ spread l.rest in
     record {
       builder : IsMappedBuilder rules l.builder;
       walked : IsWalked rules l.changes (flat (spread l.fn.groups)) rest (put_down l.builder) l.builder.run.items l.walk.walker.reached l.left;
@@ -33,8 +33,8 @@ invariant-loop-inner g l =
       cost : l.mapped + allowance rules l.changes rest ≤ l.fn.mapped + allowance rules l.changes (spread l.fn.groups);
     }
 
-abbrev pub decreases-loop-base : goal.decreases-loop-base
-decreases-loop-base g l = length l.rest
+abbrev pub decreases-loop-at : goal.decreases-loop-at
+decreases-loop-at g l = length l.rest
 
 abbrev pub decreases-loop-inner : goal.decreases-loop-inner
 decreases-loop-inner g l = length l.chunks
