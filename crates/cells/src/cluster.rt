@@ -38,6 +38,13 @@ fn is_printable_byte(byte: u8) -> bool
     (0x20..=0x7E).contains(&byte)
 }
 
+/// Whether all characters are printable ASCII, U+0020 to U+007E.
+pub fn are_printable(characters: &[char]) -> bool
+    ensures { result ≡ list_all (is_in_range 0x20 0x7E) characters.now }
+{
+    characters.iter().all(|c| (' '..='~').contains(c))
+}
+
 /// How many characters the text has.
 pub fn char_count(text: &str) -> usize
     ensures { result ≡ length (chars text.now) }

@@ -210,14 +210,13 @@ told_singles pos at (c ∷ d ∷ ds) begun inside =
     by true before more = more (less_is at pos before)
     by false after more = refl
 
-pub printable_place : (tab pos len column : ℕ) (bs : List ℕ) → are_printable bs ≡ true → len ≡ length (chars bs) → column ≡ min pos len → (column, 1) ≡ place_of tab pos 0 0 (clusters (chars bs))
-printable_place tab pos len column bs all long is =
-    let same = chars-printable bs all in
-    let count : min pos len ≡ 0 + min (pos - 0) (length bs) = omega (arith, long, ap length same) in
-    rw (same, clusters_singles bs all)
-    (ap (λ (k : ℕ). (k, 1)) (is ∙ count) ∙ sym (place_singles tab pos 0 0 bs all))
+pub printable_place : (tab pos len column width : ℕ) (cs : List ℕ) → are_printable cs ≡ true → len ≡ length cs → column ≡ min pos len → width ≡ 1 → (column, width) ≡ place_of tab pos 0 0 (clusters cs)
+printable_place tab pos len column width cs all long is one =
+    let count : column ≡ 0 + min (pos - 0) (length cs) = omega (arith, long, is) in
+    rw (clusters_singles cs all, place_singles tab pos 0 0 cs all, count, one) refl
 
-pub printable_told : (pos len : ℕ) (bs : List ℕ) → are_printable bs ≡ true → len ≡ length (chars bs) → pos + 1 < len → is_told pos 0 (clusters (chars bs)) ≡ true
-printable_told pos len bs all long inside =
-    let same = chars-printable bs all in
-    rw (same, clusters_singles bs all) (told_singles pos 0 bs (omega arith) (omega (arith, inside, long, ap length same)))
+pub printable_told : (pos len : ℕ) (cs : List ℕ) → are_printable cs ≡ true → len ≡ length cs → pos + 1 < len → is_told pos 0 (clusters cs) ≡ true
+printable_told pos len cs all long inside = rw (clusters_singles cs all) (told_singles pos 0 cs (omega arith) (omega (arith, inside, long)))
+
+pub printable_chars : (bs : List ℕ) → are_printable bs ≡ true → are_printable (chars bs) ≡ true
+printable_chars bs all = rw (chars-printable bs all) all

@@ -101,6 +101,20 @@ impl TextBuilder {
         }
     }
 
+    /// A builder of the text without characters, with room for so many characters, or for 2,048 where that is less. `Err`: out of
+    /// memory.
+    pub fn with_capacity(alloc: Global, capacity: u32) -> Result<TextBuilder, AllocError>
+        ensures { IfOk result (λ builder. builder ≡ []) }
+    {
+        let last = LeafBuilder::with_room(alloc, capacity)?;
+        Ok(TextBuilder {
+            done: Done::Nothing,
+            last,
+            len: 0,
+            alloc,
+        })
+    }
+
     /// How many characters were put in.
     pub fn len(&self) -> u32
         ensures { result ≡ length self.now }

@@ -306,8 +306,9 @@ impl Text {
         }
     }
 
-    /// Some of the characters from a place on: those of a piece, or one break.
-    pub(crate) fn run_at(&self, pos: u32) -> &[char]
+    /// Some of the characters from a place on, at least one: up to where the array ends in which the text keeps them, or the one
+    /// break between two parts of its tree. Takes no memory.
+    pub fn run_at(&self, pos: u32) -> &[char]
         requires { pos < length self.now.characters }
         ensures some { 0 < length result.now }
         ensures run { result.now ≡ take (length result.now) (drop pos self.now.characters) }
@@ -455,7 +456,7 @@ impl Text {
         ensures { IfOk result (λ r. IfSome r (λ t. t.characters ≡ replaced from to lines.now self.now.characters)) }
     {
         let alloc = self.alloc();
-        let mut texts = Vec::new(alloc);
+        let mut texts = Vec::with_capacity(alloc, 2)?;
         if self.add_replaced(from, to, lines, &mut texts)? {
             Ok(Some(one_text(alloc, texts, self.levels())?))
         } else {

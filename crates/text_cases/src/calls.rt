@@ -95,10 +95,20 @@ fn built(alloc: Global) -> Result<Text, AllocError> {
     builder.finish()
 }
 
+/// What a builder with so much room makes of two characters.
+fn built_with_room(alloc: Global, capacity: u32) -> Result<Text, AllocError> {
+    let mut builder = TextBuilder::with_capacity(alloc, capacity)?;
+    put_all(&mut builder, &['a', 'b'])?;
+    builder.finish()
+}
+
 #[test]
 fn texts_are_built(rt: HostRuntime) -> Result<(), Fail> {
     let text = built(rt.alloc())?;
     assert!(rt; is(&text, &['a', 'b', '\n', 'c', '\n', 'd'])?);
+    for capacity in &[0, 2, 3_000] {
+        assert!(rt; is(&built_with_room(rt.alloc(), *capacity)?, &['a', 'b'])?);
+    }
     Ok(())
 }
 

@@ -35,6 +35,30 @@ fn a_line_is_found_in_the_tree(rt: HostRuntime) -> Result<(), Fail> {
     Ok(())
 }
 
+/// How many characters the first 1,000 runs of a text have, and how many of these runs are one character.
+fn runs(text: &Text) -> (u32, u32) {
+    let mut pos = 0;
+    let mut single: u32 = 0;
+    for _ in 0..1_000u32 {
+        if pos >= text.len() {
+            return (pos, single);
+        }
+        let len = text.run_at(pos).len() as u32;
+        if len == 1 {
+            single = single.wrapping_add(1);
+        }
+        pos = pos.saturating_add(len);
+    }
+    (pos, single)
+}
+
+/// Each leaf but the last has 64 lines and so 63 breaks in one run, and a break follows it.
+#[test]
+fn runs_end_with_leaves(rt: HostRuntime) -> Result<(), Fail> {
+    assert!(rt; runs(&breaks(rt.alloc())?) == (4_096, 64));
+    Ok(())
+}
+
 /// How many lines the leaves have that were met, and the most that one has.
 #[derive(Clone, Copy)]
 struct Leaves {
