@@ -96,6 +96,22 @@ pub fn shown(
     requires { IsScene (scene_of scene.now) }
     ensures { IfOk result (λ deps. deps ≡ shown_of (scene_of scene.now) (held shelf.now.facets shelf.now.fields) reads.now) }
 {
+    match reads {
+        [] => Ok(Deps::new(None, None, ReadValues::new(alloc))),
+        _ => read(alloc, scene, reads, shelf),
+    }
+}
+
+/// The same, with a walk over the dependencies for each part of what is read.
+fn read(
+    alloc: Global,
+    scene: &Scene,
+    reads: &[Dependency],
+    shelf: &Shelf,
+) -> Result<Deps, AllocError>
+    requires { IsScene (scene_of scene.now) }
+    ensures { IfOk result (λ deps. deps ≡ shown_of (scene_of scene.now) (held shelf.now.facets shelf.now.fields) reads.now) }
+{
     shelf.known();
     let document = document_read(scene, reads)?;
     let selection = selection_read(scene, reads)?;

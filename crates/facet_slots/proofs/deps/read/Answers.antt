@@ -1,7 +1,7 @@
 use Rattle.facet_slots.proofs.Fitting.{shown-is}
 use Rattle.facet_slots.specs.Keeping.{held}
 use Rattle.facet_slots.specs.Found.{scene_of}
-use Rattle.facet_slots.proofs.deps.shown.Goals as goal
+use Rattle.facet_slots.proofs.deps.read.Goals as goal
 
 pub new-requires-clause-in_range : goal.new-requires-clause-in_range
 new-requires-clause-in_range c =
