@@ -167,11 +167,26 @@ impl Selection {
     pub fn try_copy(&self) -> Result<Selection, AllocError>
         ensures { IfOk result (λ copy. copy ≡ self.now) }
     {
-        let ranges = SmallVec::from_slice(*self.ranges.allocator(), &self.ranges)?;
+        let ranges = copied(*self.ranges.allocator(), &self.ranges)?;
         Ok(Selection {
             ranges,
             main: self.main,
         })
+    }
+}
+
+/// A copy of some ranges. One alone, which most selections have, is pushed, which costs less than the call that copies several.
+#[inline(always)]
+fn copied(alloc: Global, ranges: &[Range]) -> Result<Ranges, AllocError>
+    ensures { IfOk result (λ copies. copies.items ≡ ranges.now) }
+{
+    match ranges {
+        [only] => {
+            let mut copy = SmallVec::new(alloc);
+            copy.push(*only)?;
+            Ok(copy)
+        }
+        _ => SmallVec::from_slice(alloc, ranges),
     }
 }
 
