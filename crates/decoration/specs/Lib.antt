@@ -1,5 +1,7 @@
 pub mod Colors
 pub mod Widgets
+pub mod Marks
+pub mod MarkNumbers
 pub mod Replacements
 pub mod Sides
 pub mod Places

@@ -37,7 +37,7 @@ impl Deco {
     pub fn mark(style: Style, inclusive: Inclusive) -> Deco
         ensures { result ≡ Deco.Mark (record { style = style; inclusive = inclusive }) }
     {
-        Deco::Mark(Mark { style, inclusive })
+        Deco::Mark(Mark::new(style, inclusive))
     }
 
     /// A widget, which shows a text at a place. `Err`: `BadSide` exactly where the side is less than -10000 or more
@@ -91,7 +91,7 @@ impl RangeValue for Deco {
 
     fn start_side(&self) -> i32 {
         match self {
-            Deco::Mark(mark) => mark.inclusive.start_side(),
+            Deco::Mark(mark) => mark.inclusive().start_side(),
             Deco::Widget(widget) => widget.end_side(),
             Deco::Replace(replacement) => replacement.inclusive().start_side(),
             Deco::Line(_) => -30000,
@@ -100,7 +100,7 @@ impl RangeValue for Deco {
 
     fn end_side(&self) -> i32 {
         match self {
-            Deco::Mark(mark) => mark.inclusive.end_side(),
+            Deco::Mark(mark) => mark.inclusive().end_side(),
             Deco::Widget(widget) => widget.end_side(),
             Deco::Replace(replacement) => replacement.inclusive().end_side(),
             Deco::Line(_) => -30000,
@@ -130,7 +130,7 @@ impl RangeValue for Deco {
 
     fn try_copy(&self, _alloc: Global) -> Result<Deco, AllocError> {
         match self {
-            Deco::Mark(mark) => Ok(Deco::mark(mark.style.copied_by_fields(), mark.inclusive)),
+            Deco::Mark(mark) => Ok(Deco::Mark(*mark)),
             Deco::Widget(widget) => Ok(Deco::Widget(widget.try_copy()?)),
             Deco::Replace(replacement) => Ok(Deco::Replace(replacement.try_copy()?)),
             Deco::Line(style) => Ok(Deco::Line(style.copied_by_fields())),

@@ -24,8 +24,8 @@ impl Style {
             && self.reverse == other.reverse
     }
 
-    /// The same style, copied field by field. Copied as a whole, its seven bytes are moved by LLVM in two parts of four that overlap,
-    /// and a processor waits where such a copy is soon copied again, as where range sets are mapped.
+    /// The same style, copied field by field. Copied as a whole, its seven bytes are moved by LLVM in two parts of four that
+    /// overlap, and a processor waits where such a copy is soon copied again, as where range sets of line decorations are mapped.
     pub(crate) fn copied_by_fields(&self) -> Style
         ensures { result ≡ self.now }
     {

@@ -98,7 +98,7 @@ fn push_mark(ranges: &mut Vec<StyleRange>, range: &RangeRef<'_, Deco>) -> Result
         ranges.push(StyleRange {
             from: range.from,
             to: range.to,
-            style: mark.style,
+            style: mark.style(),
         })?;
     }
     Ok(())
