@@ -66,7 +66,7 @@ fn update(alloc: Global, spec: SpecRequest) -> Result<Listed<SpecRequest>, Alloc
 fn positions(alloc: Global, from: u32, to: u32) -> Result<Plain, AllocError>
     ensures { IfOk result (λ value. value ≡ positions from to) }
 {
-    let mut items = Vec::new(alloc);
+    let mut items = Vec::with_capacity(alloc, 2)?;
     items.push(Plain::Int(i64::from(from)))?;
     items.push(Plain::Int(i64::from(to)))?;
     match Plain::list(items) {
