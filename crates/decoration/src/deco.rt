@@ -5,6 +5,7 @@ ghost use Rattle.decoration.specs.Places.{kind_of};
 
 use crate::inclusive::Inclusive;
 use crate::kind::Kind;
+use crate::line_style::LineStyle;
 use crate::mark::Mark;
 use crate::replacement::Replacement;
 use crate::style::Style;
@@ -23,7 +24,7 @@ pub enum Deco {
     Mark(Mark),
     Widget(Widget),
     Replace(Replacement),
-    Line(Style),
+    Line(LineStyle),
 }
 
 /// A decoration has 16 bytes.
@@ -70,7 +71,7 @@ impl Deco {
     pub fn line(style: Style) -> Deco
         ensures { result ≡ Deco.Line style }
     {
-        Deco::Line(style)
+        Deco::Line(LineStyle::new(style))
     }
 
     /// What the decoration does.
@@ -133,7 +134,7 @@ impl RangeValue for Deco {
             Deco::Mark(mark) => Ok(Deco::Mark(*mark)),
             Deco::Widget(widget) => Ok(Deco::Widget(widget.try_copy()?)),
             Deco::Replace(replacement) => Ok(Deco::Replace(replacement.try_copy()?)),
-            Deco::Line(style) => Ok(Deco::Line(style.copied_by_fields())),
+            Deco::Line(style) => Ok(Deco::Line(*style)),
         }
     }
 }

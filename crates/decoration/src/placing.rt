@@ -37,7 +37,7 @@ pub fn place_line(text: &Text, pos: u32, style: Style) -> Result<Ranged<Deco>, D
         Ok(Ranged {
             from: pos,
             to: pos,
-            value: Deco::Line(style),
+            value: Deco::line(style),
         })
     } else {
         Err(DecoError::NotLineStart { pos })

@@ -24,20 +24,6 @@ impl Style {
             && self.reverse == other.reverse
     }
 
-    /// The same style, copied field by field. Copied as a whole, its seven bytes are moved by LLVM in two parts of four that
-    /// overlap, and a processor waits where such a copy is soon copied again, as where range sets of line decorations are mapped.
-    pub(crate) fn copied_by_fields(&self) -> Style
-        ensures { result ≡ self.now }
-    {
-        Style {
-            fg: self.fg,
-            bg: self.bg,
-            bold: self.bold,
-            underline: self.underline,
-            reverse: self.reverse,
-        }
-    }
-
     /// The style without colours and flags.
     pub fn plain() -> Style
         ensures { result ≡ record { fg = None; bg = None; bold = false; underline = false; reverse = false } }

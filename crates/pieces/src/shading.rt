@@ -37,7 +37,7 @@ fn line_over(from: u32, under: Style, deco: &Deco, at: u32) -> Style
     ensures { result ≡ line_over from under deco.now at }
 {
     match deco {
-        Deco::Line(style) if at == from => over(under, *style),
+        Deco::Line(style) if at == from => over(under, style.style()),
         _ => under,
     }
 }
