@@ -1,5 +1,5 @@
 // What rules are shown.
-ghost use Rattle.std.specs.Prelude.{◌≡◌, IfOk, map, cond, Some, None, option_map};
+ghost use Rattle.std.specs.Prelude.{◌≡◌, ◌∷◌, [], IfOk, map, cond, Some, None, option_map};
 ghost use Rattle.facet_slots.specs.Scenes.{IsScene, reads_document, reads_selection, shown as shown_of, vertices_of};
 ghost use Rattle.facet_slots.specs.Keeping.{held};
 ghost use Rattle.facet_slots.specs.Found.{scene_of};
@@ -8,9 +8,8 @@ use crate::shelf::Shelf;
 use configuration::{Dependency, Vertex};
 use line_tree::Text;
 use selection::Selection;
-use smallvec::SmallVec;
 use std::alloc::{AllocError, Global};
-use values::{Deps, ReadValues, Scene, SharedVal};
+use values::{Deps, Scene, SharedVal};
 
 /// The value of a facet or field, shared; `None` for an absent field.
 fn shared_value(shelf: &Shelf, vertex: Vertex) -> Result<Option<SharedVal>, AllocError>
@@ -23,10 +22,14 @@ fn shared_value(shelf: &Shelf, vertex: Vertex) -> Result<Option<SharedVal>, Allo
 }
 
 /// The values of the declared facets and fields, shared.
-fn values_read(alloc: Global, reads: &[Dependency], shelf: &Shelf) -> Result<ReadValues, AllocError>
+fn values_read(
+    alloc: Global,
+    reads: &[Dependency],
+    shelf: &Shelf,
+) -> Result<Vec<Option<SharedVal>>, AllocError>
     ensures { IfOk result (λ vs. vs.items ≡ map (held shelf.now.facets shelf.now.fields) (vertices_of reads.now)) }
 {
-    let mut values = SmallVec::new(alloc);
+    let mut values = Vec::new(alloc);
     for read in reads {
         match *read {
             Dependency::Doc => {}
@@ -86,6 +89,13 @@ fn selection_read(scene: &Scene, reads: &[Dependency]) -> Result<Option<Selectio
     }
 }
 
+/// What a rule that declares one facet or field alone reads. `Err`: no further owner can be counted.
+fn value_alone(shelf: &Shelf, vertex: Vertex) -> Result<Deps, AllocError>
+    ensures { IfOk result (λ deps. deps ≡ record { document = None; selection = None; values = held shelf.now.facets shelf.now.fields vertex ∷ [] }) }
+{
+    Ok(Deps::of_value(shared_value(shelf, vertex)?))
+}
+
 /// What a rule that declares these dependencies reads. Texts and values are shared, the selection is copied. `Err`: out of memory.
 pub fn shown(
     alloc: Global,
@@ -97,7 +107,10 @@ pub fn shown(
     ensures { IfOk result (λ deps. deps ≡ shown_of (scene_of scene.now) (held shelf.now.facets shelf.now.fields) reads.now) }
 {
     match reads {
-        [] => Ok(Deps::new(None, None, ReadValues::new(alloc))),
+        [] => Ok(Deps::none()),
+        [Dependency::Doc] => Ok(Deps::of_document(scene.document.try_copy()?)),
+        [Dependency::Facet(facet)] => value_alone(shelf, Vertex::Facet(*facet)),
+        [Dependency::Field(field)] => value_alone(shelf, Vertex::Field(*field)),
         _ => read(alloc, scene, reads, shelf),
     }
 }
@@ -116,5 +129,5 @@ fn read(
     let document = document_read(scene, reads)?;
     let selection = selection_read(scene, reads)?;
     let values = values_read(alloc, reads, shelf)?;
-    Ok(Deps::new(document, selection, values))
+    Deps::new(alloc, document, selection, values)
 }

@@ -8,7 +8,6 @@ use change_set::{Change, ChangeSet, InsertedText};
 use line_tree::{MAX_LEN, Text};
 use listed::Listed;
 use selection::{Selection, first_outside};
-use smallvec::SmallVec;
 use std::alloc::Global;
 use std::test::Fail;
 use values::{Deps, Scene, TrNotes, TrView, UpdateView};
@@ -90,16 +89,11 @@ fn typed(alloc: Global) -> Result<TrView, Fail> {
     Ok(TrView::new(alloc, changes, start, end, false, notes)?)
 }
 
-/// No reads.
-fn bare(alloc: Global) -> Deps {
-    Deps::new(None, None, SmallVec::new(alloc))
-}
-
 /// What an updater is shown of that transaction, with no reads.
 pub(crate) fn view(alloc: Global) -> Result<UpdateView, Fail> {
     let transaction = typed(alloc)?;
     Ok(UpdateView {
         transaction,
-        deps: bare(alloc),
+        deps: Deps::none(),
     })
 }

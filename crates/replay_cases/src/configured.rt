@@ -100,6 +100,35 @@ fn a_facet_is_computed_from_another(rt: HostRuntime) -> Result<(), Fail> {
 }
 
 #[test]
+fn a_facet_is_computed_from_several_parts(rt: HostRuntime) -> Result<(), Fail> {
+    let declared = [
+        r#"{"facet":{"name":"a","combine":5}}"#,
+        r#"{"facet":{"name":"b","combine":5}}"#,
+        r#"{"compute":{"name":"ca","facet":"a","rule":1,"deps":["doc"]}}"#,
+        r#"{"field":{"name":"n","create":2,"update":2}}"#,
+        r#"{"compute":{"name":"cb","facet":"b","rule":5,"deps":["n","doc","selection","a"]}}"#,
+        r#"{"facet":{"name":"c","combine":5}}"#,
+        r#"{"compute":{"name":"cc","facet":"c","rule":3,"deps":["n","doc","selection"]}}"#,
+    ];
+    let lines = [
+        (
+            r#"{"start":{"doc":"ab","selection":[[1,1]],"extensions":["n","ca","cb","cc"]}}"#,
+            r#"{"ok":{"length":2}}"#,
+        ),
+        (r#"{"get":{"name":"b"}}"#, r#"{"ok":2}"#),
+        (r#"{"get":{"name":"c"}}"#, r#"{"ok":1}"#),
+        (
+            r#"{"update":[{"changes":[{"from":0,"insert":"cde"}]}]}"#,
+            r#"{"ok":{"length":5}}"#,
+        ),
+        (r#"{"get":{"name":"b"}}"#, r#"{"ok":6}"#),
+        (r#"{"get":{"name":"c"}}"#, r#"{"ok":4}"#),
+    ];
+    assert!(rt; talks(rt.alloc(), &declared, &lines)?);
+    Ok(())
+}
+
+#[test]
 fn a_circle_is_refused_with_its_members(rt: HostRuntime) -> Result<(), Fail> {
     let declared = [
         r#"{"facet":{"name":"f","combine":1}}"#,

@@ -31,3 +31,4 @@ pub mod Whole
 pub mod Declarations
 pub mod Lawful
 pub mod Growth
+pub mod Reads

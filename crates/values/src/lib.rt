@@ -45,7 +45,7 @@ pub use comparer::{CompareBox, Comparer};
 pub use computer::{ComputeBox, Computer};
 pub use computer_n::{ComputeListBox, ComputerN};
 pub use creator::{CreateBox, Creator};
-pub use deps::{Deps, ReadValues};
+pub use deps::Deps;
 pub use effect_map::{EffectMap, EffectMapBox};
 pub use extender::{ExtendBox, Extender};
 pub use kit::Kit;

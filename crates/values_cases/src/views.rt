@@ -10,11 +10,10 @@ use cm_plain::{KeptEffect, Plain, Str};
 use line_tree::{MAX_LEN, Text, cut_len};
 use listed::Listed;
 use selection::{Selection, first_outside};
-use smallvec::SmallVec;
 use std::alloc::Global;
 use std::test::Fail;
 use transaction::Annotation;
-use values::{Deps, ReadValues, Scene, SharedVal, ShownEffect, TrNotes, TrView};
+use values::{Deps, Scene, SharedVal, ShownEffect, TrNotes, TrView};
 
 fn text(alloc: Global, characters: &str) -> Result<Text, Fail>
     ensures { IfOk result (λ t. length t.characters ≤ max_len) }
@@ -31,8 +30,8 @@ fn shared_of(alloc: Global, value: Made<'_>) -> Result<SharedVal, Fail> {
 }
 
 /// Reads, where `None` is an absent field.
-fn reads(alloc: Global, values: &[Option<Made<'_>>]) -> Result<ReadValues, Fail> {
-    let mut reads = SmallVec::new(alloc);
+fn reads(alloc: Global, values: &[Option<Made<'_>>]) -> Result<Vec<Option<SharedVal>>, Fail> {
+    let mut reads = Vec::with_capacity(alloc, values.len())?;
     for value in values {
         match value {
             Some(value) => reads.push(Some(shared_of(alloc, *value)?))?,
@@ -60,17 +59,27 @@ fn known_reads(reads: &[Option<SharedVal>])
     }
 }
 
-/// Facets and fields alone.
-fn bare(alloc: Global, values: &[Option<Made<'_>>]) -> Result<Deps, Fail> {
+/// Several facets and fields alone.
+fn several(alloc: Global, values: &[Option<Made<'_>>]) -> Result<Deps, Fail> {
     let reads = reads(alloc, values)?;
     known_reads(reads.as_slice());
-    Ok(Deps::new(None, None, reads))
+    Ok(Deps::new(alloc, None, None, reads)?)
+}
+
+/// Facets and fields alone.
+fn bare(alloc: Global, values: &[Option<Made<'_>>]) -> Result<Deps, Fail> {
+    match values {
+        [] => Ok(Deps::none()),
+        [None] => Ok(Deps::of_value(None)),
+        [Some(value)] => Ok(Deps::of_value(Some(shared_of(alloc, *value)?))),
+        _ => several(alloc, values),
+    }
 }
 
 /// A document alone.
 fn document(alloc: Global, characters: &str) -> Result<Deps, Fail> {
     let text = text(alloc, characters)?;
-    Ok(Deps::new(Some(text), None, SmallVec::new(alloc)))
+    Ok(Deps::of_document(text))
 }
 
 /// A document and a cursor in it.
@@ -81,7 +90,7 @@ fn cursor(alloc: Global, characters: &str, head: u32) -> Result<Deps, Fail> {
         return Err("a place in the text".into());
     }
     selection.known();
-    Ok(Deps::new(Some(text), Some(selection), SmallVec::new(alloc)))
+    Ok(Deps::new(alloc, Some(text), Some(selection), Vec::new(alloc))?)
 }
 
 /// What a rule reads: a document, a document with a cursor, or values.
