@@ -100,12 +100,11 @@ marking_line from to a b =
 -- the specs that are made for a mark, with what its spec is made of
 pub marked : (changes : List Change) (effects : List NamedEffect) (annotations : List Annotation) (effect : List ℕ) (value : Plain) (from to : ℕ)
     → changes ≡ [] → effects ≡ Kind effect value ∷ [] → annotations ≡ [] → effect ≡ codes "mark" → value ≡ specs.positions from to
-    → record { changes = changes; selection = None; effects = effects; annotations = annotations; user_event = None; sequential = false; filter = true } ∷ []
-    ≡ specs.marking from to ∷ []
+    → specs.spec changes effects annotations ≡ specs.marking from to
 marked changes effects annotations effect value from to no_changes one no_notes name positions = rw (no_changes, one, no_notes, name, positions) refl
 
 -- what was made is what is read from the line
-pub is_read : (line : Result Request Refusal) (made : Result (List SpecRequest) AllocError) (want have : List SpecRequest) → line ≡ Ok (Update want) → have ≡ want
-    → IfOk made (λ r. r ≡ have) → IfOk made (λ r. line ≡ Ok (Update r))
-is_read line (Ok r) want have e same is = e ∙ ap (λ (x : List SpecRequest). Ok (Update x)) (sym (is ∙ same))
+pub is_read : (line : Result Request Refusal) (made : Result SpecRequest AllocError) (want have : SpecRequest) → line ≡ Ok (Update (want ∷ [])) → have ≡ want
+    → IfOk made (λ r. r ≡ have) → IfOk made (λ r. line ≡ Ok (Update (r ∷ [])))
+is_read line (Ok r) want have e same is = e ∙ ap (λ (x : SpecRequest). Ok (Update (x ∷ []))) (sym (is ∙ same))
 is_read line (Err none) want have e same is = tt

@@ -4,7 +4,7 @@ ghost use Rattle.requests.specs.Requests.{request_named};
 ghost use Rattle.script.specs.Lines.{line_command};
 ghost use Rattle.workload.specs.MadeLines.{edit_line, mark_line};
 ghost use Rattle.workload.specs.declared.edit.Edit.TheVariants.{Insert, Delete};
-ghost use Rattle.made_requests.specs.PrivateRequests.{changing, positions, time_note};
+ghost use Rattle.made_requests.specs.PrivateRequests.{changing, positions, spec, time_note};
 
 use crate::inserted::{made_text, no_text};
 use change_set::Change;
@@ -34,32 +34,33 @@ fn time_note(alloc: Global, time: u32) -> Result<Annotation, AllocError>
     })
 }
 
-/// The one spec of a transaction that makes a change and tells the time. `Err`: out of memory.
-fn changing(alloc: Global, time: u32, change: Change) -> Result<Listed<SpecRequest>, AllocError>
-    ensures { IfOk result (λ specs. specs ≡ changing time change ∷ []) }
+/// A spec of these changes, effects and annotations alone, which filters apply to.
+#[inline(always)]
+fn spec(
+    changes: Listed<Change>,
+    effects: Listed<NamedEffect>,
+    annotations: Listed<Annotation>,
+) -> SpecRequest
+    ensures { result ≡ spec changes effects annotations }
+{
+    SpecRequest {
+        changes,
+        selection: None,
+        effects,
+        annotations,
+        user_event: None,
+        sequential: false,
+        filter: true,
+    }
+}
+
+/// The spec of a transaction that makes a change and tells the time. `Err`: out of memory.
+fn changing(alloc: Global, time: u32, change: Change) -> Result<SpecRequest, AllocError>
+    ensures { IfOk result (λ spec. spec ≡ changing time change) }
 {
     let changes = alone(alloc, change)?;
     let annotations = alone(alloc, time_note(alloc, time)?)?;
-    update(
-        alloc,
-        SpecRequest {
-            changes,
-            selection: None,
-            effects: Listed::empty(alloc),
-            annotations,
-            user_event: None,
-            sequential: false,
-            filter: true,
-        },
-    )
-}
-
-/// The specs of the update of one spec. `Err`: out of memory.
-#[inline(always)]
-fn update(alloc: Global, spec: SpecRequest) -> Result<Listed<SpecRequest>, AllocError>
-    ensures { IfOk result (λ specs. specs ≡ spec ∷ []) }
-{
-    alone(alloc, spec)
+    Ok(spec(changes, Listed::empty(alloc), annotations))
 }
 
 /// The value of the effect `mark` of two positions: the list of both. `Err`: out of memory.
@@ -75,36 +76,25 @@ fn positions(alloc: Global, from: u32, to: u32) -> Result<Plain, AllocError>
     }
 }
 
-/// The specs of the update that the line of a mark asks for. `Err`: out of memory.
-fn mark(alloc: Global, from: u32, to: u32) -> Result<Listed<SpecRequest>, AllocError>
-    ensures { IfOk result (λ specs. line_command request_named (mark_line from to) ≡ Ok (requests.Update specs)) }
+/// The spec of the update that the line of a mark asks for. `Err`: out of memory.
+fn mark(alloc: Global, from: u32, to: u32) -> Result<SpecRequest, AllocError>
+    ensures { IfOk result (λ spec. line_command request_named (mark_line from to) ≡ Ok (requests.Update (spec ∷ []))) }
 {
     let value = positions(alloc, from, to)?;
     let effect = Str::of(alloc, &['m', 'a', 'r', 'k'])?;
     let effects = alone(alloc, NamedEffect::Kind { effect, value })?;
-    update(
-        alloc,
-        SpecRequest {
-            changes: Listed::empty(alloc),
-            selection: None,
-            effects,
-            annotations: Listed::empty(alloc),
-            user_event: None,
-            sequential: false,
-            filter: true,
-        },
-    )
+    Ok(spec(Listed::empty(alloc), effects, Listed::empty(alloc)))
 }
 
-/// The specs of the update that an insertion's line asks for. `Err`: out of memory.
+/// The spec of the update that an insertion's line asks for. `Err`: out of memory.
 fn insertion(
     alloc: Global,
     time: u32,
     at: u32,
     size: u8,
     letter: u32,
-) -> Result<Listed<SpecRequest>, AllocError>
-    ensures { IfOk result (λ specs. line_command request_named (edit_line time (Insert at size letter)) ≡ Ok (requests.Update specs)) }
+) -> Result<SpecRequest, AllocError>
+    ensures { IfOk result (λ spec. line_command request_named (edit_line time (Insert at size letter)) ≡ Ok (requests.Update (spec ∷ []))) }
 {
     let insert = made_text(alloc, size, letter)?;
     changing(
@@ -118,18 +108,18 @@ fn insertion(
     )
 }
 
-/// The specs of the update that a deletion's line asks for. `Err`: out of memory.
-fn deletion(alloc: Global, time: u32, from: u32, to: u32) -> Result<Listed<SpecRequest>, AllocError>
-    ensures { IfOk result (λ specs. line_command request_named (edit_line time (Delete from to)) ≡ Ok (requests.Update specs)) }
+/// The spec of the update that a deletion's line asks for. `Err`: out of memory.
+fn deletion(alloc: Global, time: u32, from: u32, to: u32) -> Result<SpecRequest, AllocError>
+    ensures { IfOk result (λ spec. line_command request_named (edit_line time (Delete from to)) ≡ Ok (requests.Update (spec ∷ []))) }
 {
     let insert = no_text(alloc)?;
     changing(alloc, time, Change::Span { from, to, insert })
 }
 
-/// The specs of the update that the line of a transaction asks for that does this edit at a time in milliseconds: what reading
-/// the line gives. `Err`: out of memory.
-pub fn update_of(alloc: Global, time: u32, edit: Edit) -> Result<Listed<SpecRequest>, AllocError>
-    ensures { IfOk result (λ specs. line_command request_named (edit_line time edit) ≡ Ok (requests.Update specs)) }
+/// The only spec of the update that the line of a transaction asks for: what reading the line gives. The time, in milliseconds,
+/// stands in the spec of an insertion and of a deletion; a mark's has none. `Err`: out of memory.
+pub fn edit_spec(alloc: Global, time: u32, edit: Edit) -> Result<SpecRequest, AllocError>
+    ensures { IfOk result (λ spec. line_command request_named (edit_line time edit) ≡ Ok (requests.Update (spec ∷ []))) }
 {
     match edit {
         Edit::Insert { at, size, letter } => insertion(alloc, time, at, size, letter),

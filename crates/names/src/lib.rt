@@ -3,8 +3,8 @@
 //! The layer above may rely on this: names stand in one name space, in order of declaration, and `declare` makes of a registry
 //! and its names what its definition says, or gives the first refusal: an unknown name, a name that is taken, what a written
 //! value is refused as, and then what the registry refuses, with names in place of ids. After a refusal, or out of memory,
-//! both are as before. `specs_of` puts ids in place of the names of a transaction's specs, and `config_refusal` names in place
-//! of the ids of what makes no configuration.
+//! both are as before. `specs_of` puts ids in place of the names in a transaction's specs, and `specs_of_one` does so for a transaction
+//! of one spec. `config_refusal` puts names in place of the ids of what makes no configuration.
 #![tactic(auto)]
 
 mod declare_field;
@@ -30,6 +30,6 @@ pub use finding::{
 };
 pub use named::Named;
 pub use names::Names;
-pub use transacting::specs_of;
+pub use transacting::{specs_of, specs_of_one};
 pub use unconfigured::config_refusal;
 pub use valued::Valued;

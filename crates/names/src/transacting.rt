@@ -1,5 +1,5 @@
 // Specs of a transaction with ids in place of names.
-ghost use Rattle.std.specs.Prelude.{◌≡◌};
+ghost use Rattle.std.specs.Prelude.{◌≡◌, ◌∷◌, []};
 ghost use Rattle.script.specs.Reading.{Gives};
 ghost use Rattle.names.specs.Names.{each_of};
 ghost use Rattle.names.specs.Transacting.{effect_of, spec_of, specs_of, with_effects};
@@ -67,6 +67,7 @@ fn with_effects(request: SpecRequest, effects: Listed<Effect<Val>>) -> Spec<Val>
 }
 
 /// A spec with ids. `Err`: that of its first effect that is refused; or out of memory.
+#[inline(always)]
 fn spec_of(alloc: Global, names: &Names, request: SpecRequest) -> Result<Spec<Val>, LineError>
     ensures { Gives (λ x. x) result (spec_of names.now request) }
 {
@@ -88,5 +89,19 @@ pub fn specs_of(
     for request in requests.into_vec() {
         specs.push(spec_of(alloc, names, request)?)?;
     }
+    Ok(specs)
+}
+
+/// The same for one spec: what `specs_of` gives for a list of this spec alone. `Err`: `UnknownName` of the first name, in the order
+/// of its effects, that isn't declared or is of another sort; or out of memory.
+pub fn specs_of_one(
+    alloc: Global,
+    names: &Names,
+    request: SpecRequest,
+) -> Result<Vec<Spec<Val>>, LineError>
+    ensures { Gives (λ v. v.items) result (specs_of names.now (request ∷ [])) }
+{
+    let mut specs = Vec::with_capacity(alloc, 1)?;
+    specs.push(spec_of(alloc, names, request)?)?;
     Ok(specs)
 }

@@ -125,6 +125,7 @@ pub(crate) fn started_as<M: Meanings>(
 }
 
 /// The state after an update, or its refusal. The only other error is out of memory.
+#[inline(always)]
 pub(crate) fn updated_to<M: Meanings>(
     session: &Session<M>,
     state: Result<State<M>, StateError>,

@@ -1,4 +1,4 @@
-ghost use Rattle.std.specs.Prelude.{◌≡◌, ◌≢◌, ◌≤◌, ◌<◌, ℕ, List, Err, Option, Result, length, true, IfOk, IfSome, Ok, OnErr, Some, string_bytes};
+ghost use Rattle.std.specs.Prelude.{◌≡◌, ◌≢◌, ◌≤◌, ◌<◌, ◌∷◌, [], ℕ, List, Err, Option, Result, length, true, IfOk, IfSome, Ok, OnErr, Some, string_bytes};
 ghost use Rattle.cm_outside.specs.Answering.{Answered};
 ghost use Rattle.cm_outside.specs.Faults.{Rose};
 ghost use Rattle.cm_outside.specs.Files.{Files, found_bytes};
@@ -26,12 +26,12 @@ use crate::filing::{opened, saved};
 use crate::keys::Keys;
 use crate::outcome::{Next, Outcome};
 use crate::outcomes::outcome_of;
-use crate::update::update;
+use crate::update::{update, update_one_spec};
 use cm_outside::{Store, StoreFault};
 use cm_plain::Str;
 use line_run::Answers;
 use listed::Listed;
-use made_requests::update_of;
+use made_requests::edit_spec;
 use made_run::AnswersMade;
 use names::{Names, Nodes, all_found, declare};
 use registry::Registry;
@@ -192,9 +192,9 @@ impl<M: Meanings> Session<M> {
         ensures answered { (files : Option Files) → IfSome (desk_of (plain_session self.old) files) (λ d. Answered (machine M.rules) (edit_line time edit) d (desk_of (plain_session self.new) files) result) }
         ensures unfailed { result ≢ Err StoreFault.Failed }
     {
-        match update_of(self.alloc, time, edit) {
+        match edit_spec(self.alloc, time, edit) {
             Err(_) => Err(StoreFault::NoMemory),
-            Ok(specs) => told(self.updated(kit, specs)),
+            Ok(spec) => told(self.updated_one_spec(kit, spec)),
         }
     }
 
@@ -301,6 +301,15 @@ impl<M: Meanings> Session<M> {
         ensures { DoneWith (update M.rules (plain_session self.old) specs) self.old self.new result }
     {
         let outcome = update(self, kit, specs);
+        self.settle(outcome)
+    }
+
+    /// The command `update` with one spec.
+    fn updated_one_spec(&mut self, kit: &Kit<M>, spec: SpecRequest) -> Result<String, AllocError>
+        requires whole { IsWhole M.rules kit.now }
+        ensures { DoneWith (update M.rules (plain_session self.old) (spec ∷ [])) self.old self.new result }
+    {
+        let outcome = update_one_spec(self, kit, spec);
         self.settle(outcome)
     }
 

@@ -1,4 +1,4 @@
-use Rattle.std.proofs.Common.{refl}
+use Rattle.std.proofs.Common.{◌∷◌, [], refl}
 use Rattle.requests.specs.declared.request.Request.TheVariants.{Update}
 use Rattle.session.specs.State.{plain_session}
 use Rattle.session.proofs.Carrying.{carried_alone, carried_answered, never_failed, nothing_answered}
@@ -11,8 +11,8 @@ returns-in-Err-clause-answered g c = λ files.
 
 pub returns-in-Ok-clause-answered : goal.returns-in-Ok-clause-answered
 returns-in-Ok-clause-answered g c = λ files.
-    carried_answered g.M.Meanings.rules (edit_line c.args.time c.args.edit) (Update c.in-Ok.specs) c.args.self.now c.updated.new.self files files c.told.result c.in-Ok.ensures
-    (carried_alone g.M.Meanings.rules (Update c.in-Ok.specs) c.args.self.now c.updated.new.self files c.updated.result c.told.result refl (λ files. c.updated.ensures) c.told.ensures)
+    carried_answered g.M.Meanings.rules (edit_line c.args.time c.args.edit) (Update (c.in-Ok.spec ∷ [])) c.args.self.now c.updated_one_spec.new.self files files c.told.result c.in-Ok.ensures
+    (carried_alone g.M.Meanings.rules (Update (c.in-Ok.spec ∷ [])) c.args.self.now c.updated_one_spec.new.self files c.updated_one_spec.result c.told.result refl (λ files. c.updated_one_spec.ensures) c.told.ensures)
 
 pub returns-in-Ok-clause-unfailed : goal.returns-in-Ok-clause-unfailed
-returns-in-Ok-clause-unfailed g c = never_failed c.updated.result c.told.result c.told.ensures
+returns-in-Ok-clause-unfailed g c = never_failed c.updated_one_spec.result c.told.result c.told.ensures
