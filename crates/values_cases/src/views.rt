@@ -60,19 +60,20 @@ fn known_reads(reads: &[Option<SharedVal>])
 }
 
 /// Several facets and fields alone.
-fn several(alloc: Global, values: &[Option<Made<'_>>]) -> Result<Deps, Fail> {
-    let reads = reads(alloc, values)?;
+fn several(alloc: Global, reads: Vec<Option<SharedVal>>) -> Result<Deps, Fail> {
     known_reads(reads.as_slice());
     Ok(Deps::new(alloc, None, None, reads)?)
 }
 
 /// Facets and fields alone.
 fn bare(alloc: Global, values: &[Option<Made<'_>>]) -> Result<Deps, Fail> {
-    match values {
-        [] => Ok(Deps::none()),
-        [None] => Ok(Deps::of_value(None)),
-        [Some(value)] => Ok(Deps::of_value(Some(shared_of(alloc, *value)?))),
-        _ => several(alloc, values),
+    let mut reads = reads(alloc, values)?;
+    if reads.len() > 1 {
+        return several(alloc, reads);
+    }
+    match reads.pop() {
+        Some(value) => Ok(Deps::of_value(value)),
+        None => Ok(Deps::none()),
     }
 }
 
