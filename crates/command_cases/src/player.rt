@@ -186,13 +186,6 @@ fn truth(value: Option<&Plain>) -> Option<bool> {
     }
 }
 
-fn event_of(spec: &Spec<Val>) -> Result<Option<Str>, AllocError> {
-    match &spec.user_event {
-        Some(event) => Ok(Some(event.try_copy()?)),
-        None => Ok(None),
-    }
-}
-
 fn given(alloc: Global, spec: &Spec<Val>) -> Result<Option<Selection>, Fail> {
     match &spec.selection {
         Some(given) => Ok(Some(Selection::create(alloc, given.ranges.as_slice(), given.main)?)),
@@ -200,43 +193,27 @@ fn given(alloc: Global, spec: &Spec<Val>) -> Result<Option<Selection>, Fail> {
     }
 }
 
-/// A step of a history that a spec's changes make, without what the spec gives.
-fn changed(
-    alloc: Global,
-    player: &Player,
-    spec: &Spec<Val>,
-    changes: &ChangeSet,
-) -> Result<StepInput, AllocError> {
-    let changes = changes.try_copy()?;
-    let document = player.document.try_copy()?;
-    let selection = player.selection.try_copy()?;
-    Ok(StepInput {
+/// The step of a history that a spec's changes make, with the selection that it gives, if it gives one.
+fn step_input<'a>(
+    player: &'a Player,
+    spec: &'a Spec<Val>,
+    changes: &'a ChangeSet,
+    given: Option<&'a Selection>,
+) -> StepInput<'a> {
+    StepInput {
         changes,
-        effects: Listed::empty(alloc),
-        document,
-        selection,
-        given: None,
+        effects: &[],
+        document: &player.document,
+        selection: &player.selection,
+        given,
         min_depth: 100,
         delay: 500,
         time: number(note(spec, "time")),
-        user_event: None,
+        user_event: spec.user_event.as_ref(),
         add_to_history: truth(note(spec, "addToHistory")),
         isolate: None,
         from_history: number(note(spec, "fromHistory")),
-    })
-}
-
-/// The step of a history that a spec's changes and selection make.
-fn step_input(
-    alloc: Global,
-    player: &Player,
-    spec: &Spec<Val>,
-    changes: &ChangeSet,
-) -> Result<StepInput, Fail> {
-    let mut input = changed(alloc, player, spec, changes)?;
-    input.given = given(alloc, spec)?;
-    input.user_event = event_of(spec)?;
-    Ok(input)
+    }
 }
 
 /// The selection after a spec.
@@ -275,7 +252,8 @@ fn stepped(
     spec: &Spec<Val>,
     changes: &ChangeSet,
 ) -> Result<History, Fail> {
-    let input = step_input(alloc, player, spec, changes)?;
+    let given = given(alloc, spec)?;
+    let input = step_input(player, spec, changes, given.as_ref());
     history_after(&player.history, &input)
 }
 

@@ -6,12 +6,12 @@ use Rattle.change_desc.proofs.Merges.{old_size-lengths}
 use Rattle.history.specs.declared.item.ChangeItem.{ChangeItem}
 use Rattle.history.specs.declared.item.Item.{Item}
 use Rattle.history.specs.declared.item.Item.TheVariants.{Change, Select}
-use Rattle.history.specs.declared.step_input.StepInput.{StepInput}
+use Rattle.history.specs.Inputs.{StepView}
 use Rattle.history.specs.Histories.{LeadOn}
 use Rattle.history.specs.Joining.{first_change}
 use Rattle.history.specs.Steps.{IsStep}
 
-pub over-leads : (i : StepInput) → IsStep i → (over : List (Section ℕ)) → over ≡ lengths spelled i.changes → (items all : List Item) → items ≡ all →
+pub over-leads : (i : StepView) → IsStep i → (over : List (Section ℕ)) → over ≡ lengths spelled i.changes → (items all : List Item) → items ≡ all →
     LeadOn (length i.document.characters) all → LeadOn (old_size over) items
 over-leads i s over o items all e l =
     subst (λ n. LeadOn n items) (sym (ap old_size o ∙ (old_size-lengths spelled i.changes ∙ s.starts))) (subst (LeadOn (length i.document.characters)) (sym e) l)

@@ -13,7 +13,7 @@ use Rattle.history.specs.declared.item.Item.TheVariants.{Change, Select}
 use Rattle.history.specs.declared.group.Group.{Group}
 use Rattle.history.specs.declared.group.Group.TheVariants.{Closed}
 use Rattle.history.specs.declared.lists.Lists.{Lists}
-use Rattle.history.specs.declared.step_input.StepInput.{StepInput}
+use Rattle.history.specs.Inputs.{StepView}
 use Rattle.history.specs.Histories.{IsHistory, LeadOn, empty, leads, leads_from}
 use Rattle.history.specs.Items.{begins_with_change, begins_with_select, keep_changes, keep_selects, most_selects}
 use Rattle.history.specs.Joining.{joins}
@@ -106,7 +106,7 @@ unchanged-case false false false false true f h = refl
 unchanged-case false false false false false true h = cc
 unchanged-case false false false false false false h = cc
 
-module _ (i : StepInput) (s : IsStep i) (h : Lists) (k : Leads (length i.document.characters) h) where
+module _ (i : StepView) (s : IsStep i) (h : Lists) (k : Leads (length i.document.characters) h) where
   same-len : changes_nothing i.changes ≡ true → length i.document.characters ≡ new_size spelled i.changes
   same-len e = sym (nothing-sizes i.changes e ∙ s.starts)
 
@@ -171,14 +171,14 @@ pub empty-kept : IsHistory empty
 empty-kept = record { done = (0, tt); undone = (0, tt); group = λ e. refl }
 
 -- a history that doesn't lead from the start document counts as empty
-pub step-led : (i : StepInput) (h : Lists) (b : Bool) → b ≡ leads_from (length i.document.characters) h →
+pub step-led : (i : StepView) (h : Lists) (b : Bool) → b ≡ leads_from (length i.document.characters) h →
     step h i ≡ cut_to i.min_depth (in_case (case_of (cond b h empty) i) (cond b h empty) i)
 step-led i h b e = rw e refl
 
-pub start-leads-from : (i : StepInput) (h : Lists) → IsHistory h → (b : Bool) → b ≡ leads_from (length i.document.characters) h → Leads (length i.document.characters) (cond b h empty)
+pub start-leads-from : (i : StepView) (h : Lists) → IsHistory h → (b : Bool) → b ≡ leads_from (length i.document.characters) h → Leads (length i.document.characters) (cond b h empty)
 start-leads-from i h k true e = led_from (length i.document.characters) h k (sym e)
 start-leads-from i h k false e = empty-leads (length i.document.characters)
 
-pub step-leads : (i : StepInput) → IsStep i → (h : Lists) → IsHistory h → (b : Bool) → b ≡ leads_from (length i.document.characters) h → (n : Lists) →
+pub step-leads : (i : StepView) → IsStep i → (h : Lists) → IsHistory h → (b : Bool) → b ≡ leads_from (length i.document.characters) h → (n : Lists) →
     n ≡ cut_to i.min_depth (in_case (case_of (cond b h empty) i) (cond b h empty) i) → leads_from (new_size spelled i.changes) n ≡ true
 step-leads i s h k b e n f = subst (λ m. leads_from (new_size spelled i.changes) m ≡ true) (sym f) (next-leads i s (cond b h empty) (start-leads-from i h k b e))

@@ -14,7 +14,7 @@ use Rattle.selection.specs.Ranges.{high}
 use Rattle.selection.specs.Selections.{LieIn, first_outside}
 use Rattle.history.specs.declared.item.Item.{Item}
 use Rattle.history.specs.declared.item.Item.TheVariants.{Change, Select}
-use Rattle.history.specs.declared.step_input.StepInput.{StepInput}
+use Rattle.history.specs.Inputs.{StepView}
 use Rattle.history.specs.Histories.{AreItems, LeadOn, leads}
 use Rattle.history.specs.Items.{begins_with_select, keep_changes, keep_selects, most_selects, older}
 use Rattle.history.specs.Selecting.{with_left, select_joins, select_at, left_select}
@@ -82,7 +82,7 @@ rest-leads len [] h k = cc
 rest-leads len (Change c ∷ items) h k = cc
 rest-leads len (Select s ∷ items) h k = h.1
 
-module _ (i : StepInput) (s : IsStep i) where
+module _ (i : StepView) (s : IsStep i) where
   pub way_back-leads : (items : List Item) → LeadOn (length i.document.characters) items → LeadOn (new_size spelled i.changes) (Change (way_back i) ∷ items)
   way_back-leads items h =
       let e : new_size spelled (invert i.changes i.document.characters) ≡ length i.document.characters = invert-new i.changes i.document.characters s.starts in (

@@ -13,7 +13,7 @@ use Rattle.history.specs.declared.item.ChangeItem.{ChangeItem}
 use Rattle.history.specs.declared.item.Item.{Item}
 use Rattle.history.specs.declared.item.Item.TheVariants.{Change, Select}
 use Rattle.history.specs.declared.lists.Lists.{Lists}
-use Rattle.history.specs.declared.step_input.StepInput.{StepInput}
+use Rattle.history.specs.Inputs.{StepView}
 use Rattle.history.specs.Histories.{empty, leads, leads_from}
 use Rattle.history.specs.Items.{keep_changes, keep_selects, most_selects, newest_change}
 use Rattle.history.specs.Joining.{closes_before, is_joinable, is_near, is_soon, joins}
@@ -43,7 +43,7 @@ given-cut (pos (suc n)) items text h =
     given-selects (keep_changes (suc n) items) text ∙ ap (λ o. option_map (λ (c : ChangeItem). apply c.changes text) o) (newest-changes n items)
 given-cut (negsuc n) items text h = absurd (omega (arith, ints))
 
-module _ (i : StepInput) (s : IsStep i) where
+module _ (i : StepView) (s : IsStep i) where
   way_back-gives : (items : List Item) → given_by (Change (way_back i) ∷ items) (new_text i) ≡ Some (old_text i)
   way_back-gives items = ap Some (invert-apply i.changes i.document.characters s.starts)
 
@@ -98,6 +98,6 @@ module _ (i : StepInput) (s : IsStep i) where
   pub restores : (h : Lists) → Restores (start_of h i) i (step h i)
   restores h = restores-from (start_of h i) (start-leads h)
 
-pub next-restores : (i : StepInput) → IsStep i → (h : Lists) → (b : Bool) → b ≡ leads_from (length i.document.characters) h → (n : Lists) →
+pub next-restores : (i : StepView) → IsStep i → (h : Lists) → (b : Bool) → b ≡ leads_from (length i.document.characters) h → (n : Lists) →
     n ≡ cut_to i.min_depth (in_case (case_of (cond b h empty) i) (cond b h empty) i) → Restores (start_of h i) i n
 next-restores i s h b e n f = subst (Restores (start_of h i) i) (sym (f ∙ sym (step-led i h b e))) (restores i s h)

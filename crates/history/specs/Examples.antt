@@ -6,7 +6,7 @@ use Rattle.change_desc.specs.Of.{span}
 use Rattle.selection.specs.Selections.{SelectionView}
 use Rattle.history.specs.declared.isolation.Isolation.{Isolation}
 use Rattle.history.specs.declared.isolation.Isolation.TheVariants.{Before, After, Full}
-use Rattle.history.specs.declared.step_input.StepInput.{StepInput}
+use Rattle.history.specs.Inputs.{StepView}
 use Rattle.history.specs.declared.item.Item.TheVariants.{Select}
 use Rattle.history.specs.declared.group.Group.TheVariants.{Closed}
 use Rattle.history.specs.declared.lists.Lists.{Lists}
@@ -26,7 +26,7 @@ abbrev pub start : SelectionView
 start = record { ranges = record { anchor = 0; head = 0 } ∷ []; main = 0 }
 
 -- a change at a time, with all else as by default
-abbrev pub change : Sections → (document : List ℕ) → (time : ℤ) → StepInput
+abbrev pub change : Sections → (document : List ℕ) → (time : ℤ) → StepView
 change changes document time = record {
   changes = changes;
   effects = [];
@@ -47,14 +47,14 @@ abbrev pub insert : (at : ℕ) → (text document : List ℕ) → Sections
 insert at text document = span spelled (length document) at at text
 
 -- 'a' and then 'b' after it, 100 milliseconds later
-abbrev pub first : StepInput
+abbrev pub first : StepView
 first = change (insert 0 (97 ∷ []) []) [] (pos 0)
 
-abbrev pub second : StepInput
+abbrev pub second : StepView
 second = change (insert 1 (98 ∷ []) (97 ∷ [])) (97 ∷ []) (pos 100)
 
 -- a selection and no change between
-abbrev pub selecting : StepInput
+abbrev pub selecting : StepView
 selecting = record (change (insert 0 [] (97 ∷ [])) (97 ∷ []) (pos 50)) { given = Some start }
 
 abbrev pub depth : Lists → ℕ × ℕ
@@ -67,7 +67,7 @@ pub parted : depth (step (step (step empty first) selecting) second) ≡ (2, 0)
 parted = refl
 
 -- 'a' deleted again
-abbrev pub deleting : StepInput
+abbrev pub deleting : StepView
 deleting = record (change (span spelled 1 0 1 []) (97 ∷ []) (pos 100)) { user_event = Some deletion }
 
 -- a deletion that isn't recorded leaves nothing of the insertion
@@ -85,14 +85,14 @@ deleted_from_elsewhere = refl
 pub deleted : depth (step (step empty first) deleting) ≡ (1, 0)
 deleted = refl
 
-abbrev pub undoing : StepInput
+abbrev pub undoing : StepView
 undoing = record (change (insert 0 [] []) [] (pos 200)) { from_history = Some (pos 0) }
 
 pub undone : depth (step (step (step empty first) deleting) undoing) ≡ (0, 1)
 undone = refl
 
 -- isolation before or on both sides, a long time, another event, a time that is missing and no delay part the two
-abbrev pub isolated : Isolation → StepInput
+abbrev pub isolated : Isolation → StepView
 isolated isolate = record second { isolate = Some isolate }
 
 pub isolated_before : depth (step (step empty first) (isolated Before)) ≡ (2, 0)
@@ -127,7 +127,7 @@ shallow = refl
 abbrev pub cursor : ℕ → SelectionView
 cursor n = record { ranges = record { anchor = n; head = n } ∷ []; main = 0 }
 
-abbrev pub elsewhere : StepInput
+abbrev pub elsewhere : StepView
 elsewhere = record selecting { given = Some (cursor 1) }
 
 pub left : (step (step empty first) elsewhere).done ≡ Select (record { selection = start; time = Some (pos 50); user_event = None }) ∷ (step empty first).done
@@ -137,7 +137,7 @@ pub goes_back : option_map (λ (r : Restore). r.selection) (restored_item (pos 0
 goes_back = refl
 
 -- going back moves it to what can be done again, with the selection that is left then
-abbrev pub going_back : StepInput
+abbrev pub going_back : StepView
 going_back = record elsewhere { selection = cursor 1; given = Some start; from_history = Some (pos 2) }
 
 pub gone_back : step (step (step empty first) elsewhere) going_back ≡

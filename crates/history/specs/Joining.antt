@@ -13,7 +13,7 @@ use Rattle.history.specs.declared.group.Group.{Group}
 use Rattle.history.specs.declared.group.Group.TheVariants.{Open}
 use Rattle.history.specs.declared.isolation.Isolation.{Isolation}
 use Rattle.history.specs.declared.isolation.Isolation.TheVariants.{Before, After, Full}
-use Rattle.history.specs.declared.step_input.StepInput.{StepInput}
+use Rattle.history.specs.Inputs.{StepView}
 
 abbrev pub input_type : List ℕ
 input_type = codes "input.type"
@@ -53,10 +53,10 @@ first_change items = None
 
 -- Near: the newest item is a Change, and some range that the step replaces and some range that it replaces overlap or touch.
 -- Both start in one document.
-abbrev pub is_near : StepInput → List Item → Bool
+abbrev pub is_near : StepView → List Item → Bool
 is_near i items =
     option_map_or (λ (c : ChangeItem). some_meet (replaced (lengths spelled i.changes)) (replaced (lengths spelled c.changes))) (first_change items) false
 
 -- Joins: the step is soon, its user event lets it, no isolation stands before it, and it is near the newest Change.
-abbrev pub joins : Lists → StepInput → Bool
+abbrev pub joins : Lists → StepView → Bool
 joins h i = is_soon h.group i.time i.delay && is_joinable i.user_event && not (closes_before i.isolate) && is_near i h.done

@@ -11,6 +11,7 @@ pub use Rattle.change_set.specs.Same
 pub use Rattle.selection.specs.Selections
 pub use Rattle.cm_plain.specs.UserEvents
 pub use Rattle.kept_effects.specs.MappedValues
+pub mod Inputs
 pub mod Items
 pub mod Histories
 pub mod Joining

@@ -8,7 +8,7 @@ use Rattle.selection.specs.Selections.{SelectionView}
 use Rattle.history.specs.declared.item.SelectItem.{SelectItem}
 use Rattle.history.specs.declared.item.Item.{Item}
 use Rattle.history.specs.declared.item.Item.TheVariants.{Select}
-use Rattle.history.specs.declared.step_input.StepInput.{StepInput}
+use Rattle.history.specs.Inputs.{StepView}
 use Rattle.history.specs.Joining.{is_within}
 
 abbrev pub is_false : Option Bool → Bool
@@ -22,15 +22,15 @@ abbrev pub same_selection : SelectionView → SelectionView → Bool
 same_selection a b = eqb a.main b.main && pointwise same_range a.ranges b.ranges
 
 -- the step gives a selection that differs from the start one
-abbrev pub goes_elsewhere : StepInput → Bool
+abbrev pub goes_elsewhere : StepView → Bool
 goes_elsewhere i = option_map_or (λ s. not (same_selection i.selection s)) i.given false
 
 -- Makes a Select: such a selection, where the step is to be recorded and doesn't come from the history.
-abbrev pub makes_select : StepInput → Bool
+abbrev pub makes_select : StepView → Bool
 makes_select i = goes_elsewhere i && not (is_false i.add_to_history) && is_none i.from_history
 
 -- the selection that is left, with the step's time and user event
-abbrev pub left_select : StepInput → SelectItem
+abbrev pub left_select : StepView → SelectItem
 left_select i = record { selection = i.selection; time = i.time; user_event = i.user_event }
 
 abbrev pub select_event : List ℕ
@@ -47,7 +47,7 @@ are_close (Some a) (Some b) delay = is_within b a delay && is_within a b delay
 are_close _ _ delay = false
 
 -- Joins: both events are selecting, both times are close, and both selections have as many ranges.
-abbrev pub select_joins : SelectItem → StepInput → Bool
+abbrev pub select_joins : SelectItem → StepView → Bool
 select_joins s i =
     are_selecting s.user_event i.user_event && are_close s.time i.time i.delay && eqb (length s.selection.ranges) (length i.selection.ranges)
 
@@ -61,7 +61,7 @@ abbrev pub select_at : Option ℤ → SelectItem → SelectItem
 select_at time s = record { selection = s.selection; time = time; user_event = s.user_event }
 
 -- With the selection that is left: the newest Select takes the new time where it joins it, else it stands before all.
-abbrev pub with_left : StepInput → List Item → List Item
+abbrev pub with_left : StepView → List Item → List Item
 with_left i items =
     option_map_or (λ (s : SelectItem). cond (select_joins s i) (Select (select_at i.time s) ∷ drop 1 items) (Select (left_select i) ∷ items))
     (first_select items) (Select (left_select i) ∷ items)

@@ -18,7 +18,7 @@ use Rattle.history.specs.declared.item.Item.{Item}
 use Rattle.history.specs.declared.item.Item.TheVariants.{Change, Select}
 use Rattle.history.specs.declared.group.Group.TheVariants.{Closed, Open}
 use Rattle.history.specs.declared.lists.Lists.{Lists}
-use Rattle.history.specs.declared.step_input.StepInput.{StepInput}
+use Rattle.history.specs.Inputs.{StepView}
 use Rattle.history.specs.Histories.{empty, leads_from}
 use Rattle.history.specs.Items.{begins_with_change, begins_with_select, keep_changes, keep_selects, most_selects, newest_change, older}
 use Rattle.history.specs.Joining.{closes_after, first_change, joins}
@@ -26,7 +26,7 @@ use Rattle.history.specs.Moving.{items_over, newest_stays}
 use Rattle.history.specs.Selecting.{is_false, makes_select, with_left}
 
 -- the step starts in this document and leads to a document that isn't too long, and the selection lies in the former
-pub record IsStep (i : StepInput) : Type 0 where
+pub record IsStep (i : StepView) : Type 0 where
   pub starts : old_size i.changes ≡ length i.document.characters
   pub short : length i.document.characters ≤ max_len
   pub new_short : new_size spelled i.changes ≤ max_len
@@ -34,11 +34,11 @@ pub record IsStep (i : StepInput) : Type 0 where
 
 -- Way back: the Change that leads from the new document to the start document, with the effects that undo those of the step and
 -- the selection there.
-abbrev pub way_back : StepInput → ChangeItem
+abbrev pub way_back : StepView → ChangeItem
 way_back i = record { changes = invert i.changes i.document.characters; effects = i.effects; selection = i.selection }
 
 -- the start selection by itself
-abbrev pub start_select : StepInput → SelectItem
+abbrev pub start_select : StepView → SelectItem
 start_select i = record { selection = i.selection; time = None; user_event = None }
 
 -- the step says that it comes from the history, by this number
@@ -51,21 +51,21 @@ abbrev pub is_newest : List (Section (List ℕ)) → List Item → Bool
 is_newest changes items = option_map_or (λ (c : ChangeItem). same_sections changes c.changes) (newest_change items) false
 
 -- the step changes nothing, and its effects need not be undone
-abbrev pub is_idle_step : StepInput → Bool
+abbrev pub is_idle_step : StepView → Bool
 is_idle_step i = changes_nothing i.changes && length i.effects == 0
 
 -- the step goes over the newest item of a list, where that is a Select
-abbrev pub goes_over : ℤ → StepInput → (is_select : Bool) → Bool
+abbrev pub goes_over : ℤ → StepView → (is_select : Bool) → Bool
 goes_over number i is_select = is_from number i.from_history && changes_nothing i.changes && is_select
 
 -- the case of a step that doesn't go over an item: it changes nothing and needs no effect undone; it says that it comes from
 -- anywhere, or that it is not to be recorded; any other
-abbrev pub own_case : StepInput → Case
+abbrev pub own_case : StepView → Case
 own_case i = cond (is_idle_step i) Unchanged (cond (is_some i.from_history || is_false i.add_to_history) Unrecorded Recorded)
 
 -- Case: the first that holds. The step says that it comes from what is done (0) or undone (1) and has exactly the newest Change's
 -- changes; it says so (2, 3), changes nothing, and the newest item is a Select; its own case.
-abbrev pub case_of : Lists → StepInput → Case
+abbrev pub case_of : Lists → StepView → Case
 case_of h i =
     cond (is_from (pos 0) i.from_history && is_newest i.changes h.done) Undo
     (cond (is_from (pos 1) i.from_history && is_newest i.changes h.undone) Redo
@@ -74,7 +74,7 @@ case_of h i =
     (own_case i))))
 
 -- Unchanged: a given selection closes the group, and the one that is left may be kept.
-abbrev pub unchanged : Lists → StepInput → Lists
+abbrev pub unchanged : Lists → StepView → Lists
 unchanged h i =
     record {
       done = cond (makes_select i) (with_left i h.done) h.done;
@@ -83,7 +83,7 @@ unchanged h i =
     }
 
 -- Unrecorded: all items are moved, and the group stays as open as it was if it stays.
-abbrev pub unrecorded : Lists → StepInput → Lists
+abbrev pub unrecorded : Lists → StepView → Lists
 unrecorded h i =
     let over = lengths spelled i.changes in
     record { done = items_over over h.done; undone = items_over over h.undone; group = cond (newest_stays over h.done) h.group Closed }
@@ -98,7 +98,7 @@ abbrev pub joined_to : ChangeItem → List Item → List Item
 joined_to w items = option_map_or (λ (c : ChangeItem). Change (joined_change w c) ∷ drop 1 items) (first_change items) (Change w ∷ items)
 
 -- Recorded: the way back joins the group or is a new one, and nothing is left that was undone.
-abbrev pub recorded : Lists → StepInput → Lists
+abbrev pub recorded : Lists → StepView → Lists
 recorded h i =
     record {
       done = cond (joins h i) (joined_to (way_back i) h.done) (Change (way_back i) ∷ h.done);
@@ -107,7 +107,7 @@ recorded h i =
     }
 
 -- What each case makes of a history that leads from the start document.
-abbrev pub in_case : Case → Lists → StepInput → Lists
+abbrev pub in_case : Case → Lists → StepView → Lists
 in_case Undo h i = record { done = older h.done; undone = Change (way_back i) ∷ h.undone; group = Closed }
 in_case Redo h i = record { done = Change (way_back i) ∷ h.done; undone = older h.undone; group = Closed }
 in_case UndoSelection h i = record { done = drop 1 h.done; undone = Select (start_select i) ∷ h.undone; group = Closed }
@@ -128,9 +128,9 @@ cut_to depth h =
     record { done = done; undone = keep_selects most_selects h.undone; group = cond (begins_with_change done) h.group Closed }
 
 -- Start: a history that doesn't lead from the start document counts as empty.
-abbrev pub start_of : Lists → StepInput → Lists
+abbrev pub start_of : Lists → StepView → Lists
 start_of h i = cond (leads_from (length i.document.characters) h) h empty
 
 -- Step: what the case makes of the history, cut.
-abbrev pub step : Lists → StepInput → Lists
+abbrev pub step : Lists → StepView → Lists
 step h i = let start = start_of h i in cut_to i.min_depth (in_case (case_of start i) start i)

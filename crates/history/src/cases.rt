@@ -195,7 +195,7 @@ fn joined_change(
     requires meets { length input.now.document.characters ≡ old_size change.now.changes }
     ensures { IfOk result (λ joined. joined ≡ joined_change (way_back input.now) change.now) }
 {
-    let back = input.changes.invert(&input.document)?;
+    let back = input.changes.invert(input.document)?;
     Ok(ChangeItem {
         changes: back.compose(&change.changes)?,
         effects: joined_effects(alloc, input, change)?,
@@ -212,7 +212,7 @@ fn joined_effects(
     ensures { IfOk result (λ effects. effects ≡ moved_effects (lengths spelled change.now.changes) input.now.effects ++ change.now.effects) }
 {
     let over = change.changes.desc()?;
-    let mut effects = moved_effects(alloc, input.effects.as_slice(), &over)?.into_vec();
+    let mut effects = moved_effects(alloc, input.effects, &over)?.into_vec();
     let mut others = copied(alloc, change.effects.as_slice())?.into_vec();
     effects.append(&mut others)?;
     Ok(Listed::new(effects))
@@ -245,7 +245,7 @@ fn select_at(select: &SelectItem, time: Option<i64>) -> Result<SelectItem, Alloc
     Ok(SelectItem {
         selection: select.selection.try_copy()?,
         time,
-        user_event: copied_event(&select.user_event)?,
+        user_event: copied_event(select.user_event.as_ref())?,
     })
 }
 

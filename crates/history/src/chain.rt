@@ -1,5 +1,6 @@
-ghost use Rattle.std.specs.Prelude.{IfOk, IfSome, MatchOption, [], length, ◌∷◌, ◌≡◌, ◌≤◌};
+ghost use Rattle.std.specs.Prelude.{IfOk, IfSome, MatchOption, [], drop, length, ◌∷◌, ◌≡◌, ◌≤◌};
 ghost use Rattle.history.specs.PrivateCounts.{counted_with, rows_fit};
+ghost use Rattle.history.specs.PrivateLinks.{items_of};
 
 use crate::item::Item;
 use crate::shared_item::SharedItem;
@@ -115,7 +116,36 @@ impl Drop for Chain {
     }
 }
 
+impl Link {
+    /// The same link once more, without a copy of its items. `Err`: no further owner can be counted.
+    fn share(&self) -> Result<Link, AllocError>
+        ensures { IfOk result (λ same. items_of same ≡ items_of self.now) }
+    {
+        match self {
+            Link::End => Ok(Link::End),
+            Link::More(node) => Ok(Link::More(node.clone()?)),
+        }
+    }
+
+    /// The link to the items older than its newest. `Err`: no further owner can be counted.
+    pub(crate) fn without_first(&self) -> Result<Link, AllocError>
+        ensures { IfOk result (λ older. items_of older ≡ drop 1 (items_of self.now)) }
+    {
+        match self {
+            Link::End => Ok(Link::End),
+            Link::More(node) => node.older.link(),
+        }
+    }
+}
+
 impl Chain {
+    /// The link to these items. `Err`: no further owner can be counted.
+    pub(crate) fn link(&self) -> Result<Link, AllocError>
+        ensures { IfOk result (λ link. items_of link ≡ self.now) }
+    {
+        self.newest.share()
+    }
+
     /// The chain without items.
     pub(crate) fn empty() -> Chain
         ensures { result ≡ [] }

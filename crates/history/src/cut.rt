@@ -68,9 +68,20 @@ fn room_after(room: usize, is_change: bool) -> (usize, bool)
     }
 }
 
-/// Of each row of Selects the newest. From the first row on after which none is longer than it may be, the list is shared.
+/// Of each row of Selects the newest. A list whose rows all fit stays as it is.
 #[inline(always)]
-pub(crate) fn keep_selects(alloc: Global, items: &Items) -> Result<Items, AllocError>
+pub(crate) fn keep_selects(alloc: Global, items: Items) -> Result<Items, AllocError>
+    ensures { IfOk result (λ kept. kept ≡ keep_selects most_selects items) }
+{
+    if items.rows_fit() {
+        return Ok(items);
+    }
+    cut_rows(alloc, &items)
+}
+
+/// Of each row of Selects the newest. From the first row on after which none is longer than it may be, the list is shared; where
+/// there is no such row, all links are made anew.
+fn cut_rows(alloc: Global, items: &Items) -> Result<Items, AllocError>
     ensures { IfOk result (λ kept. kept ≡ keep_selects most_selects items.now) }
 {
     let mut kept = Vec::new(alloc);

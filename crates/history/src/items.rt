@@ -2,7 +2,7 @@ ghost use Rattle.std.specs.Prelude.{IfOk, IsTrue, MatchOption, [], length, take,
 ghost use Rattle.history.specs.Items.{change_count};
 ghost use Rattle.history.specs.PrivateCounts.{rows_fit};
 
-use crate::chain::Chain;
+use crate::chain::{Chain, Link};
 use crate::shared_item::SharedItem;
 use std::alloc::{AllocError, Global};
 use std::marker::Model;
@@ -12,13 +12,18 @@ const MOST_CUT: usize = 4;
 
 /// Items, newest first: the newest of a chain, which other lists share. The oldest items of the chain may be cut off: a cut makes
 /// no link, since it leaves the chain as it is, and what is cut off stays in memory until `compact` makes the list a chain of its
-/// own. Contracts see the list of the items.
+/// own. Then it is kept beside the new chain, and each time that the list is shared, the newest of it is left out: so the steps
+/// after a cut free it item by item. What is left when the list next gets a chain of its own goes at once. Contracts see the list of
+/// the items.
 #[derive(Drop)]
 pub struct Items {
     chain: Chain,
     /// How many items of the chain are not cut off, and how many of them are Changes.
     len: usize,
     changes: usize,
+    /// What is left of the items that were cut off when the list got its chain: of what was undone there is none, since that isn't
+    /// cut. No contract speaks of it.
+    cut_off: Link,
 }
 
 impl Model for Items {
@@ -44,6 +49,7 @@ pub(crate) struct Tail<'a> {
     chain: &'a Chain,
     len: usize,
     changes: usize,
+    cut_off: &'a Link,
 }
 
 impl<'a> Model for Tail<'a> {
@@ -68,10 +74,18 @@ impl Items {
     pub(crate) fn empty() -> Items
         ensures { result ≡ [] }
     {
+        Items::empty_keeping(Link::End)
+    }
+
+    /// The list without items that still keeps these, which were cut off.
+    fn empty_keeping(cut_off: Link) -> Items
+        ensures { result ≡ [] }
+    {
         Items {
             chain: Chain::empty(),
             len: 0,
             changes: 0,
+            cut_off,
         }
     }
 
@@ -89,6 +103,7 @@ impl Items {
             chain: self.chain.with_shared(alloc, item)?,
             len,
             changes,
+            cut_off: self.cut_off,
         })
     }
 
@@ -102,25 +117,26 @@ impl Items {
             chain: self.chain,
             len,
             changes,
+            cut_off: self.cut_off,
         }
     }
 
     /// The same list, which gets a chain of its own where more than `MOST_CUT` items of its chain are cut off for each item that it has.
-    /// So at most `MOST_CUT` items that were cut off stay in memory for each item of the list, and each link that is made anew stands for
-    /// more than `MOST_CUT` items that were cut off. `Err`: out of memory.
+    /// So at most `MOST_CUT` items of its chain are cut off for each item of the list, and each link that is made anew stands for more
+    /// than `MOST_CUT` items that were cut off. Beside its chain the list keeps what is left of those that were cut off when it got it.
+    /// `Err`: out of memory.
     pub(crate) fn compact(self, alloc: Global) -> Result<Items, AllocError>
         ensures { IfOk result (λ same. same ≡ self) }
     {
         if self.chain.len() - self.len <= self.len.saturating_mul(MOST_CUT) {
             return Ok(self);
         }
-        let items = self.shared_items(alloc)?;
-        with_all(alloc, items, Items::empty())
+        self.compacted(alloc)
     }
 
-    /// The items, without a copy of them. `Err`: out of memory.
-    fn shared_items(&self, alloc: Global) -> Result<Vec<SharedItem>, AllocError>
-        ensures { IfOk result (λ items. items.items ≡ self.now) }
+    /// The same list on a chain of its own. `Err`: out of memory.
+    fn compacted(&self, alloc: Global) -> Result<Items, AllocError>
+        ensures { IfOk result (λ same. same ≡ self.now) }
     {
         let mut items = Vec::with_capacity(alloc, self.len())?;
         let mut rest = self.tail();
@@ -128,7 +144,7 @@ impl Items {
             items.push(item.share()?)?;
             rest = older;
         }
-        Ok(items)
+        with_all(alloc, items, Items::empty_keeping(rest.chain.link()?))
     }
 
     /// All items, lent.
@@ -139,6 +155,7 @@ impl Items {
             chain: &self.chain,
             len: self.len,
             changes: self.changes,
+            cut_off: &self.cut_off,
         }
     }
 
@@ -169,6 +186,14 @@ impl Items {
     {
         self.changes
     }
+
+    /// Whether no row of Selects of the chain is longer than it may be, so that none of these items is.
+    #[inline(always)]
+    pub(crate) fn rows_fit(&self) -> bool
+        ensures { IsTrue result → rows_fit self.now ≡ true }
+    {
+        self.tail().rows_fit()
+    }
 }
 
 impl<'a> Tail<'a> {
@@ -190,22 +215,26 @@ impl<'a> Tail<'a> {
                         chain: older,
                         len: self.len - 1,
                         changes,
+                        cut_off: self.cut_off,
                     },
                 ))
             }
         }
     }
 
-    /// These items as a list, without a copy of them. `Err`: no further owner can be counted.
+    /// These items as a list, without a copy of them. The newest of what is left of the items that were cut off isn't kept. `Err`: no
+    /// further owner can be counted.
     #[inline(always)]
     pub(crate) fn share(&self) -> Result<Items, AllocError>
         ensures { IfOk result (λ same. same ≡ self.now) }
     {
         let chain = self.chain;
+        let cut_off = self.cut_off;
         Ok(Items {
             chain: chain.share()?,
             len: self.len,
             changes: self.changes,
+            cut_off: cut_off.without_first()?,
         })
     }
 

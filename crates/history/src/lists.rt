@@ -81,8 +81,8 @@ impl Lists {
         ensures history { IfOk result (λ kept. (len : ℕ) → LeadOn len self.done → LeadOn len self.undone → IsHistory kept) }
     {
         let kept = keep_changes(alloc, kept_count(depth), self.done)?;
-        let done = keep_selects(alloc, &kept)?;
-        let undone = keep_selects(alloc, &self.undone)?;
+        let done = keep_selects(alloc, kept)?;
+        let undone = keep_selects(alloc, self.undone)?;
         let group = group_if(done.begins_with_change(), self.group);
         Ok(Lists {
             done,

@@ -74,7 +74,7 @@ impl SelectItem {
         Ok(SelectItem {
             selection: self.selection.map(over)?,
             time: self.time,
-            user_event: copied_event(&self.user_event)?,
+            user_event: copied_event(self.user_event.as_ref())?,
         })
     }
 }

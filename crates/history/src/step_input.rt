@@ -1,4 +1,4 @@
-ghost use Rattle.std.specs.Prelude.{IfOk, is_some, length, ◌≡◌, ◌||◌};
+ghost use Rattle.std.specs.Prelude.{IfOk, is_some, length, option_copied, ◌≡◌, ◌||◌};
 ghost use Rattle.change_desc.specs.Sections.{old_size};
 ghost use Rattle.history.specs.Joining.{is_joinable, is_near, is_soon, is_within};
 ghost use Rattle.history.specs.Selecting.{are_close, are_selecting, goes_elsewhere, is_false, left_select, makes_select, select_joins};
@@ -15,6 +15,7 @@ use line_tree::Text;
 use listed::Listed;
 use selection::Selection;
 use std::alloc::{AllocError, Global};
+use std::marker::Model;
 
 /// The user event of typed text, that of a deletion, and that of a selection (Reference Manual, Transaction.userEvent).
 const INPUT_TYPE: [char; 10] = ['i', 'n', 'p', 'u', 't', '.', 't', 'y', 'p', 'e'];
@@ -23,19 +24,20 @@ const DELETION: [char; 6] = ['d', 'e', 'l', 'e', 't', 'e'];
 
 const SELECTING: [char; 6] = ['s', 'e', 'l', 'e', 'c', 't'];
 
-/// A step of a document, as its history sees it (Reference Manual, Transaction). Times are in milliseconds.
+/// A step of a document, as its history sees it (Reference Manual, Transaction), lent. Times are in milliseconds. Contracts see
+/// what it lends.
 #[derive(Drop)]
-pub struct StepInput {
+pub struct StepInput<'a> {
     /// The changes of the start document.
-    pub changes: ChangeSet,
+    pub changes: &'a ChangeSet,
     /// What undoes the effects of the step, in the start document.
-    pub effects: Listed<KeptEffect>,
+    pub effects: &'a [KeptEffect],
     /// The start document.
-    pub document: Text,
+    pub document: &'a Text,
     /// The selection in the start document.
-    pub selection: Selection,
+    pub selection: &'a Selection,
     /// The selection in the new document, if the step gives one.
-    pub given: Option<Selection>,
+    pub given: Option<&'a Selection>,
     /// How many Changes that can be undone are kept (HistoryConfig.minDepth); 0 or less keeps none.
     pub min_depth: i64,
     /// A change joins a group whose last change is less than this time ago (HistoryConfig.newGroupDelay); where it is 0 or
@@ -44,7 +46,7 @@ pub struct StepInput {
     /// The time of the step (Transaction.time).
     pub time: Option<i64>,
     /// The user event (Transaction.userEvent).
-    pub user_event: Option<Str>,
+    pub user_event: Option<&'a Str>,
     /// Whether the step is to be recorded (Transaction.addToHistory); it is where nothing is said.
     pub add_to_history: Option<bool>,
     /// Where the group of the changes is closed (isolateHistory).
@@ -54,6 +56,32 @@ pub struct StepInput {
     pub from_history: Option<i64>,
 }
 
+impl<'a> Model for StepInput<'a> {
+    ghost use Rattle.std.specs.Prelude.{option_copied};
+    ghost use Rattle.std.specs.Coded.{codes};
+    ghost use Rattle.cm_plain.specs.Datum.{coded_datum};
+    ghost use Rattle.history.specs.Inputs.{StepView};
+
+    ghost Value = { StepView };
+
+    ghost coded = { Prim.hlevel (codes, coded_datum) };
+
+    ghost view = { λ i. record {
+      changes = i.changes.now;
+      effects = i.effects.now;
+      document = i.document.now;
+      selection = i.selection.now;
+      given = option_copied i.given;
+      min_depth = i.min_depth;
+      delay = i.delay;
+      time = i.time;
+      user_event = option_copied i.user_event;
+      add_to_history = i.add_to_history;
+      isolate = i.isolate;
+      from_history = i.from_history;
+    } };
+}
+
 /// Whether a time lies less than the delay, which is over 0, after the last one.
 fn is_within(last: i64, now: i64, delay: i64) -> bool
     ensures { result ≡ is_within last now delay }
@@ -61,7 +89,7 @@ fn is_within(last: i64, now: i64, delay: i64) -> bool
     delay > 0 && i128::from(now) - i128::from(last) < i128::from(delay)
 }
 
-impl StepInput {
+impl<'a> StepInput<'a> {
     /// Whether it says that it comes from the history, by this number.
     pub(crate) fn is_from(&self, number: i64) -> bool
         ensures { result ≡ is_from number self.now.from_history }
@@ -76,7 +104,7 @@ impl StepInput {
     fn is_idle(&self) -> bool
         ensures { result ≡ is_idle_step self.now }
     {
-        self.changes.is_empty() && self.effects.as_slice().is_empty()
+        self.changes.is_empty() && self.effects.is_empty()
     }
 
     /// Whether it goes over the newest item of a list, by the list's number, where that is a Select.
@@ -113,7 +141,7 @@ impl StepInput {
     pub(crate) fn is_joinable(&self) -> bool
         ensures { result ≡ is_joinable self.now.user_event }
     {
-        match &self.user_event {
+        match self.user_event {
             None => true,
             Some(event) => { event.is_below(&INPUT_TYPE) || event.is_below(&DELETION) }
         }
@@ -136,8 +164,8 @@ impl StepInput {
         ensures { IfOk result (λ change. change ≡ way_back self.now) }
     {
         Ok(ChangeItem {
-            changes: self.changes.invert(&self.document)?,
-            effects: copied(alloc, self.effects.as_slice())?,
+            changes: self.changes.invert(self.document)?,
+            effects: copied(alloc, self.effects)?,
             selection: self.selection.try_copy()?,
         })
     }
@@ -160,7 +188,7 @@ impl StepInput {
         Ok(SelectItem {
             selection: self.selection.try_copy()?,
             time: self.time,
-            user_event: copied_event(&self.user_event)?,
+            user_event: copied_event(self.user_event)?,
         })
     }
 
@@ -168,7 +196,7 @@ impl StepInput {
     fn goes_elsewhere(&self) -> bool
         ensures { result ≡ goes_elsewhere self.now }
     {
-        match &self.given {
+        match self.given {
             None => false,
             Some(given) => !self.selection.same(given),
         }
@@ -185,7 +213,7 @@ impl StepInput {
     pub(crate) fn select_joins(&self, select: &SelectItem) -> bool
         ensures { result ≡ select_joins select.now self.now }
     {
-        are_selecting(&select.user_event, &self.user_event)
+        are_selecting(select.user_event.as_ref(), self.user_event)
             && are_close(select.time, self.time, self.delay)
             && select.selection.ranges().len() == self.selection.ranges().len()
     }
@@ -212,8 +240,8 @@ fn is_false(said: Option<bool>) -> bool
 }
 
 /// Whether both events are the same, `select` or below it.
-fn are_selecting(first: &Option<Str>, second: &Option<Str>) -> bool
-    ensures { result ≡ are_selecting first.now second.now }
+fn are_selecting(first: Option<&Str>, second: Option<&Str>) -> bool
+    ensures { result ≡ are_selecting (option_copied first.entry) (option_copied second.entry) }
 {
     match (first, second) {
         (Some(a), Some(b)) => a.chars() == b.chars() && a.is_below(&SELECTING),
@@ -247,8 +275,8 @@ pub(crate) fn copied(
 }
 
 /// The same event once more, if there is one.
-pub(crate) fn copied_event(event: &Option<Str>) -> Result<Option<Str>, AllocError>
-    ensures { IfOk result (λ copy. copy ≡ event.now) }
+pub(crate) fn copied_event(event: Option<&Str>) -> Result<Option<Str>, AllocError>
+    ensures { IfOk result (λ copy. copy ≡ option_copied event.entry) }
 {
     match event {
         None => Ok(None),

@@ -335,6 +335,147 @@ fn many_steps_are_undone(rt: HostRuntime) -> Result<(), Fail> {
     Ok(())
 }
 
+/// A document of one character into which so many were put at the start, each a group, where so many Changes are kept; with the
+/// time of the next step.
+fn grouped(alloc: Global, count: u32, depth: i64) -> Result<(Scene, i64), Fail> {
+    let mut scene = played(alloc, &['x'], &[])?;
+    let mut time: i64 = 0;
+    for _ in 0..count {
+        scene = acted(
+            alloc,
+            &scene,
+            Act::Insert(0, 'a'),
+            Twist::Depth(depth),
+            time,
+        )?;
+        time = time.saturating_add(1000);
+    }
+    Ok((scene, time))
+}
+
+/// The scene after so many undos, where three Changes are kept.
+fn undone(alloc: Global, scene: Scene, count: u32, time: i64) -> Result<Scene, Fail> {
+    let mut scene = scene;
+    for _ in 0..count {
+        scene = acted(alloc, &scene, Act::Undo, Twist::Depth(3), time)?;
+    }
+    Ok(scene)
+}
+
+/// The numbers of Changes and of characters after so many groups of which three are kept, two characters that make one group, and
+/// so many undos.
+fn joined_after(alloc: Global, count: u32, undos: u32) -> Result<((usize, usize), u32), Fail> {
+    let three = Twist::Depth(3);
+    let (scene, time) = grouped(alloc, count, 3)?;
+    let scene = acted(alloc, &scene, Act::Insert(0, 'b'), three, time)?;
+    let scene = acted(alloc, &scene, Act::Insert(0, 'c'), three, time)?;
+    let scene = undone(alloc, scene, undos, time)?;
+    Ok((scene.history.depth(), scene.document.len()))
+}
+
+#[test]
+fn a_change_joins_the_newest_of_a_cut_list(rt: HostRuntime) -> Result<(), Fail> {
+    for count in 3..40 {
+        assert!(rt;
+            joined_after(rt.alloc(), count, 1)? == ((2, 1), count + 1),
+            "{count}"
+        );
+        assert!(rt;
+            joined_after(rt.alloc(), count, 4)? == ((0, 3), count - 1),
+            "{count}"
+        );
+    }
+    Ok(())
+}
+
+/// The numbers of Changes and of characters after so many groups of which three are kept, a character that is not recorded, and an
+/// undo.
+fn unrecorded_after(alloc: Global, count: u32) -> Result<((usize, usize), u32), Fail> {
+    let (scene, time) = grouped(alloc, count, 3)?;
+    let scene = acted(alloc, &scene, Act::Insert(0, 'u'), Twist::Unrecorded, time)?;
+    let scene = undone(alloc, scene, 1, time)?;
+    Ok((scene.history.depth(), scene.document.len()))
+}
+
+#[test]
+fn a_cut_list_is_moved_over_what_is_not_recorded(rt: HostRuntime) -> Result<(), Fail> {
+    for count in 3..40 {
+        assert!(rt;
+            unrecorded_after(rt.alloc(), count)? == ((2, 1), count + 1),
+            "{count}"
+        );
+    }
+    Ok(())
+}
+
+/// The numbers of items after so many groups of which so many are kept and a step that keeps none, and those of Changes after two
+/// more groups and an undo.
+fn begun_again(
+    alloc: Global,
+    count: u32,
+    depth: i64,
+) -> Result<((usize, usize), (usize, usize)), Fail> {
+    let (scene, time) = grouped(alloc, count, depth)?;
+    let none = acted(alloc, &scene, Act::Nothing, Twist::Depth(0), time)?;
+    let items = none.history.items();
+    let three = Twist::Depth(3);
+    let scene = acted(alloc, &none, Act::Insert(0, 'b'), three, time)?;
+    let time = time.saturating_add(1000);
+    let scene = acted(alloc, &scene, Act::Insert(0, 'c'), three, time)?;
+    let scene = undone(alloc, scene, 1, time)?;
+    Ok((items, scene.history.depth()))
+}
+
+#[test]
+fn a_list_is_cut_off_whole_and_begun_again(rt: HostRuntime) -> Result<(), Fail> {
+    for (count, depth) in &[(2_000, 1_000_000), (60, 10), (51, 10), (52, 10)] {
+        assert!(rt;
+            begun_again(rt.alloc(), *count, *depth)? == ((0, 0), (1, 1)),
+            "{count}, {depth}"
+        );
+    }
+    Ok(())
+}
+
+/// The numbers of items after so many groups of which three are kept and so many selections, each another one than the last, and
+/// after the newest of these is undone.
+fn selected_after(
+    alloc: Global,
+    count: u32,
+    selections: u32,
+) -> Result<((usize, usize), (usize, usize)), Fail> {
+    let three = Twist::Depth(3);
+    let (mut scene, time) = grouped(alloc, count, 3)?;
+    for number in 0..selections {
+        let act = if number % 2 == 0 {
+            Act::Select(0, 1)
+        } else {
+            Act::Select(1, 0)
+        };
+        scene = acted(alloc, &scene, act, three, time)?;
+    }
+    let before = acted(alloc, &scene, Act::UndoSelection, three, time)?;
+    Ok((scene.history.items(), before.history.items()))
+}
+
+#[test]
+fn the_oldest_of_many_selections_go(rt: HostRuntime) -> Result<(), Fail> {
+    for (count, selections, items) in &[
+        (0, 200, 200),
+        (0, 201, 200),
+        (0, 203, 200),
+        (1, 200, 201),
+        (1, 201, 201),
+        (20, 202, 203),
+    ] {
+        assert!(rt;
+            selected_after(rt.alloc(), *count, *selections)? == ((*items, 0), (*items - 1, 1)),
+            "{count}, {selections}"
+        );
+    }
+    Ok(())
+}
+
 /// Five characters that are typed with a selection after each but the last, and then an act four times, where two Changes are
 /// kept.
 fn typed_and(act: Act) -> [(Act, Twist); 13] {

@@ -1,6 +1,7 @@
 use crate::acts::{Act, Step, Twist, step_of, text};
+use change_set::ChangeSet;
 use cm_plain::{KeptEffect, KeptMap, Plain, Str};
-use history::{History, StepInput};
+use history::{History, Isolation, StepInput};
 use line_tree::{MAX_LEN, Text};
 use listed::Listed;
 use selection::{Selection, first_outside};
@@ -52,12 +53,29 @@ fn start_of(alloc: Global, scene: &Scene) -> Result<StartState, AllocError> {
     })
 }
 
+/// The input of a step, owned.
+#[derive(Drop)]
+struct Input {
+    changes: ChangeSet,
+    effects: Listed<KeptEffect>,
+    document: Text,
+    selection: Selection,
+    given: Option<Selection>,
+    min_depth: i64,
+    delay: i64,
+    time: Option<i64>,
+    user_event: Option<Str>,
+    add_to_history: Option<bool>,
+    isolate: Option<Isolation>,
+    from_history: Option<i64>,
+}
+
 /// The input of a step at a time, with all else as by default.
-fn input_of(alloc: Global, scene: &Scene, step: Step, time: i64) -> Result<StepInput, AllocError> {
+fn input_of(alloc: Global, scene: &Scene, step: Step, time: i64) -> Result<Input, AllocError> {
     let effects = telling(alloc, step.told)?;
     let given = single(alloc, step.given)?;
     let start = start_of(alloc, scene)?;
-    Ok(StepInput {
+    Ok(Input {
         changes: step.changes,
         effects,
         document: start.document,
@@ -73,7 +91,7 @@ fn input_of(alloc: Global, scene: &Scene, step: Step, time: i64) -> Result<StepI
     })
 }
 
-fn apply_twist(alloc: Global, input: &mut StepInput, twist: Twist) -> Result<(), AllocError> {
+fn apply_twist(alloc: Global, input: &mut Input, twist: Twist) -> Result<(), AllocError> {
     match twist {
         Twist::None => {}
         Twist::Unrecorded => input.add_to_history = Some(false),
@@ -91,7 +109,7 @@ fn apply_twist(alloc: Global, input: &mut StepInput, twist: Twist) -> Result<(),
 /// An act as the input of a step, with the selection that it leaves and the number that it tells.
 #[derive(Drop)]
 struct Request {
-    input: StepInput,
+    input: Input,
     selected: (u32, u32),
     told: Option<i64>,
 }
@@ -119,8 +137,22 @@ fn after(history: &History, request: &Request) -> Result<Scene, Fail> {
     {
         return Err("a step of the document".into());
     }
+    let lent = StepInput {
+        changes: &input.changes,
+        effects: input.effects.as_slice(),
+        document: &input.document,
+        selection: &input.selection,
+        given: input.given.as_ref(),
+        min_depth: input.min_depth,
+        delay: input.delay,
+        time: input.time,
+        user_event: input.user_event.as_ref(),
+        add_to_history: input.add_to_history,
+        isolate: input.isolate,
+        from_history: input.from_history,
+    };
     Ok(Scene {
-        history: history.step(input)?,
+        history: history.step(&lent)?,
         document: input.changes.apply(&input.document)?,
         selected: request.selected,
         told: request.told,

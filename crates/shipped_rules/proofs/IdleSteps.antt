@@ -10,7 +10,7 @@ use Rattle.history.specs.declared.group.Group.TheVariants.{Closed}
 use Rattle.history.specs.declared.item.Item.{Item}
 use Rattle.history.specs.declared.item.Item.TheVariants.{Change, Select}
 use Rattle.history.specs.declared.lists.Lists.{Lists}
-use Rattle.history.specs.declared.step_input.StepInput.{StepInput}
+use Rattle.history.specs.Inputs.{StepView}
 use Rattle.history.specs.Histories.{empty, leads_from}
 use Rattle.history.specs.Items.{begins_with_change, begins_with_select, change_count, is_change, keep_changes, keep_selects, most_selects}
 use Rattle.history.specs.Selecting.{is_false, same_selection, with_left}
@@ -22,7 +22,7 @@ use Rattle.values.specs.Views.{TransactionView}
 use Rattle.shipped_rules.specs.Stepping.{HasNothingForHistory}
 
 -- the case of a step that says this of where it comes from, and is idle or not
-abbrev case_from : Lists → StepInput → Option ℤ → Bool → Case
+abbrev case_from : Lists → StepView → Option ℤ → Bool → Case
 case_from h i from idle =
     cond (is_from (pos 0) from && is_newest i.changes h.done) Undo
     (cond (is_from (pos 1) from && is_newest i.changes h.undone) Redo
@@ -31,13 +31,13 @@ case_from h i from idle =
     (cond idle Unchanged (cond (is_some from || is_false i.add_to_history) Unrecorded Recorded)))))
 
 -- a step of no changes and no effects, which doesn't come from the history
-idle_case : (h : Lists) (i : StepInput) → changes_nothing i.changes ≡ true → i.effects ≡ [] → i.from_history ≡ None → case_of h i ≡ Unchanged
+idle_case : (h : Lists) (i : StepView) → changes_nothing i.changes ≡ true → i.effects ≡ [] → i.from_history ≡ None → case_of h i ≡ Unchanged
 idle_case h i c e f =
     ap (λ from. case_from h i from (is_idle_step i)) f
     ∙ ap (case_from h i None) (ap (λ b. b && length i.effects == 0) c ∙ ap (λ effects. length effects == 0) e)
 
 -- what a step makes of the lists that gives this selection
-abbrev with_given : Lists → StepInput → Option SelectionView → Lists
+abbrev with_given : Lists → StepView → Option SelectionView → Lists
 with_given h i given =
     record {
       done = cond (option_map_or (λ s. not (same_selection i.selection s)) given false && not (is_false i.add_to_history) && is_none i.from_history) (with_left i h.done) h.done;
@@ -45,7 +45,7 @@ with_given h i given =
       group = cond (is_none given) h.group Closed;
     }
 
-idle_step : (h : Lists) (i : StepInput) → changes_nothing i.changes ≡ true → i.effects ≡ [] → i.given ≡ None → i.from_history ≡ None →
+idle_step : (h : Lists) (i : StepView) → changes_nothing i.changes ≡ true → i.effects ≡ [] → i.given ≡ None → i.from_history ≡ None →
     leads_from (length i.document.characters) h ≡ true → cut_to i.min_depth h ≡ h → step h i ≡ h
 idle_step h i c e g f l k =
     ap (λ s. cut_to i.min_depth (in_case (case_of s i) s i)) (ap (λ b. cond b h empty) l)

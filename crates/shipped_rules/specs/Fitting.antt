@@ -34,7 +34,7 @@ use Rattle.values.specs.Updating.{update, update_shape, last_or, plain_values, n
 use Rattle.values.specs.Computing.{compute, compute_output, number_read, length_or_zero, head_of}
 use Rattle.values.specs.ListComputing.{compute_list, list_output, line_lengths, first_items}
 use Rattle.change_desc.specs.Ranges.{changes_nothing}
-use Rattle.history.specs.declared.step_input.StepInput.{StepInput}
+use Rattle.history.specs.Inputs.{StepView}
 
 -- each list is one of any items
 hold-any : (ds : List Datum) → hold (data_of ds) any ≡ true
@@ -259,7 +259,7 @@ counted-fits : (b : Bool) (old : Val) (z : ℤ) → Fits any_int old → Fits an
 counted-fits true old z h = h
 counted-fits false old z h = plus-int z (pos 1)
 
-stepped-fits : (old : Val) (input : StepInput) → Fits history old → Fits history (stepped old input)
+stepped-fits : (old : Val) (input : StepView) → Fits history old → Fits history (stepped old input)
 stepped-fits (History h) input k = refl
 stepped-fits (Plain p) input k = k
 stepped-fits (Ranges r) input k = k

@@ -24,7 +24,7 @@ use Rattle.decoration.specs.Places.{is_line_start}
 use Rattle.decoration.specs.Sides.{deco_rules}
 use Rattle.decoration.proofs.LineStarts.{no_line_start}
 use Rattle.transaction.specs.Numbers.{IsNumber}
-use Rattle.history.specs.declared.step_input.StepInput.{StepInput}
+use Rattle.history.specs.Inputs.{StepView}
 use Rattle.values.specs.declared.val.Val.{Val}
 use Rattle.values.specs.declared.val.Val.TheVariants.{Plain, Ranges, Layers, History}
 use Rattle.values.specs.declared.shown_effect.ShownEffect.{ShownEffect}
@@ -314,7 +314,7 @@ line_of-range (Some cs) l e = at (option_and_then place_in (number_in e.value))
     at None = tt
     at (Some place) = bold-range cs place l (is_line_start cs place) refl
 
-stepped-range : (old : Val) (input : StepInput) → IsInRange old → IsInRange (stepped old input)
+stepped-range : (old : Val) (input : StepView) → IsInRange old → IsInRange (stepped old input)
 stepped-range (History h) input k = refl
 stepped-range (Plain p) input k = k
 stepped-range (Ranges r) input k = k

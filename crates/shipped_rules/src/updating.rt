@@ -30,7 +30,7 @@ pub fn update(
         3 => last_effect(alloc, old, view),
         4 => marks(alloc, old, view),
         5 => marked_lines(alloc, old, view),
-        6 => next_history(alloc, old, view),
+        6 => next_history(old, view),
         7 => collected(alloc, old, view),
         8 => Ok(Some(first_plain(alloc, &view.deps)?)),
         _ => Ok(Some(first_plain(alloc, &view.deps)?)),

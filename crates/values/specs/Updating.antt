@@ -27,7 +27,7 @@ use Rattle.transaction.specs.Annotations.{annotation_of}
 use Rattle.history.specs.declared.isolation.Isolation.{Isolation}
 use Rattle.history.specs.declared.isolation.Isolation.TheVariants.{Before, After, Full}
 use Rattle.history.specs.declared.lists.Lists.{Lists}
-use Rattle.history.specs.declared.step_input.StepInput.{StepInput}
+use Rattle.history.specs.Inputs.{StepView}
 use Rattle.history.specs.Steps.{step}
 use Rattle.values.specs.declared.shown_effect.ShownEffect.{ShownEffect}
 use Rattle.values.specs.declared.val.Val.{Val}
@@ -149,7 +149,7 @@ abbrev pub history_bounds : DepsView → ℤ × ℤ
 history_bounds deps = unwrap_or (option_and_then pair_in (first_read deps)) (pos 100, pos 500)
 
 -- what a history is told of a transaction
-abbrev pub history_input : TransactionView → ℤ × ℤ → StepInput
+abbrev pub history_input : TransactionView → ℤ × ℤ → StepView
 history_input t bounds =
     record {
       changes = t.changes;
@@ -166,7 +166,7 @@ history_input t bounds =
       from_history = number_note (codes "fromHistory") t;
     }
 
-abbrev pub stepped : Val → StepInput → Val
+abbrev pub stepped : Val → StepView → Val
 stepped (History h) input = History (step h input)
 stepped old input = old
 

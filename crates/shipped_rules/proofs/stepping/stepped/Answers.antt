@@ -1,6 +1,6 @@
-use Rattle.std.proofs.Common.{◌≡◌, ◌∙◌, Result, Ok, Err, IfOk, ap, length, arith}
+use Rattle.std.proofs.Common.{◌∙◌, Result, Ok, Err, IfOk, ap, length, arith}
 use Rattle.change_set.proofs.Sizes.{length-apply}
-use Rattle.history.specs.declared.step_input.StepInput.{StepInput}
+use Rattle.history.specs.Inputs.{StepView}
 use Rattle.history.specs.Steps.{step}
 use Rattle.values.specs.Updating.{history_input}
 use Rattle.shipped_rules.specs.Stepping.{step-input}
@@ -13,7 +13,7 @@ if_ok (Err e) P Q f h = tt
 pub step-requires-clause-new_short : goal.step-requires-clause-new_short
 step-requires-clause-new_short c =
     let k = c.known.ensures in
-    rw (ap (λ (i : StepInput). i.changes) c.in_ok-input.ensures.same) (omega (arith, length-apply c.args.view.now.transaction.changes c.args.view.now.transaction.start k.starts, ap length k.document, k.new_short))
+    rw (ap (λ (i : StepView). i.changes) c.history_input-input.ensures.same) (omega (arith, length-apply c.args.view.now.transaction.changes c.args.view.now.transaction.start k.starts, ap length k.document, k.new_short))
 
 pub returns : goal.returns
-returns c = if_ok c.step.result _ _ (λ next e. e ∙ (step-input c.args.history.now _ _ _ c.in_ok-input.ensures ∙ ap (λ bounds. step c.args.history.now (history_input c.args.view.now.transaction bounds)) c.history_bounds-bounds.ensures)) c.step.ensures.value
+returns c = if_ok c.step.result _ _ (λ next e. e ∙ (step-input c.args.history.now _ _ _ c.history_input-input.ensures ∙ ap (λ bounds. step c.args.history.now (history_input c.args.view.now.transaction bounds)) c.history_bounds-bounds.ensures)) c.step.ensures.value

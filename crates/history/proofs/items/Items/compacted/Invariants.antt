@@ -1,5 +1,5 @@
 use Rattle.std.proofs.Common.{◌≡◌, ◌++◌, length}
-use Rattle.history.proofs.items.Items.shared_items.Given as goal
+use Rattle.history.proofs.items.Items.compacted.Given as goal
 
 abbrev pub invariant-loop-item : goal.invariant-loop-item
 invariant-loop-item l = l.items.items ++ l.rest ≡ l.self

@@ -1,6 +1,6 @@
 use Rattle.std.proofs.Common.{◌≡◌, ◌++◌, length}
 use Rattle.history.specs.Items.{keep_selects, most_selects}
-use Rattle.history.proofs.cut.keep_selects.Given as goal
+use Rattle.history.proofs.cut.cut_rows.Given as goal
 
 abbrev pub invariant-loop-item : goal.invariant-loop-item
 invariant-loop-item l = l.kept.items ++ keep_selects l.room l.rest ≡ keep_selects most_selects l.items
