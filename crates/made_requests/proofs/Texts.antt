@@ -1,5 +1,5 @@
 -- The text that an edit inserts: what is written of it, and that it is read and cut as it stands.
-use Rattle.std.proofs.Common.{◌≡◌, ℕ, zero, suc, ◌+◌, ◌^◌, ◌<◌, List, [], ◌∷◌, ◌++◌, length, map, false, ◌==◌, inl, inr, refl, sym, ap, ap₂, ◌∙◌, subst, arith}
+use Rattle.std.proofs.Common.{◌≡◌, ℕ, zero, suc, ◌+◌, ◌<◌, List, [], ◌∷◌, ◌++◌, map, false, ◌==◌, inl, inr, refl, sym, ap, ap₂, ◌∙◌, subst, arith}
 use Rattle.std.proofs.Math.Bool.{and-false}
 use Rattle.std.proofs.lemmas.Bool.{cases_eq, ne_eqb}
 use Rattle.std.proofs.lemmas.List.FromFn.{map-range_with_len_more}
@@ -12,7 +12,6 @@ use Rattle.json.proofs.Printed.Strings.{escape_byte_plain}
 use Rattle.line_tree.specs.Text.{cut, cut_after}
 use Rattle.workload.specs.Edits.{character, made_text}
 use Rattle.workload.specs.MadeLines.{written, written_text}
-use Rattle.workload.proofs.Texts.{made_size}
 
 written_letter : (ch : ℕ) → 96 < ch → ch < 123 → escape_byte ch ≡ written ch
 written_letter ch low high = escape_byte_plain ch (λ e. omega arith) (λ e. omega arith) (omega arith) ∙ sym (rw (ne_eqb ch 10 (λ e. omega arith)) refl)
@@ -78,6 +77,3 @@ cut_made size c = uncut c (range_with_len 0 size)
 pub made_more : (c index ch : ℕ) (before now : List ℕ) → before ≡ made_text index c → ch ≡ character c index → now ≡ before ++ ch ∷ [] → now ≡ made_text (index + 1) c
 made_more c index ch before now is same next =
     next ∙ ap₂ (λ (xs : List ℕ) (x : ℕ). xs ++ x ∷ []) is same ∙ sym (map-range_with_len_more (character c) 0 index index (omega arith))
-
-pub has_room : (c index size : ℕ) (text : List ℕ) → text ≡ made_text index c → index < size → size < 2 ^ 8 → length text + 1 < 2 ^ 32
-has_room c index size text is more few = omega (arith, ap length is, made_size index c)

@@ -3,6 +3,7 @@ ghost use Rattle.workload.specs.Edits.{character, made_text};
 
 use change_set::InsertedText;
 use line_tree::{Text, TextBuilder};
+use smallvec::SmallVec;
 use std::alloc::{AllocError, Global};
 
 /// The character at an index of a made text.
@@ -20,10 +21,12 @@ fn character(letter: u32, index: u8) -> char
 pub(crate) fn made_text(alloc: Global, size: u8, letter: u32) -> Result<InsertedText, AllocError>
     ensures { IfOk result (λ text. text ≡ made_text size letter) }
 {
-    let mut builder = TextBuilder::new(alloc);
+    let mut chars: SmallVec<char, 8> = SmallVec::new(alloc);
     for index in 0..size {
-        builder.push(character(letter, index))?;
+        chars.push(character(letter, index))?;
     }
+    let mut builder = TextBuilder::new(alloc);
+    builder.push_all(chars.as_slice())?;
     Ok(InsertedText::of(builder.finish()?))
 }
 

@@ -3,4 +3,4 @@ use Rattle.workload.specs.Edits.{made_text}
 use Rattle.made_requests.proofs.inserted.made_text.Given as goal
 
 abbrev pub invariant-loop-index : goal.invariant-loop-index
-invariant-loop-index l = l.builder ≡ made_text l.index l.letter
+invariant-loop-index l = l.chars.items ≡ made_text l.index l.letter
