@@ -2,7 +2,7 @@
 ghost use Rattle.std.specs.Prelude.{◌≡◌, ◌∷◌, []};
 ghost use Rattle.script.specs.Reading.{Gives};
 ghost use Rattle.names.specs.Names.{each_of};
-ghost use Rattle.names.specs.Transacting.{effect_of, spec_of, specs_of, with_effects};
+ghost use Rattle.names.specs.Transacting.{effect_of, spec_of, specs_of};
 
 use crate::finding::{Compartments, Effects, Nodes, all_found, found};
 use crate::names::Names;
@@ -14,25 +14,27 @@ use transaction::{Effect, Spec};
 use values::Val;
 
 /// An effect with ids. `Err`: `UnknownName` of its first name that isn't declared, or is of another sort; or out of memory.
-fn effect_of(alloc: Global, names: &Names, named: &NamedEffect) -> Result<Effect<Val>, LineError>
-    ensures { Gives (λ x. x) result (effect_of names.now named.now) }
+fn effect_of(alloc: Global, names: &Names, named: NamedEffect) -> Result<Effect<Val>, LineError>
+    ensures { Gives (λ x. x) result (effect_of names.now named) }
 {
     match named {
         NamedEffect::Kind { effect, value } => {
-            let id = found::<Effects>(names, effect)?;
-            let value = Val::Plain(value.try_copy(alloc)?);
-            Ok(Effect::Kind { id, value })
+            let id = found::<Effects>(names, &effect)?;
+            Ok(Effect::Kind {
+                id,
+                value: Val::Plain(value),
+            })
         }
         NamedEffect::Reconfigure { compartment, to } => {
-            let compartment = found::<Compartments>(names, compartment)?;
-            let to = found::<Nodes>(names, to)?;
+            let compartment = found::<Compartments>(names, &compartment)?;
+            let to = found::<Nodes>(names, &to)?;
             Ok(Effect::Reconfigure { compartment, to })
         }
         NamedEffect::Root(to) => {
             let nodes = all_found::<Nodes>(alloc, names, to.as_slice())?;
             Ok(Effect::Root(Listed::new(nodes)))
         }
-        NamedEffect::Append(to) => Ok(Effect::Append(found::<Nodes>(names, to)?)),
+        NamedEffect::Append(to) => Ok(Effect::Append(found::<Nodes>(names, &to)?)),
     }
 }
 
@@ -40,30 +42,15 @@ fn effect_of(alloc: Global, names: &Names, named: &NamedEffect) -> Result<Effect
 fn effects_of(
     alloc: Global,
     names: &Names,
-    effects: &[NamedEffect],
+    effects: Listed<NamedEffect>,
 ) -> Result<Vec<Effect<Val>>, LineError>
-    ensures { Gives (λ v. v.items) result (each_of (effect_of names.now) effects.now) }
+    ensures { Gives (λ v. v.items) result (each_of (effect_of names.now) effects) }
 {
-    let mut known = Vec::with_capacity(alloc, effects.len())?;
-    for effect in effects {
+    let mut known = Vec::with_capacity(alloc, effects.as_slice().len())?;
+    for effect in effects.into_vec() {
         known.push(effect_of(alloc, names, effect)?)?;
     }
     Ok(known)
-}
-
-/// A spec with these effects. Takes no memory.
-fn with_effects(request: SpecRequest, effects: Listed<Effect<Val>>) -> Spec<Val>
-    ensures { result ≡ with_effects request effects }
-{
-    Spec {
-        changes: request.changes,
-        selection: request.selection,
-        effects,
-        annotations: request.annotations,
-        user_event: request.user_event,
-        sequential: request.sequential,
-        filter: request.filter,
-    }
 }
 
 /// A spec with ids. `Err`: that of its first effect that is refused; or out of memory.
@@ -71,8 +58,25 @@ fn with_effects(request: SpecRequest, effects: Listed<Effect<Val>>) -> Spec<Val>
 fn spec_of(alloc: Global, names: &Names, request: SpecRequest) -> Result<Spec<Val>, LineError>
     ensures { Gives (λ x. x) result (spec_of names.now request) }
 {
-    let effects = effects_of(alloc, names, request.effects.as_slice())?;
-    Ok(with_effects(request, Listed::new(effects)))
+    let SpecRequest {
+        changes,
+        selection,
+        effects,
+        annotations,
+        user_event,
+        sequential,
+        filter,
+    } = request;
+    let effects = effects_of(alloc, names, effects)?;
+    Ok(Spec {
+        changes,
+        selection,
+        effects: Listed::new(effects),
+        annotations,
+        user_event,
+        sequential,
+        filter,
+    })
 }
 
 /// The specs of a transaction, in order, with ids in place of names; a plain value stays as it is, and so does the rest of a
